@@ -1,0 +1,42 @@
+-- The laws of the two axes in use, days and microseconds, and how they meet. Assumes nothing.
+use mathlib.Core.Path.{_≡_}
+use Prim.Native.Nat.{ℕ, _/_, _%_, _≤_, _<_}
+use lib.Dec.{leb, lit<}
+use lib.IntN.{ℤ}
+use lib.Signed.{leZ}
+use Rattle.axis.specs.Meaning.{placeOfDay, dayAt, placeOfMicros, microsAt, floorZ, modZ}
+use Rattle.axis.specs.Diff.{sub-floor, sub-mod, sub-le-same, sub-inj-same}
+use Rattle.axis.specs.Shift as F
+
+-- ---- days
+pub place-day : (m : ℕ) → m ≤ 100000 → placeOfDay (dayAt m) ≡ m
+place-day m h = F.place-of 40000 100000 m h
+
+pub day-place : (d : ℤ) → 0 < placeOfDay d → placeOfDay d < 100000 → dayAt (placeOfDay d) ≡ d
+day-place d h k = F.number-at 40000 100000 d h k
+
+pub day-from : (f : ℕ) (d : ℤ) → 0 < f → f ≤ 100000 → leZ (dayAt f) d ≡ leb f (placeOfDay d)
+day-from f d h k = F.from-le 40000 100000 f d h k
+
+pub day-to : (l : ℕ) (d : ℤ) → l < 100000 → leZ d (dayAt l) ≡ leb (placeOfDay d) l
+day-to l d h = F.to-le 40000 100000 l d h
+
+pub day-le : (a b : ℕ) → leZ (dayAt a) (dayAt b) ≡ leb a b
+day-le a b = sub-le-same 40000 a b
+
+pub day-inj : (a b : ℕ) → dayAt a ≡ dayAt b → a ≡ b
+day-inj a b e = sub-inj-same 40000 a b e
+
+-- ---- microseconds since day 0
+pub place-micros : (m : ℕ) → m ≤ 8640000000000000 → placeOfMicros (microsAt m) ≡ m
+place-micros m h = F.place-of 3456000000000000 8640000000000000 m h
+
+pub micros-place : (n : ℤ) → 0 < placeOfMicros n → placeOfMicros n < 8640000000000000 → microsAt (placeOfMicros n) ≡ n
+micros-place n h k = F.number-at 3456000000000000 8640000000000000 n h k
+
+-- the day and the microsecond of day of a count, read off its place
+pub micros-day : (m : ℕ) → floorZ (microsAt m) 86400000000 ≡ dayAt (m / 86400000000)
+micros-day m = sub-floor m 40000 86400000000 (lit< tt)
+
+pub micros-left : (m : ℕ) → modZ (microsAt m) 86400000000 ≡ m % 86400000000
+micros-left m = sub-mod m 40000 86400000000 (lit< tt)

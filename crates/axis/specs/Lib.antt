@@ -1,0 +1,4 @@
+pub mod Meaning
+pub mod Diff
+pub mod Shift
+pub mod Axis

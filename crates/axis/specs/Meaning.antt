@@ -1,0 +1,36 @@
+-- The one axis of the product: a day, or a microsecond since day 0, as a natural number. Days -40000 to 60000 stand at
+-- places 0 to 100000, and every span lies well within; what lies outside stands at the nearer end. Assumes nothing.
+use Prim.Native.Nat.{ℕ, suc, _+_, _-_, _/_, _%_, min}
+use lib.IntN.{ℤ, pos, negsuc, subℕ}
+
+-- the place of z on an axis that begins at -b and ends at t - b: z + b, held between 0 and t
+abbrev pub place : ℕ → ℕ → ℤ → ℕ
+place b t (pos n) = min (n + b) t
+place b t (negsuc n) = min (b - suc n) t
+
+-- days from 1 January 2000
+abbrev pub placeOfDay : ℤ → ℕ
+placeOfDay d = place 40000 100000 d
+
+abbrev pub dayAt : ℕ → ℤ
+dayAt m = subℕ m 40000
+
+-- microseconds since day 0, every day having 86,400 s
+abbrev pub placeOfMicros : ℤ → ℕ
+placeOfMicros n = place 3456000000000000 8640000000000000 n
+
+abbrev pub microsAt : ℕ → ℤ
+microsAt m = subℕ m 3456000000000000
+
+-- the same, held to the axis: all that 64 bits can say of a place has an answer
+abbrev pub heldMicrosAt : ℕ → ℤ
+heldMicrosAt m = microsAt (min m 8640000000000000)
+
+-- the quotient rounded down (towards the past) by a natural m > 0, and what is left over
+abbrev pub floorZ : ℤ → ℕ → ℤ
+floorZ (pos a) m = pos (a / m)
+floorZ (negsuc a) m = negsuc (a / m)
+
+abbrev pub modZ : ℤ → ℕ → ℕ
+modZ (pos a) m = a % m
+modZ (negsuc a) m = m - suc (a % m)

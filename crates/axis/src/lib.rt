@@ -1,0 +1,47 @@
+// The one axis: signed days, and signed microseconds since day 0, as naturals and back.
+// Only these four functions meet a signed number; all other code reckons with places.
+ghost use mathlib.Core.Path.{_≡_};
+ghost use Rattle.axis.specs.Meaning.{placeOfDay, dayAt, placeOfMicros, heldMicrosAt};
+
+// The place of a day. One outside the axis stands at its nearer end, outside every span.
+pub fn place_of_day(day: i64) -> u64
+    ensures { λ r. ⌜ r ≡ placeOfDay day ⌝ }
+{
+    if day < -40000 {
+        return 0;
+    }
+    if 60000 < day {
+        return 100000;
+    }
+    (day + 40000) as u64
+}
+
+// The day at a place.
+pub fn day_at(place: u32) -> i64
+    ensures { λ r. ⌜ r ≡ dayAt place ⌝ }
+{
+    (place as i64) - 40000
+}
+
+// The place of a microsecond since day 0, every day having 86,400 s.
+pub fn place_of_micros(micros: i64) -> u64
+    ensures { λ r. ⌜ r ≡ placeOfMicros micros ⌝ }
+{
+    if micros < -3_456_000_000_000_000 {
+        return 0;
+    }
+    if 5_184_000_000_000_000 < micros {
+        return 8_640_000_000_000_000;
+    }
+    (micros + 3_456_000_000_000_000) as u64
+}
+
+// The microsecond since day 0 at a place; a place after the axis stands for its end.
+pub fn micros_at(place: u64) -> i64
+    ensures { λ r. ⌜ r ≡ heldMicrosAt place ⌝ }
+{
+    if 8_640_000_000_000_000 < place {
+        return 5_184_000_000_000_000;
+    }
+    (place as i64) - 3_456_000_000_000_000
+}
