@@ -1,0 +1,4 @@
+-- The definitions that the contracts cite, and their laws.
+pub mod Meaning
+pub mod Field
+pub mod Place
