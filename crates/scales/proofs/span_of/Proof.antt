@@ -1,0 +1,47 @@
+-- `scales::span_of` meets its contract: the constants are those of the paper. Assumes nothing.
+use mathlib.Core.Path.{ap, sym, _∙_}
+use borrow.Author.Needs.{needs}
+use Rattle.scales.specs.Place.{spanOf}
+use Rattle.scales.proofs.span_of.Statement.{statement}
+use Rattle.scales.proofs.span_of.Tie as tie
+
+enum-told : tie.Need-enum-told
+enum-told c = search needs
+
+span-from-requires : tie.Need-span-from-requires
+span-from-requires c κs = search needs
+
+enum-told-2 : tie.Need-enum-told-2
+enum-told-2 c = search needs
+
+span-from-requires-2 : tie.Need-span-from-requires-2
+span-from-requires-2 c κs = search needs
+
+enum-told-3 : tie.Need-enum-told-3
+enum-told-3 c = search needs
+
+span-from-requires-3 : tie.Need-span-from-requires-3
+span-from-requires-3 c κs = search needs
+
+returns : tie.Need-returns
+returns c = c .span-from .ensures ∙ sym (ap spanOf (c .before .enum-told .given .1))
+
+returns-2 : tie.Need-returns-2
+returns-2 c = c .span-from2 .ensures ∙ sym (ap spanOf (c .before .enum-told2 .given .1))
+
+returns-3 : tie.Need-returns-3
+returns-3 c = c .span-from3 .ensures ∙ sym (ap spanOf (c .before .enum-told3 .given .1))
+
+pub span-of-spec : {M : Type 1} → statement M
+span-of-spec =
+    tie.close
+    (tie.spec
+    enum-told
+    span-from-requires
+    enum-told-2
+    span-from-requires-2
+    enum-told-3
+    span-from-requires-3
+    returns
+    returns-2
+    returns-3)

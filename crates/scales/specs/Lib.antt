@@ -1,0 +1,5 @@
+pub mod Meaning
+pub mod Order
+pub mod Place
+pub mod Same
+pub mod Counts

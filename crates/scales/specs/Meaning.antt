@@ -1,0 +1,188 @@
+-- The paper's words: the spans of the scales, the order of the refusals, what an answer hands back and what a refusal hands
+-- back. Days are signed, counted from 1 January 2000. Assumes nothing.
+use mathlib.Core.Bool.{Bool, true, false, _&&_}
+use mathlib.Core.List.{List, [], _∷_}
+use Prim.Native.Nat.{ℕ, _/_, _%_}
+use lib.Dec.{ltb, eqb}
+use lib.IntN.{ℤ, pos, negsuc}
+use lib.Signed.{leZ}
+use Rattle.axis.specs.Meaning.{dayAt}
+use Rattle.scales.specs.declared.Scale.{Scale}
+use Rattle.scales.specs.declared.Scale.the-variants as S
+use Rattle.scales.specs.declared.Refusal.{Refusal}
+use Rattle.scales.specs.declared.Refusal.the-variants as R
+use Rattle.scales.specs.declared.Record.{Record}
+use Rattle.scales.specs.declared.Dated.{Dated}
+use Rattle.scales.specs.declared.Dated.the-variants as D
+use Rattle.scales.specs.declared.DatedTai.{DatedTai}
+use Rattle.scales.specs.declared.DatedTai.the-variants as DT
+use Rattle.scales.specs.declared.DatedUtc.{DatedUtc}
+use Rattle.scales.specs.declared.DatedUtc.the-variants as DU
+use Rattle.scales.specs.declared.DatedGps.{DatedGps}
+use Rattle.scales.specs.declared.DatedGps.the-variants as DG
+use Rattle.scales.specs.declared.Time.{Time}
+use Rattle.scales.specs.declared.Time.the-variants as TM
+use Rattle.scales.specs.declared.Timed.{Timed}
+use Rattle.scales.specs.declared.Timed.the-variants as TD
+
+-- ---- "Each scale has its own first day, last day and microsecond bound, and a record's span means all three"
+abbrev pub first : Scale → ℤ
+first S.Tai = negsuc 10226
+first S.Utc = negsuc 10226
+first S.Gps = negsuc 7299
+
+abbrev pub last : Scale → ℤ
+last S.Tai = pos 36524
+last S.Utc = pos 36524
+last S.Gps = pos 36524
+
+abbrev pub bound : Scale → ℕ
+bound S.Tai = 86400000000
+bound S.Utc = 86401000000
+bound S.Gps = 86400000000
+
+abbrev pub inSpan : Scale → ℤ → ℕ → Bool
+inSpan s d u = leZ (first s) d && (leZ d (last s) && ltb u (bound s))
+
+-- ---- "The first that applies in this order is given, never otherwise"
+-- what a function judges, from top to bottom: given a test, or else its number; in the end it gives a value
+pub data Judged (A : Type 0) : Type 0 where
+  given : Bool → ℕ → Judged A → Judged A
+  gives : A → Judged A
+
+pub data Outcome (A : Type 0) : Type 0 where
+  refused : ℕ → Outcome A
+  answer : A → Outcome A
+
+abbrev pub pass : {A : Type 0} → Bool → ℕ → Outcome A → Outcome A
+pass true n rest = rest
+pass false n rest = refused n
+
+abbrev pub outcome : {A : Type 0} → Judged A → Outcome A
+outcome (given t n rest) = pass t n (outcome rest)
+outcome (gives a) = answer a
+
+-- the numbers that a function may refuse with, as it judges them
+abbrev pub numbers : {A : Type 0} → Judged A → List ℕ
+numbers (given t n rest) = n ∷ numbers rest
+numbers (gives a) = []
+
+-- the order of the refusal slip
+abbrev pub order : List ℕ
+order = 1 ∷ 2 ∷ 3 ∷ 4 ∷ 5 ∷ 6 ∷ 7 ∷ 8 ∷ 9 ∷ 10 ∷ 11 ∷ 12 ∷ 13 ∷ []
+
+abbrev pub either : Bool → Bool → Bool → Bool
+either true a b = a
+either false a b = b
+
+-- numbers stand in an order: each is there, after the one before
+abbrev pub standsIn : List ℕ → List ℕ → Bool
+standsIn [] os = true
+standsIn (n ∷ ns) [] = false
+standsIn (n ∷ ns) (o ∷ os) = either (eqb n o) (standsIn ns os) (standsIn (n ∷ ns) os)
+
+-- ---- what the desk hands back of a time: the number (0 for an answer), the scale, the day and the microsecond
+pub record Slip : Type 0 where
+  pub number : ℕ
+  pub scale : Scale
+  pub day : ℤ
+  pub micro : ℕ
+
+pub record Moment : Type 0 where
+  pub day : ℤ
+  pub micro : ℕ
+
+-- "Every refusal returns its number, day 0 microsecond 0 of the scale that the answer would have had"; "An answer returns 0"
+abbrev pub dated : Scale → Outcome Moment → Slip
+dated s (refused n) = record { number = n; scale = s; day = pos 0; micro = 0 }
+dated s (answer t) = record { number = 0; scale = s; day = t .day; micro = t .micro }
+
+-- ---- this paper's number and values for each case of an answer
+abbrev pub numberOf : Refusal → ℕ
+numberOf R.Length = 1
+numberOf R.Marker = 2
+numberOf R.Field = 3
+numberOf R.NotFinite = 4
+numberOf R.List = 5
+numberOf R.Correlation = 6
+numberOf R.Span = 7
+numberOf R.Force = 8
+numberOf R.Expired = 9
+numberOf R.Second = 10
+numberOf R.Result = 11
+numberOf R.Image = 12
+numberOf R.Room = 13
+
+abbrev pub slip : Dated → Slip
+slip (D.At r) = dated (r .scale) (answer (record { day = r .day; micro = r .micro }))
+slip (D.Refused f s) = dated s (refused (numberOf f))
+
+-- a count of scale s holds `bound s` microseconds a day, from day -40000 on
+abbrev pub momentAt : Scale → ℕ → Moment
+momentAt s n = record { day = dayAt (n / bound s); micro = n % bound s }
+
+-- an answer whose type tells its scale is a count or a refusal
+pub data Typed : Type 0 where
+  at : ℕ → Typed
+  no : Refusal → Typed
+
+abbrev pub slipOf : Scale → Typed → Slip
+slipOf s (at n) = dated s (answer (momentAt s n))
+slipOf s (no f) = dated s (refused (numberOf f))
+
+abbrev pub typedTai : DatedTai → Typed
+typedTai (DT.At t) = at (t .0)
+typedTai (DT.Refused f) = no f
+
+abbrev pub typedUtc : DatedUtc → Typed
+typedUtc (DU.At t) = at (t .0)
+typedUtc (DU.Refused f) = no f
+
+abbrev pub typedGps : DatedGps → Typed
+typedGps (DG.At t) = at (t .0)
+typedGps (DG.Refused f) = no f
+
+abbrev pub slipTai : DatedTai → Slip
+slipTai r = slipOf S.Tai (typedTai r)
+
+abbrev pub slipUtc : DatedUtc → Slip
+slipUtc r = slipOf S.Utc (typedUtc r)
+
+abbrev pub slipGps : DatedGps → Slip
+slipGps r = slipOf S.Gps (typedGps r)
+
+-- a time is a scale and a count
+abbrev pub timeScale : Time → Scale
+timeScale (TM.Tai t) = S.Tai
+timeScale (TM.Utc t) = S.Utc
+timeScale (TM.Gps t) = S.Gps
+
+abbrev pub timeCount : Time → ℕ
+timeCount (TM.Tai t) = t .0
+timeCount (TM.Utc t) = t .0
+timeCount (TM.Gps t) = t .0
+
+abbrev pub timeAt : Scale → ℕ → Time
+timeAt S.Tai n = TM.Tai (record { 0 = n })
+timeAt S.Utc n = TM.Utc (record { 0 = n })
+timeAt S.Gps n = TM.Gps (record { 0 = n })
+
+abbrev pub slipTimed : Timed → Slip
+slipTimed (TD.At t) = slipOf (timeScale t) (at (timeCount t))
+slipTimed (TD.Refused f s) = slipOf s (no f)
+
+-- ---- the functions of this crate
+abbrev pub recordOf : Scale → ℤ → ℕ → Record
+recordOf s d u = record { scale = s; day = d; micro = u }
+
+abbrev pub recordAt : Scale → ℕ → Record
+recordAt s n = recordOf s (momentAt s n .day) (momentAt s n .micro)
+
+-- a day and a microsecond handed in as a time of scale s: 7 outside its span
+abbrev pub spanning : Scale → ℤ → ℕ → Judged Moment
+spanning s d u =
+    given (inSpan s d u) 7
+    (gives (record { day = d; micro = u }))
+
+unfoldable pub spanned : Scale → ℤ → ℕ → Slip
+spanned s d u = dated s (outcome (spanning s d u))

@@ -1,0 +1,35 @@
+-- "The first that applies in this order is given, never otherwise": of any chain of tests. Assumes nothing.
+use mathlib.Core.Path.{_≡_, refl, sym, ap, subst, _∙_}
+use mathlib.Core.Bool.{Bool, true, false}
+use Prim.Native.Nat.{ℕ}
+use native.Mathlib.Omega.{arith}
+use Rattle.scales.specs.Meaning.{Judged, given, gives, Outcome, refused, answer, pass, outcome}
+
+-- a chain refuses with n: the test beside n fails, and every test before it holds
+pub data Refuses {A : Type 0} : Judged A → ℕ → Type 0 where
+  here : {t : Bool} {n : ℕ} {rest : Judged A} → t ≡ false → Refuses (given t n rest) n
+  later : {t : Bool} {m n : ℕ} {rest : Judged A} → t ≡ true → Refuses rest n → Refuses (given t m rest) n
+
+-- a chain answers with a: every test holds, and a is what it gives
+pub data Answers {A : Type 0} : Judged A → A → Type 0 where
+  last : {a : A} → Answers (gives a) a
+  next : {t : Bool} {n : ℕ} {rest : Judged A} {a : A} → t ≡ true → Answers rest a → Answers (given t n rest) a
+
+module _ {A : Type 0} where
+  pub refuses-is : {j : Judged A} {n : ℕ} → Refuses j n → outcome j ≡ refused n
+  refuses-is (here e) = rw e
+  refuses-is (later e r) = rw e (refuses-is r)
+
+  pub answers-is : {j : Judged A} {a : A} → Answers j a → outcome j ≡ answer a
+  answers-is last = refl
+  answers-is (next e r) = rw e (answers-is r)
+
+  pub is-refuses : (j : Judged A) (n : ℕ) → outcome j ≡ refused n → Refuses j n
+  is-refuses (given true m rest) n e = later refl (is-refuses rest n e)
+  is-refuses (given false m rest) n e = let q : m ≡ n = cc in subst (λ (k : ℕ). Refuses (given false m rest) k) q (here refl)
+  is-refuses (gives a) n e = absurd (let z : _≡_ {A = ℕ} 0 1 = cc in omega arith)
+
+  pub is-answers : (j : Judged A) (a : A) → outcome j ≡ answer a → Answers j a
+  is-answers (given true m rest) a e = next refl (is-answers rest a e)
+  is-answers (given false m rest) a e = absurd (let z : _≡_ {A = ℕ} 0 1 = cc in omega arith)
+  is-answers (gives b) a e = let q : b ≡ a = cc in subst (λ (x : A). Answers (gives b) x) q last

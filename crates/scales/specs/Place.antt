@@ -1,0 +1,140 @@
+-- The spans on the axis, one law over the scale, and what a typed count is. Assumes nothing.
+use mathlib.Core.Path.{_≡_, refl, sym, ap, ap₂, _∙_}
+use mathlib.Core.Bool.{Bool, true, false, _&&_}
+use Prim.Native.Nat.{ℕ, _≤_, _<_, _+_, _*_, _/_, _%_}
+use native.Mathlib.Omega.{arith}
+use native.Mathlib.Nat.{div-eq-of-lt-le, mul-add-mod-self-right, mod-eq-of-lt, div-add-mod'}
+use lib.Dec.{leb, ltb, lit<, lit≤}
+use lib.IntN.{ℤ}
+use lib.Signed.{leZ}
+use borrow.Author.Tests.{le-leb, lt-leb, lt-ltb, le-ltb, leb-true, ltb-true}
+use Rattle.axis.specs.Meaning.{placeOfDay, dayAt}
+use Rattle.axis.specs.Axis.{day-from, day-to, day-place, day-inj}
+use Rattle.scales.specs.Meaning.{first, last, bound, inSpan, Outcome, refused, answer, Slip, dated, numberOf, momentAt, spanned}
+use Rattle.scales.specs.declared.Scale.{Scale}
+use Rattle.scales.specs.declared.Scale.the-variants as S
+use Rattle.scales.specs.declared.Refusal.{Refusal}
+use Rattle.scales.specs.declared.Refusal.the-variants as R
+use Rattle.scales.specs.declared.Span.{Span}
+use Rattle.scales.specs.declared.Counted.{Counted}
+use Rattle.scales.specs.declared.Counted.the-variants as C
+
+-- ---- the places of a span
+abbrev pub firstAt : Scale → ℕ
+firstAt s = placeOfDay (first s)
+
+abbrev pub lastAt : Scale → ℕ
+lastAt s = placeOfDay (last s)
+
+first-is : (s : Scale) (d : ℤ) → leZ (first s) d ≡ leb (firstAt s) (placeOfDay d)
+first-is S.Tai d = day-from 29773 d (lit< tt) (lit≤ tt)
+first-is S.Utc d = day-from 29773 d (lit< tt) (lit≤ tt)
+first-is S.Gps d = day-from 32700 d (lit< tt) (lit≤ tt)
+
+last-is : (s : Scale) (d : ℤ) → leZ d (last s) ≡ leb (placeOfDay d) (lastAt s)
+last-is S.Tai d = day-to 76524 d (lit< tt)
+last-is S.Utc d = day-to 76524 d (lit< tt)
+last-is S.Gps d = day-to 76524 d (lit< tt)
+
+-- what the laws below use of a scale's numbers
+pub record Apart (s : Scale) : Type 0 where
+  pub from : 0 < firstAt s
+  pub to : lastAt s ≡ 76524
+  pub whole : 86400000000 ≤ bound s
+  pub most : bound s ≤ 86401000000
+
+pub apart : (s : Scale) → Apart s
+apart S.Tai = record { from = lit< tt; to = refl; whole = lit≤ tt; most = lit≤ tt }
+apart S.Utc = record { from = lit< tt; to = refl; whole = lit≤ tt; most = lit≤ tt }
+apart S.Gps = record { from = lit< tt; to = refl; whole = lit≤ tt; most = lit≤ tt }
+
+-- the three spans, as one law
+pub span-is : (s : Scale) (d : ℤ) (u : ℕ) →
+    inSpan s d u ≡ (leb (firstAt s) (placeOfDay d) && (leb (placeOfDay d) (lastAt s) && ltb u (bound s)))
+span-is s d u = rw (first-is s d, last-is s d)
+
+pub and-false : (a : Bool) → a && false ≡ false
+and-false true = refl
+and-false false = refl
+
+pub and-both : (a b : Bool) → a && b ≡ true → (a ≡ true) × (b ≡ true)
+and-both true b e = (refl, e)
+and-both false b e = absurd (let z : _≡_ {A = ℕ} 0 1 = cc in omega arith)
+
+pub record Placed (s : Scale) (d : ℤ) (u : ℕ) : Type 0 where
+  pub from : firstAt s ≤ placeOfDay d
+  pub to : placeOfDay d ≤ lastAt s
+  pub under : u < bound s
+
+pub placed : (s : Scale) (d : ℤ) (u : ℕ) → inSpan s d u ≡ true → Placed s d u
+placed s d u e =
+    let y = and-both (leb (firstAt s) (placeOfDay d)) (leb (placeOfDay d) (lastAt s) && ltb u (bound s)) (sym (span-is s d u) ∙ e) in
+    let z = and-both (leb (placeOfDay d) (lastAt s)) (ltb u (bound s)) (y .1) in
+    record { from = leb-true (firstAt s) (placeOfDay d) (y .0); to = leb-true (placeOfDay d) (lastAt s) (z .0); under = ltb-true u (bound s) (z .1) }
+
+pub in-span : (s : Scale) (d : ℤ) (u : ℕ) → Placed s d u → inSpan s d u ≡ true
+in-span s d u p =
+    span-is s d u
+    ∙ rw (le-leb (firstAt s) (placeOfDay d) (p .from), le-leb (placeOfDay d) (lastAt s) (p .to), lt-ltb u (bound s) (p .under))
+
+module _ (s : Scale) (d : ℤ) (u : ℕ) where
+  pub out-early : placeOfDay d < firstAt s → inSpan s d u ≡ false
+  out-early h = span-is s d u ∙ rw (lt-leb (firstAt s) (placeOfDay d) h)
+
+  pub out-late : lastAt s < placeOfDay d → inSpan s d u ≡ false
+  out-late h = span-is s d u ∙ rw (lt-leb (placeOfDay d) (lastAt s) h) (and-false (leb (firstAt s) (placeOfDay d)))
+
+  pub out-over : bound s ≤ u → inSpan s d u ≡ false
+  out-over h =
+      span-is s d u
+      ∙ rw (le-ltb u (bound s) h, and-false (leb (placeOfDay d) (lastAt s)), and-false (leb (firstAt s) (placeOfDay d)))
+
+-- ---- what is handed back of a day and a microsecond
+pub spanned-in : (s : Scale) (d : ℤ) (u : ℕ) → inSpan s d u ≡ true → spanned s d u ≡ dated s (answer (record { day = d; micro = u }))
+unfolding spanned
+spanned-in s d u e = rw e
+
+pub spanned-out : (s : Scale) (d : ℤ) (u : ℕ) → inSpan s d u ≡ false → spanned s d u ≡ dated s (refused 7)
+unfolding spanned
+spanned-out s d u e = rw e
+
+-- ---- a count of b microseconds a day: its day and its microsecond
+module _ (b p u : ℕ) (h : u < b) where
+  pub day-part : (p * b + u) / b ≡ p
+  day-part = div-eq-of-lt-le b (omega arith) (omega arith)
+
+  pub micro-part : (p * b + u) % b ≡ u
+  micro-part = mul-add-mod-self-right p b u ∙ mod-eq-of-lt h
+
+-- a count is known by its day and its microsecond
+pub count-inj : (s : Scale) (n m : ℕ) → momentAt s n ≡ momentAt s m → n ≡ m
+count-inj s n m e =
+    let q : n / bound s ≡ m / bound s = day-inj (n / bound s) (m / bound s) (λ i. e i .day) in
+    let r : n % bound s ≡ m % bound s = λ i. e i .micro in
+    sym (div-add-mod' n (bound s)) ∙ ap₂ _+_ (ap (λ (x : ℕ). x * bound s) q) r ∙ div-add-mod' m (bound s)
+
+-- the count of a day and a microsecond in the span
+abbrev pub countOf : Scale → ℤ → ℕ → ℕ
+countOf s d u = placeOfDay d * bound s + u
+
+pub moment-of : (s : Scale) (d : ℤ) (u : ℕ) → inSpan s d u ≡ true → momentAt s (countOf s d u) ≡ record { day = d; micro = u }
+moment-of s d u e =
+    let p = placed s d u e in
+    let a = apart s in
+    let h : 0 < placeOfDay d = omega arith in
+    let k : placeOfDay d < 100000 = omega arith in
+    rw (day-part (bound s) (placeOfDay d) u (p .under), micro-part (bound s) (placeOfDay d) u (p .under), day-place d h k)
+
+-- ---- what the private functions answer
+abbrev pub spanFrom : ℤ → ℤ → ℕ → Span
+spanFrom f l b = record { first = placeOfDay f; last = placeOfDay l; bound = b }
+
+abbrev pub spanOf : Scale → Span
+spanOf s = spanFrom (first s) (last s) (bound s)
+
+abbrev pub pickCounted : Bool → Counted → Counted → Counted
+pickCounted true a b = a
+pickCounted false a b = b
+
+abbrev pub counted : Scale → ℤ → ℕ → Counted
+counted s d u = pickCounted (inSpan s d u) (C.At (countOf s d u)) C.Outside

@@ -1,0 +1,146 @@
+-- The numbers and values of an answer fix the answer: any two that a contract allows are equal. Assumes nothing.
+use mathlib.Core.Path.{_≡_, refl, sym, ap, ap₂, _∙_}
+use mathlib.Core.List.{List, [], _∷_}
+use Prim.Native.Nat.{ℕ}
+use native.Mathlib.Omega.{arith}
+use lib.ListN.{getD}
+use Rattle.scales.specs.Meaning.{slip, Typed, at, no, slipOf, typedTai, typedUtc, typedGps, slipTai, slipUtc, slipGps, numberOf, timeScale, timeCount, timeAt, slipTimed}
+use Rattle.scales.specs.Place.{count-inj}
+use Rattle.scales.specs.declared.Scale.{Scale}
+use Rattle.scales.specs.declared.Scale.the-variants as S
+use Rattle.scales.specs.declared.Record.{Record}
+use Rattle.scales.specs.declared.Refusal.{Refusal}
+use Rattle.scales.specs.declared.Refusal.the-variants as R
+use Rattle.scales.specs.declared.Dated.{Dated}
+use Rattle.scales.specs.declared.Dated.the-variants as D
+use Rattle.scales.specs.declared.DatedTai.{DatedTai}
+use Rattle.scales.specs.declared.DatedTai.the-variants as DT
+use Rattle.scales.specs.declared.DatedUtc.{DatedUtc}
+use Rattle.scales.specs.declared.DatedUtc.the-variants as DU
+use Rattle.scales.specs.declared.DatedGps.{DatedGps}
+use Rattle.scales.specs.declared.DatedGps.the-variants as DG
+use Rattle.scales.specs.declared.Time.{Time}
+use Rattle.scales.specs.declared.Time.the-variants as TM
+use Rattle.scales.specs.declared.Timed.{Timed}
+use Rattle.scales.specs.declared.Timed.the-variants as TD
+
+-- a refusal by its number
+abbrev of : ℕ → Refusal
+of n =
+    getD
+    (R.Room ∷ R.Length ∷ R.Marker ∷ R.Field ∷ R.NotFinite ∷ R.List ∷ R.Correlation ∷ R.Span ∷ R.Force ∷ R.Expired ∷ R.Second
+    ∷ R.Result ∷ R.Image ∷ [])
+    n R.Room
+
+of-number : (r : Refusal) → of (numberOf r) ≡ r
+of-number R.Length = refl
+of-number R.Marker = refl
+of-number R.Field = refl
+of-number R.NotFinite = refl
+of-number R.List = refl
+of-number R.Correlation = refl
+of-number R.Span = refl
+of-number R.Force = refl
+of-number R.Expired = refl
+of-number R.Second = refl
+of-number R.Result = refl
+of-number R.Image = refl
+of-number R.Room = refl
+
+pub refusals : (a b : Refusal) → numberOf a ≡ numberOf b → a ≡ b
+refusals a b e = sym (of-number a) ∙ ap of e ∙ of-number b
+
+-- 0 is no refusal's number
+pub some : (r : Refusal) → numberOf r ≡ 0 → ⊥
+some r e =
+    let q : r ≡ R.Room = sym (of-number r) ∙ ap of e in
+    let n : numberOf r ≡ 13 = ap numberOf q in
+    omega arith
+
+pub same : (a b : Dated) → slip a ≡ slip b → a ≡ b
+same (D.At x) (D.At y) e = λ i. D.At (record { scale = e i .scale; day = e i .day; micro = e i .micro })
+same (D.At x) (D.Refused r s) e = absurd (some r (λ i. sym e i .number))
+same (D.Refused r s) (D.At x) e = absurd (some r (λ i. e i .number))
+same (D.Refused r s) (D.Refused q t) e = ap₂ D.Refused (refusals r q (λ i. e i .number)) (λ i. e i .scale)
+
+pub same-typed : (s : Scale) (a b : Typed) → slipOf s a ≡ slipOf s b → a ≡ b
+same-typed s (at n) (at m) e = ap at (count-inj s n m (λ i. record { day = e i .day; micro = e i .micro }))
+same-typed s (at n) (no g) e = absurd (some g (λ i. sym e i .number))
+same-typed s (no f) (at m) e = absurd (some f (λ i. e i .number))
+same-typed s (no f) (no g) e = ap no (refusals f g (λ i. e i .number))
+
+-- the three answers that tell their scale, by one law: they are made of their parts
+module _ {A : Type 0} (s : Scale) (parts : A → Typed) (make : Typed → A) (back : (a : A) → make (parts a) ≡ a) where
+  same-parts : (a b : A) → slipOf s (parts a) ≡ slipOf s (parts b) → a ≡ b
+  same-parts a b e = sym (back a) ∙ ap make (same-typed s (parts a) (parts b) e) ∙ back b
+
+pub same-tai : (a b : DatedTai) → slipTai a ≡ slipTai b → a ≡ b
+same-tai = same-parts S.Tai typedTai make back
+  where
+    make : Typed → DatedTai
+    make (at n) = DT.At (record { 0 = n })
+    make (no f) = DT.Refused f
+
+    back : (a : DatedTai) → make (typedTai a) ≡ a
+    back (DT.At t) = refl
+    back (DT.Refused f) = refl
+
+pub same-utc : (a b : DatedUtc) → slipUtc a ≡ slipUtc b → a ≡ b
+same-utc = same-parts S.Utc typedUtc make back
+  where
+    make : Typed → DatedUtc
+    make (at n) = DU.At (record { 0 = n })
+    make (no f) = DU.Refused f
+
+    back : (a : DatedUtc) → make (typedUtc a) ≡ a
+    back (DU.At t) = refl
+    back (DU.Refused f) = refl
+
+pub same-gps : (a b : DatedGps) → slipGps a ≡ slipGps b → a ≡ b
+same-gps = same-parts S.Gps typedGps make back
+  where
+    make : Typed → DatedGps
+    make (at n) = DG.At (record { 0 = n })
+    make (no f) = DG.Refused f
+
+    back : (a : DatedGps) → make (typedGps a) ≡ a
+    back (DG.At t) = refl
+    back (DG.Refused f) = refl
+
+-- a time is known by its scale and its count
+pub time-is : (t : Time) → timeAt (timeScale t) (timeCount t) ≡ t
+time-is (TM.Tai t) = refl
+time-is (TM.Utc t) = refl
+time-is (TM.Gps t) = refl
+
+pub time-scale : (s : Scale) (n : ℕ) → timeScale (timeAt s n) ≡ s
+time-scale S.Tai n = refl
+time-scale S.Utc n = refl
+time-scale S.Gps n = refl
+
+pub time-count : (s : Scale) (n : ℕ) → timeCount (timeAt s n) ≡ n
+time-count S.Tai n = refl
+time-count S.Utc n = refl
+time-count S.Gps n = refl
+
+slip-scale : (s : Scale) (a : Typed) → slipOf s a .scale ≡ s
+slip-scale s (at n) = refl
+slip-scale s (no f) = refl
+
+-- the scale and the parts of two typed slips that are equal
+pub same-slips : (s t : Scale) (a b : Typed) → slipOf s a ≡ slipOf t b → (s ≡ t) × (a ≡ b)
+same-slips s t a b e =
+    let k : s ≡ t = sym (slip-scale s a) ∙ (λ i. e i .scale) ∙ slip-scale t b in
+    (k, same-typed t a b (ap (λ (x : Scale). slipOf x a) (sym k) ∙ e))
+
+pub same-timed : (a b : Timed) → slipTimed a ≡ slipTimed b → a ≡ b
+same-timed (TD.At x) (TD.At y) e =
+    let q = same-slips (timeScale x) (timeScale y) (at (timeCount x)) (at (timeCount y)) e in
+    let n : timeCount x ≡ timeCount y = cc in
+    ap TD.At (sym (time-is x) ∙ ap₂ timeAt (q .0) n ∙ time-is y)
+same-timed (TD.At x) (TD.Refused g t) e = absurd (some g (λ i. sym e i .number))
+same-timed (TD.Refused f s) (TD.At y) e = absurd (some f (λ i. e i .number))
+same-timed (TD.Refused f s) (TD.Refused g t) e =
+    let q = same-slips s t (no f) (no g) e in
+    let n : f ≡ g = cc in
+    ap₂ TD.Refused n (q .0)

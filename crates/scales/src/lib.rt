@@ -1,0 +1,295 @@
+// The paper's words: scales, the counts that are kept apart by them, records as handed in, the refusals and the answers.
+ghost use mathlib.Core.Path.{_≡_};
+ghost use Rattle.scales.specs.Meaning.{numberOf, slip, slipTai, slipUtc, slipGps, slipTimed, spanned, recordOf, recordAt, timeAt, timeScale, timeCount};
+ghost use Rattle.scales.specs.Place.{spanFrom, spanOf, counted};
+
+pub enum Scale {
+    Tai,
+    Utc,
+    Gps,
+}
+
+// Microseconds from day -40000 on, every day having 86,400 s.
+pub struct Tai(pub u64);
+
+pub struct Gps(pub u64);
+
+// The same with 86,401 s a day, so that second 60 has a place.
+pub struct Utc(pub u64);
+
+// A tick of the satellite's binary time counter.
+pub struct Tick(pub u32);
+
+// A time as it is handed in or out: nothing is known of it.
+pub struct Record {
+    pub scale: Scale,
+    pub day: i64,
+    pub micro: u64,
+}
+
+// A time whose scale is known only when the program runs.
+pub enum Time {
+    Tai(Tai),
+    Utc(Utc),
+    Gps(Gps),
+}
+
+// What a caller hands in: a record, or a decimal day with its scale.
+pub enum Handed {
+    Record(Record),
+    Decimal(f64, Scale),
+}
+
+// The rows of the refusal slip, 1 to 13.
+pub enum Refusal {
+    Length,
+    Marker,
+    Field,
+    NotFinite,
+    List,
+    Correlation,
+    Span,
+    Force,
+    Expired,
+    Second,
+    Result,
+    Image,
+    Room,
+}
+
+impl Refusal {
+    pub fn number(self) -> u32
+        ensures { λ n. ⌜ n ≡ numberOf self ⌝ }
+    {
+        match self {
+            Refusal::Length => 1,
+            Refusal::Marker => 2,
+            Refusal::Field => 3,
+            Refusal::NotFinite => 4,
+            Refusal::List => 5,
+            Refusal::Correlation => 6,
+            Refusal::Span => 7,
+            Refusal::Force => 8,
+            Refusal::Expired => 9,
+            Refusal::Second => 10,
+            Refusal::Result => 11,
+            Refusal::Image => 12,
+            Refusal::Room => 13,
+        }
+    }
+}
+
+// A dated record, or a refusal and the scale of its empty record.
+pub enum Dated {
+    At(Record),
+    Refused(Refusal, Scale),
+}
+
+// The same where the type tells the scale.
+pub enum DatedTai {
+    At(Tai),
+    Refused(Refusal),
+}
+
+pub enum DatedUtc {
+    At(Utc),
+    Refused(Refusal),
+}
+
+pub enum DatedGps {
+    At(Gps),
+    Refused(Refusal),
+}
+
+// A record taken apart, or a refusal and the scale of its empty record.
+pub enum Timed {
+    At(Time),
+    Refused(Refusal, Scale),
+}
+
+enum Counted {
+    At(u64),
+    Outside,
+}
+
+// A span on the axis: the places of its first and last day, and the microseconds of a day.
+struct Span {
+    first: u64,
+    last: u64,
+    bound: u64,
+}
+
+fn span_from(first: i64, last: i64, bound: u64) -> Span
+    ensures { λ r. ⌜ r ≡ spanFrom first last bound ⌝ }
+{
+    Span {
+        first: axis::place_of_day(first),
+        last: axis::place_of_day(last),
+        bound,
+    }
+}
+
+fn span_of(scale: Scale) -> Span
+    ensures { λ r. ⌜ r ≡ spanOf scale ⌝ }
+{
+    match scale {
+        Scale::Tai => span_from(Tai::FIRST_DAY, Tai::LAST_DAY, Tai::BOUND),
+        Scale::Utc => span_from(Utc::FIRST_DAY, Utc::LAST_DAY, Utc::BOUND),
+        Scale::Gps => span_from(Gps::FIRST_DAY, Gps::LAST_DAY, Gps::BOUND),
+    }
+}
+
+// The count of a day and a microsecond of a scale, if they lie in its span.
+fn count_of(scale: Scale, day: i64, micro: u64) -> Counted
+    ensures { λ r. ⌜ r ≡ counted scale day micro ⌝ }
+{
+    let span = span_of(scale);
+    let bound = span.bound;
+    let d = axis::place_of_day(day);
+    if d < span.first {
+        return Counted::Outside;
+    }
+    if span.last < d {
+        return Counted::Outside;
+    }
+    if bound <= micro {
+        return Counted::Outside;
+    }
+    Counted::At(d * bound + micro)
+}
+
+// The record of a count. This function and `Record::new` are the only ones that build a record.
+fn record_at(scale: Scale, count: u64) -> Record
+    ensures { λ r. ⌜ r ≡ recordAt scale count ⌝ }
+{
+    let bound = span_of(scale).bound;
+    let day = axis::day_at((count / bound) as u32);
+    Record {
+        scale,
+        day,
+        micro: count % bound,
+    }
+}
+
+// The time of a count.
+fn time_at(scale: Scale, count: u64) -> Time
+    ensures { λ r. ⌜ r ≡ timeAt scale count ⌝ }
+{
+    match scale {
+        Scale::Tai => Time::Tai(Tai(count)),
+        Scale::Utc => Time::Utc(Utc(count)),
+        Scale::Gps => Time::Gps(Gps(count)),
+    }
+}
+
+impl Time {
+    pub fn to_record(self) -> Record
+        ensures { λ r. ⌜ r ≡ recordAt (timeScale self) (timeCount self) ⌝ }
+    {
+        match self {
+            Time::Tai(t) => t.to_record(),
+            Time::Utc(t) => t.to_record(),
+            Time::Gps(t) => t.to_record(),
+        }
+    }
+}
+
+impl Record {
+    // A record as a caller hands it in.
+    pub fn new(scale: Scale, day: i64, micro: u64) -> Record
+        ensures { λ r. ⌜ r ≡ recordOf scale day micro ⌝ }
+    {
+        Record { scale, day, micro }
+    }
+
+    // The time that a record stands for, or 7 outside its scale's span.
+    pub fn to_time(self) -> Timed
+        ensures { λ r. ⌜ slipTimed r ≡ spanned (self .scale) (self .day) (self .micro) ⌝ }
+    {
+        let scale = self.scale;
+        match count_of(scale, self.day, self.micro) {
+            Counted::At(n) => Timed::At(time_at(scale, n)),
+            Counted::Outside => Timed::Refused(Refusal::Span, scale),
+        }
+    }
+
+    // The record itself, or 7 outside its scale's span.
+    pub fn judged(self) -> Dated
+        ensures { λ r. ⌜ slip r ≡ spanned (self .scale) (self .day) (self .micro) ⌝ }
+    {
+        let scale = self.scale;
+        match count_of(scale, self.day, self.micro) {
+            Counted::At(_) => Dated::At(self),
+            Counted::Outside => Dated::Refused(Refusal::Span, scale),
+        }
+    }
+}
+
+impl Tai {
+    pub const FIRST_DAY: i64 = -10227;
+
+    pub const LAST_DAY: i64 = 36524;
+
+    pub const BOUND: u64 = 86_400_000_000;
+
+    pub fn new(day: i64, micro: u64) -> DatedTai
+        ensures { λ r. ⌜ slipTai r ≡ spanned Scale.Tai day micro ⌝ }
+    {
+        match count_of(Scale::Tai, day, micro) {
+            Counted::At(n) => DatedTai::At(Tai(n)),
+            Counted::Outside => DatedTai::Refused(Refusal::Span),
+        }
+    }
+
+    pub fn to_record(self) -> Record
+        ensures { λ r. ⌜ r ≡ recordAt Scale.Tai (self .0) ⌝ }
+    {
+        record_at(Scale::Tai, self.0)
+    }
+}
+
+impl Utc {
+    pub const FIRST_DAY: i64 = -10227;
+
+    pub const LAST_DAY: i64 = 36524;
+
+    pub const BOUND: u64 = 86_401_000_000;
+
+    pub fn new(day: i64, micro: u64) -> DatedUtc
+        ensures { λ r. ⌜ slipUtc r ≡ spanned Scale.Utc day micro ⌝ }
+    {
+        match count_of(Scale::Utc, day, micro) {
+            Counted::At(n) => DatedUtc::At(Utc(n)),
+            Counted::Outside => DatedUtc::Refused(Refusal::Span),
+        }
+    }
+
+    pub fn to_record(self) -> Record
+        ensures { λ r. ⌜ r ≡ recordAt Scale.Utc (self .0) ⌝ }
+    {
+        record_at(Scale::Utc, self.0)
+    }
+}
+
+impl Gps {
+    pub const FIRST_DAY: i64 = -7300;
+
+    pub const LAST_DAY: i64 = 36524;
+
+    pub const BOUND: u64 = 86_400_000_000;
+
+    pub fn new(day: i64, micro: u64) -> DatedGps
+        ensures { λ r. ⌜ slipGps r ≡ spanned Scale.Gps day micro ⌝ }
+    {
+        match count_of(Scale::Gps, day, micro) {
+            Counted::At(n) => DatedGps::At(Gps(n)),
+            Counted::Outside => DatedGps::Refused(Refusal::Span),
+        }
+    }
+
+    pub fn to_record(self) -> Record
+        ensures { λ r. ⌜ r ≡ recordAt Scale.Gps (self .0) ⌝ }
+    {
+        record_at(Scale::Gps, self.0)
+    }
+}
