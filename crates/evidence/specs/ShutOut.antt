@@ -1,0 +1,17 @@
+-- What shuts a wrong program out: an input at which its answer is not the meaning's, both computed. Assumes nothing.
+use mathlib.Core.Path.{_≡_, ap}
+use mathlib.Core.List.{List}
+use Prim.Native.Nat.{ℕ}
+use lib.ListN.{getD}
+
+-- the right answer is a, the wrong one b, and they are not the same
+abbrev pub ShutOut : {A : Type 0} → A → A → A → A → Type 0
+ShutOut right a wrong b = (right ≡ a) × (wrong ≡ b) × (right ≡ wrong → ⊥)
+
+-- two answers are not the same where a number read off them differs
+pub differ : {A : Type 0} {x y : A} (f : A → ℕ) → (f x ≡ f y → ⊥) → x ≡ y → ⊥
+differ f d e = d (ap f e)
+
+-- two lists are not the same where the elements at k differ
+pub differ-at : (k : ℕ) {x y : List ℕ} → (getD x k 0 ≡ getD y k 0 → ⊥) → x ≡ y → ⊥
+differ-at k d e = differ (λ (l : List ℕ). getD l k 0) d e

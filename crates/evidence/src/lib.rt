@@ -1,0 +1,1 @@
+// No code: what shuts a wrong program out, for the crates of laws.

@@ -1,0 +1,89 @@
+-- Wrong programs for the axis, each shut out by an input at which its answer is not the meaning's; and the laws of the axis
+-- at inputs that meet their hypotheses. Assumes nothing.
+use mathlib.Core.Path.{_≡_, refl}
+use Prim.Native.Nat.{ℕ, _-_}
+use native.Mathlib.Omega.{arith}
+use lib.Dec.{leb, lit<, lit≤}
+use lib.IntN.{ℤ, pos, negsuc, subℕ, natAbs, _+ℤ_}
+use lib.Signed.{leZ}
+use mir.Syntax.{w64}
+use mir.Val.{ofZ}
+use Rattle.evidence.specs.ShutOut.{ShutOut, differ}
+use Rattle.axis.specs.Meaning.{placeOfDay, dayAt, placeOfMicros, microsAt, heldMicrosAt, floorZ, modZ}
+use Rattle.axis.specs.Axis.{place-day, day-place, day-from, day-to, place-micros, micros-place}
+
+-- ---- place_of_day
+-- a bare cast: a day before the axis wraps to its far end
+abbrev bareCast : ℤ → ℕ
+bareCast d = ofZ w64 (d +ℤ pos 40000)
+
+pub day-wraps : ShutOut (placeOfDay (negsuc 40000)) 0 (bareCast (negsuc 40000)) 18446744073709551615
+day-wraps = (refl, refl, λ e. omega arith)
+
+-- days counted from 1 January 1972
+abbrev from1972 : ℤ → ℕ
+from1972 d = natAbs (d +ℤ pos 10227)
+
+pub day-from-1972 : ShutOut (placeOfDay (pos 0)) 40000 (from1972 (pos 0)) 10227
+day-from-1972 = (refl, refl, λ e. omega arith)
+
+-- ---- day_at
+-- the distance from day 0, its sign lost
+abbrev unsigned : ℕ → ℤ
+unsigned m = pos (natAbs (dayAt m))
+
+pub day-unsigned : ShutOut (dayAt 39999) (negsuc 0) (unsigned 39999) (pos 1)
+day-unsigned = (refl, refl, differ (λ (z : ℤ). placeOfDay z) (λ e. omega arith))
+
+-- one day off
+abbrev oneOff : ℕ → ℤ
+oneOff m = subℕ m 39999
+
+pub day-one-off : ShutOut (dayAt 40000) (pos 0) (oneOff 40000) (pos 1)
+day-one-off = (refl, refl, differ natAbs (λ e. omega arith))
+
+-- ---- place_of_micros
+-- what lies before day 0 is held at day 0
+abbrev fromZero : ℤ → ℕ
+fromZero (pos n) = placeOfMicros (pos n)
+fromZero (negsuc n) = placeOfMicros (pos 0)
+
+pub micros-from-zero : ShutOut (placeOfMicros (negsuc 0)) 3455999999999999 (fromZero (negsuc 0)) 3456000000000000
+micros-from-zero = (refl, refl, λ e. omega arith)
+
+-- not held at the axis's end
+abbrev endless : ℤ → ℕ
+endless n = ofZ w64 (n +ℤ pos 3456000000000000)
+
+pub micros-endless : ShutOut (placeOfMicros (pos 9000000000000000)) 8640000000000000 (endless (pos 9000000000000000)) 12456000000000000
+micros-endless = (refl, refl, λ e. omega arith)
+
+-- ---- micros_at
+-- the same, the other way
+pub micros-not-held : ShutOut (heldMicrosAt 9000000000000000) (pos 5184000000000000) (microsAt 9000000000000000) (pos 5544000000000000)
+micros-not-held = (refl, refl, differ natAbs (λ e. omega arith))
+
+-- held at day 0 from below
+abbrev notBefore : ℕ → ℤ
+notBefore m = pos (m - 3456000000000000)
+
+pub micros-not-before : ShutOut (heldMicrosAt 0) (negsuc 3455999999999999) (notBefore 0) (pos 0)
+micros-not-before = (refl, refl, differ natAbs (λ e. omega arith))
+
+-- ---- the laws, each at an input that meets its hypotheses: day -7300 and its place, a microsecond before day 0
+pub days-meet :
+    (placeOfDay (dayAt 32700) ≡ 32700) × (dayAt (placeOfDay (negsuc 7299)) ≡ negsuc 7299)
+    × (leZ (dayAt 29773) (negsuc 7299) ≡ leb 29773 32700) × (leZ (negsuc 7299) (dayAt 76524) ≡ leb 32700 76524)
+days-meet = (
+  place-day 32700 (lit≤ tt),
+  day-place (negsuc 7299) (lit< tt) (lit< tt),
+  day-from 29773 (negsuc 7299) (lit< tt) (lit≤ tt),
+  day-to 76524 (negsuc 7299) (lit< tt),
+)
+
+pub micros-meet : (placeOfMicros (microsAt 1) ≡ 1) × (microsAt (placeOfMicros (negsuc 0)) ≡ negsuc 0)
+micros-meet = (place-micros 1 (lit≤ tt), micros-place (negsuc 0) (lit< tt) (lit< tt))
+
+-- the microsecond before day 0 is the last of day -1, not the first of day 0
+pub floor-before-zero : (floorZ (negsuc 0) 86400000000 ≡ negsuc 0) × (modZ (negsuc 0) 86400000000 ≡ 86399999999)
+floor-before-zero = (refl, refl)

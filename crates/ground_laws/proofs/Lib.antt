@@ -1,0 +1,5 @@
+pub mod AxisWrong
+pub mod OctetsExamples
+pub mod OctetsWrong
+pub mod ScalesExamples
+pub mod ScalesWrong

@@ -1,0 +1,122 @@
+-- Wrong programs for the paper's words, each shut out by an input at which its answer is not the meaning's. Assumes nothing.
+use mathlib.Core.Path.{_≡_, refl}
+use mathlib.Core.Bool.{Bool, cond, _&&_}
+use Prim.Native.Nat.{ℕ, _-_, _/_, _%_}
+use native.Mathlib.Omega.{arith}
+use lib.Dec.{leb, ltb, eqb}
+use lib.IntN.{ℤ, pos, negsuc, natAbs}
+use lib.Signed.{leZ}
+use Rattle.evidence.specs.ShutOut.{ShutOut, differ}
+use Rattle.axis.specs.Meaning.{dayAt}
+use Rattle.scales.specs.Meaning.{first, last, bound, numberOf, Slip, Moment, given, gives, outcome, dated, spanned, recordOf, recordAt}
+use Rattle.scales.specs.declared.Scale.{Scale}
+use Rattle.scales.specs.declared.Scale.the-variants as S
+use Rattle.scales.specs.declared.Refusal.{Refusal}
+use Rattle.scales.specs.declared.Refusal.the-variants as R
+use Rattle.scales.specs.declared.Record.{Record}
+
+-- ---- Refusal::number
+-- the rows counted from 0
+abbrev fromRowZero : Refusal → ℕ
+fromRowZero f = numberOf f - 1
+
+pub number-from-zero : ShutOut (numberOf R.Span) 7 (fromRowZero R.Span) 6
+number-from-zero = (refl, refl, λ e. omega arith)
+
+-- 9 and 10 in each other's place
+abbrev swapped : Refusal → ℕ
+swapped f = cond (eqb (numberOf f) 9) 10 (cond (eqb (numberOf f) 10) 9 (numberOf f))
+
+pub number-swapped : ShutOut (numberOf R.Expired) 9 (swapped R.Expired) 10
+number-swapped = (refl, refl, λ e. omega arith)
+
+-- ---- the constructors, and `judged` and `to_time` of a record: a desk with another test in the place of the span's
+abbrev desk : (Scale → ℤ → ℕ → Bool) → ℕ → Scale → ℤ → ℕ → Slip
+desk test n s d u = dated s (outcome (given (test s d u) n (gives (record { day = d; micro = u }))))
+
+abbrev answered : Scale → ℤ → ℕ → Slip
+answered s d u = record { number = 0; scale = s; day = d; micro = u }
+
+abbrev empty : ℕ → Scale → Slip
+empty n s = record { number = n; scale = s; day = pos 0; micro = 0 }
+
+apart : {x y : Slip} → (x .number ≡ y .number → ⊥) → x ≡ y → ⊥
+apart d e = differ (λ (t : Slip). t .number) d e
+
+-- one day more
+abbrev oneDayMore : Scale → ℤ → ℕ → Bool
+oneDayMore s d u = leZ (first s) d && (leZ d (pos 36525) && ltb u (bound s))
+
+pub span-one-day-more : ShutOut (spanned S.Tai (pos 36525) 0) (empty 7 S.Tai) (desk oneDayMore 7 S.Tai (pos 36525) 0) (answered S.Tai (pos 36525) 0)
+unfolding spanned
+span-one-day-more = (refl, refl, apart (λ e. omega arith))
+
+-- the bound itself taken
+abbrev boundTaken : Scale → ℤ → ℕ → Bool
+boundTaken s d u = leZ (first s) d && (leZ d (last s) && leb u (bound s))
+
+pub span-bound-taken : ShutOut (spanned S.Tai (pos 0) 86400000000) (empty 7 S.Tai) (desk boundTaken 7 S.Tai (pos 0) 86400000000) (answered S.Tai (pos 0) 86400000000)
+unfolding spanned
+span-bound-taken = (refl, refl, apart (λ e. omega arith))
+
+-- one first day for all scales
+abbrev oneFirstDay : Scale → ℤ → ℕ → Bool
+oneFirstDay s d u = leZ (first S.Tai) d && (leZ d (last s) && ltb u (bound s))
+
+pub span-one-first-day : ShutOut (spanned S.Gps (negsuc 7300) 0) (empty 7 S.Gps) (desk oneFirstDay 7 S.Gps (negsuc 7300) 0) (answered S.Gps (negsuc 7300) 0)
+unfolding spanned
+span-one-first-day = (refl, refl, apart (λ e. omega arith))
+
+-- no second 60 in UTC
+abbrev noSixty : Scale → ℤ → ℕ → Bool
+noSixty s d u = leZ (first s) d && (leZ d (last s) && ltb u 86400000000)
+
+pub span-no-sixty : ShutOut (spanned S.Utc (pos 6209) 86400000000) (answered S.Utc (pos 6209) 86400000000) (desk noSixty 7 S.Utc (pos 6209) 86400000000) (empty 7 S.Utc)
+unfolding spanned
+span-no-sixty = (refl, refl, apart (λ e. omega arith))
+
+-- another number
+pub span-eleven : ShutOut (spanned S.Utc (pos 36525) 0) (empty 7 S.Utc) (desk oneFirstDay 11 S.Utc (pos 36525) 0) (empty 11 S.Utc)
+unfolding spanned
+span-eleven = (refl, refl, apart (λ e. omega arith))
+
+-- a refusal that hands back what was handed in
+abbrev handsBack : Scale → ℤ → ℕ → Slip
+handsBack s d u = record { number = 7; scale = s; day = d; micro = u }
+
+pub span-hands-back : ShutOut (spanned S.Tai (pos 36525) 5) (empty 7 S.Tai) (handsBack S.Tai (pos 36525) 5) (record { number = 7; scale = S.Tai; day = pos 36525; micro = 5 })
+unfolding spanned
+span-hands-back = (refl, refl, differ (λ (t : Slip). t .micro) (λ e. omega arith))
+
+-- ---- to_record
+-- UTC counts with 86,400 s a day
+abbrev evenDays : Scale → ℕ → Record
+evenDays s n = recordOf s (dayAt (n / 86400000000)) (n % 86400000000)
+
+pub record-even-days :
+    ShutOut (recordAt S.Utc 3456040000000000) (recordOf S.Utc (pos 0) 0) (evenDays S.Utc 3456040000000000) (recordOf S.Utc (pos 0) 40000000000)
+record-even-days = (refl, refl, differ (λ (r : Record). r .micro) (λ e. omega arith))
+
+-- the place handed out as the day
+abbrev placeAsDay : Scale → ℕ → Record
+placeAsDay s n = recordOf s (pos (n / bound s)) (n % bound s)
+
+pub record-place-as-day :
+    ShutOut (recordAt S.Tai 3456000000000000) (recordOf S.Tai (pos 0) 0) (placeAsDay S.Tai 3456000000000000) (recordOf S.Tai (pos 40000) 0)
+record-place-as-day = (refl, refl, differ (λ (r : Record). natAbs (r .day)) (λ e. omega arith))
+
+-- ---- Record::new
+-- the microsecond brought into the day: a record is kept as handed in, so that 7 can be judged later
+abbrev carried : Scale → ℤ → ℕ → Record
+carried s d u = recordOf s d (u % bound s)
+
+pub record-carried :
+    ShutOut (recordOf S.Gps (pos 0) 86400000001) (recordOf S.Gps (pos 0) 86400000001) (carried S.Gps (pos 0) 86400000001) (recordOf S.Gps (pos 0) 1)
+record-carried = (refl, refl, differ (λ (r : Record). r .micro) (λ e. omega arith))
+
+-- every record TAI
+abbrev allTai : Scale → ℤ → ℕ → Record
+allTai s d u = recordOf S.Tai d u
+
+pub record-all-tai : ShutOut (recordOf S.Utc (pos 0) 0) (recordOf S.Utc (pos 0) 0) (allTai S.Utc (pos 0) 0) (recordOf S.Tai (pos 0) 0)
+record-all-tai = (refl, refl, differ (λ (r : Record). bound (r .scale)) (λ e. omega arith))
