@@ -1,6 +1,6 @@
 -- What a typed count tells, over the scale: from a constructor's count to its slip, and from a slip back. Assumes nothing.
 use mathlib.Core.Path.{_≡_, refl, sym, ap, ap₂, subst, _∙_}
-use mathlib.Core.Bool.{Bool, true, false}
+use mathlib.Core.Bool.{Bool, true, false, cond}
 use Prim.Native.Nat.{ℕ, _+_, _*_, _≤_, _<_}
 use native.Mathlib.Nat.{mul-le-mul}
 use native.Mathlib.Omega.{arith}
@@ -8,7 +8,7 @@ use lib.IntN.{ℤ}
 use Rattle.axis.specs.Meaning.{placeOfDay}
 use Rattle.axis.specs.Shift.{place-top}
 use Rattle.scales.specs.Meaning.{bound, inSpan, answer, dated, Moment, numberOf, momentAt, at, no, slipOf, spanned, timeScale, timeCount, timeAt, slipTimed}
-use Rattle.scales.specs.Place.{firstAt, lastAt, apart, out-early, out-late, out-over, in-span, spanOf, countOf, moment-of, count-inj, counted, pickCounted, spanned-in, spanned-out}
+use Rattle.scales.specs.Place.{firstAt, lastAt, apart, out-early, out-late, out-over, in-span, spanOf, countOf, moment-of, count-inj, counted, spanned-in, spanned-out}
 use Rattle.scales.specs.Same.{some, refusals, time-is, time-scale, time-count}
 use Rattle.scales.specs.declared.Scale.{Scale}
 use Rattle.scales.specs.declared.Refusal.{Refusal}
@@ -48,11 +48,11 @@ module _ (s : Scale) (d : ℤ) (u p : ℕ) (w : Span) (e : p ≡ placeOfDay d) (
 
 module _ (s : Scale) (d : ℤ) (u : ℕ) where
   -- ---- what a count tells, and its slip
-  at-by : (t : Bool) → inSpan s d u ≡ t → (n : ℕ) → pickCounted t (C.At (countOf s d u)) C.Outside ≡ C.At n → (inSpan s d u ≡ true) × (n ≡ countOf s d u)
+  at-by : (t : Bool) → inSpan s d u ≡ t → (n : ℕ) → cond t (C.At (countOf s d u)) C.Outside ≡ C.At n → (inSpan s d u ≡ true) × (n ≡ countOf s d u)
   at-by true e n f = (e, cc)
   at-by false e n f = absurd (let z : _≡_ {A = ℕ} 0 1 = cc in omega arith)
 
-  out-by : (t : Bool) → inSpan s d u ≡ t → pickCounted t (C.At (countOf s d u)) C.Outside ≡ C.Outside → inSpan s d u ≡ false
+  out-by : (t : Bool) → inSpan s d u ≡ t → cond t (C.At (countOf s d u)) C.Outside ≡ C.Outside → inSpan s d u ≡ false
   out-by true e f = absurd (let z : _≡_ {A = ℕ} 0 1 = cc in omega arith)
   out-by false e f = e
 

@@ -1,6 +1,6 @@
 -- The paper's words: the spans of the scales, the order of the refusals, what an answer hands back and what a refusal hands
 -- back. Days are signed, counted from 1 January 2000. Assumes nothing.
-use mathlib.Core.Bool.{Bool, true, false, _&&_}
+use mathlib.Core.Bool.{Bool, true, false, cond, _&&_}
 use mathlib.Core.List.{List, [], _∷_}
 use Prim.Native.Nat.{ℕ, _/_, _%_}
 use lib.Dec.{ltb, eqb}
@@ -54,12 +54,8 @@ pub data Outcome (A : Type 0) : Type 0 where
   refused : ℕ → Outcome A
   answer : A → Outcome A
 
-abbrev pub pass : {A : Type 0} → Bool → ℕ → Outcome A → Outcome A
-pass true n rest = rest
-pass false n rest = refused n
-
 abbrev pub outcome : {A : Type 0} → Judged A → Outcome A
-outcome (given t n rest) = pass t n (outcome rest)
+outcome (given t n rest) = cond t (outcome rest) (refused n)
 outcome (gives a) = answer a
 
 -- the numbers that a function may refuse with, as it judges them
@@ -71,15 +67,11 @@ numbers (gives a) = []
 abbrev pub order : List ℕ
 order = 1 ∷ 2 ∷ 3 ∷ 4 ∷ 5 ∷ 6 ∷ 7 ∷ 8 ∷ 9 ∷ 10 ∷ 11 ∷ 12 ∷ 13 ∷ []
 
-abbrev pub either : Bool → Bool → Bool → Bool
-either true a b = a
-either false a b = b
-
 -- numbers stand in an order: each is there, after the one before
 abbrev pub standsIn : List ℕ → List ℕ → Bool
 standsIn [] os = true
 standsIn (n ∷ ns) [] = false
-standsIn (n ∷ ns) (o ∷ os) = either (eqb n o) (standsIn ns os) (standsIn (n ∷ ns) os)
+standsIn (n ∷ ns) (o ∷ os) = cond (eqb n o) (standsIn ns os) (standsIn (n ∷ ns) os)
 
 -- ---- what the desk hands back of a time: the number (0 for an answer), the scale, the day and the microsecond
 pub record Slip : Type 0 where

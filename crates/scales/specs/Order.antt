@@ -3,7 +3,7 @@ use mathlib.Core.Path.{_≡_, refl, sym, ap, subst, _∙_}
 use mathlib.Core.Bool.{Bool, true, false}
 use Prim.Native.Nat.{ℕ}
 use native.Mathlib.Omega.{arith}
-use Rattle.scales.specs.Meaning.{Judged, given, gives, Outcome, refused, answer, pass, outcome}
+use Rattle.scales.specs.Meaning.{Judged, given, gives, Outcome, refused, answer, outcome}
 
 -- a chain refuses with n: the test beside n fails, and every test before it holds
 pub data Refuses {A : Type 0} : Judged A → ℕ → Type 0 where

@@ -1,6 +1,6 @@
 -- The spans on the axis, one law over the scale, and what a typed count is. Assumes nothing.
 use mathlib.Core.Path.{_≡_, refl, sym, ap, ap₂, _∙_}
-use mathlib.Core.Bool.{Bool, true, false, _&&_}
+use mathlib.Core.Bool.{Bool, true, false, cond, _&&_}
 use Prim.Native.Nat.{ℕ, _≤_, _<_, _+_, _*_, _/_, _%_}
 use native.Mathlib.Omega.{arith}
 use native.Mathlib.Nat.{div-eq-of-lt-le, mul-add-mod-self-right, mod-eq-of-lt, div-add-mod'}
@@ -132,9 +132,5 @@ spanFrom f l b = record { first = placeOfDay f; last = placeOfDay l; bound = b }
 abbrev pub spanOf : Scale → Span
 spanOf s = spanFrom (first s) (last s) (bound s)
 
-abbrev pub pickCounted : Bool → Counted → Counted → Counted
-pickCounted true a b = a
-pickCounted false a b = b
-
 abbrev pub counted : Scale → ℤ → ℕ → Counted
-counted s d u = pickCounted (inSpan s d u) (C.At (countOf s d u)) C.Outside
+counted s d u = cond (inSpan s d u) (C.At (countOf s d u)) C.Outside
