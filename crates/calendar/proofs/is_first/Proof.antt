@@ -1,0 +1,63 @@
+-- `calendar::is_first` meets its contract: one law for each way out. Assumes nothing.
+use Prim.Native.Nat.{ℕ, _-_}
+use mathlib.Core.Path.{_≡_, sym, ap, _∙_}
+use native.Mathlib.Omega.{arith}
+use lib.Dec.{eqb}
+use mir.Facts.{toZ-ofZ}
+use borrow.Author.Needs.{needs}
+use Rattle.axis.specs.Meaning.{placeOfDay}
+use Rattle.calendar.specs.Meaning.{firstDay, walk}
+use Rattle.calendar.specs.Days.{first-early, first-late, first-within}
+use Rattle.calendar.proofs.Near.{near-is}
+use Rattle.calendar.proofs.is_first.Statement.{statement}
+use Rattle.calendar.proofs.is_first.Tie as tie
+
+place-of-day-requires : tie.Need-place-of-day-requires
+place-of-day-requires c κs = search needs
+
+-- the callee read the day from its bits
+seen : (c : tie.After-place-of-day) → c .place-of-day .result ≡ placeOfDay (c .before .args .day)
+seen c = c .place-of-day .ensures ∙ ap placeOfDay (toZ-ofZ (c .before .fits .day))
+
+returns : tie.Need-returns
+returns c = let b = c .before in sym (first-early (b .before .args .day) (omega (arith, seen b)))
+
+returns-2 : tie.Need-returns-2
+returns-2 c = let b = c .before .before in sym (first-late (b .before .args .day) (omega (arith, seen b)))
+
+month-near-requires : tie.Need-month-near-requires
+month-near-requires c κs = search needs
+
+mul-wide : tie.Need-mul-wide
+mul-wide c = search needs
+
+element-copy-out-wide : tie.Need-element-copy-out-wide
+element-copy-out-wide c = search needs
+
+wide-requires : tie.Need-wide-requires
+wide-requires c κs = search needs
+
+returns-3 : tie.Need-returns-3
+returns-3 c =
+    let s = c .before .before in
+    let b = s .before .before .before in
+    let p = b .place-of-day .result in
+    let d = b .before .args .day in
+    ap (λ (x : ℕ). eqb x (p - 29773))
+    (c .wide .ensures ∙ b .before .pre .entry (s .month-near .result) (omega arith) ∙ ap firstDay (s .month-near .ensures))
+    ∙ near-is (p - 29773) (omega arith)
+    ∙ ap (λ (x : ℕ). eqb (walk 1536 0 (x - 29773) .past) 0) (seen b)
+    ∙ sym (first-within d (omega (arith, seen b)) (omega (arith, seen b)))
+
+pub is-first-spec : {M : Type 1} → statement M
+is-first-spec =
+    tie.close
+    (tie.spec
+    place-of-day-requires
+    returns
+    returns-2
+    month-near-requires
+    mul-wide
+    element-copy-out-wide
+    wide-requires
+    returns-3)

@@ -1,0 +1,1 @@
+// Theorems over the calendar's meanings, in specs/.
