@@ -26,21 +26,17 @@ class Fact:
 
 
 def _tree(text):
-    """The tokens; a list for each (..) and a tuple for each {..}."""
-    levels = [("", [])]
+    """The tokens; a list for each (..) and a tuple for each {..}. Whoever read the clause matched its brackets."""
+    levels = [[]]
     for token in _TOKEN.findall(text):
         if token in "({":
-            levels.append((token, []))
+            levels.append([])
         elif token in ")}":
-            opened, inside = levels.pop()
-            if opened + token not in ("()", "{}"):
-                raise Refused("its brackets do not match")
-            levels[-1][1].append(inside if opened == "(" else tuple(inside))
+            inside = levels.pop()
+            levels[-1].append(inside if token == ")" else tuple(inside))
         else:
-            levels[-1][1].append(token.strip("«»"))
-    if len(levels) != 1:
-        raise Refused("its brackets do not match")
-    return levels[0][1]
+            levels[-1].append(token.strip("«»"))
+    return levels[0]
 
 
 def words(term):

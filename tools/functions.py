@@ -158,7 +158,17 @@ class Crate:
         except Unreadable as wrong:
             raise Unreadable(f"line {line}: {name}: {wrong}") from None
         return end + 1, Function(
-            crate=self.name, file=path, line=line, modules=modules, owner=owner, name=name, public=False,
-            params=params, result="" if result == "()" else result,
-            requires=clauses["requires"], ensures=clauses["ensures"], body=text[at : end + 1], imports=imports,
-        )  # fmt: skip
+            crate=self.name,
+            file=path,
+            line=line,
+            modules=modules,
+            owner=owner,
+            name=name,
+            public=False,
+            params=params,
+            result="" if result == "()" else result,
+            requires=clauses["requires"],
+            ensures=clauses["ensures"],
+            body=text[at : end + 1],
+            imports=imports,
+        )
