@@ -41,7 +41,7 @@ pub first-end : firstDay 1536 ≡ 46752
 unfolding firstDay lengthOf monthLength leap
 first-end = refl
 
--- a later month starts at least 28 days later for each month between
+-- a later month starts later, by a day at least for each month between
 first-later : (k d : ℕ) → firstDay k + d ≤ firstDay (k + d)
 first-later k zero = rw (add-zero (firstDay k), add-zero k) (omega arith)
 first-later k (suc d) = rw (add-suc k d, first-next) (omega (arith, first-later k d, length-bounds (k + d)))

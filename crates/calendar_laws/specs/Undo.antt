@@ -1,5 +1,5 @@
 -- The date of a day and the day of a date undo each other. Assumes nothing.
-use mathlib.Core.Path.{_≡_, sym, ap, _∙_}
+use mathlib.Core.Path.{_≡_, refl, sym, ap, _∙_}
 use mathlib.Core.Bool.{true}
 use Prim.Native.Nat.{ℕ, _+_, _-_, _<_, _≤_}
 use native.Mathlib.Omega.{arith}
@@ -64,6 +64,9 @@ has-date d h k =
     let f = leb-true 29773 (placeOfDay d) (sym (day-from 29773 d (lit< tt) (lit≤ tt)) ∙ h) in
     let g = leb-true (placeOfDay d) 76524 (sym (day-to 76524 d (lit< tt)) ∙ k) in
     record { date = dateAt (walk 1536 0 (placeOfDay d - 29773)); is = sym (date-within d f g) }
+
+pub has-date-instance : dateOfDay (pos 59) ≡ dateHanded (answer (has-date (pos 59) refl refl .date))
+has-date-instance = has-date (pos 59) refl refl .is
 
 -- ---- the date of the day of a date is the date
 pub date-of-day : (t : Date) (d : ℤ) → dayOfDate t ≡ dayHanded (answer d) → dateOfDay d ≡ dateHanded (answer t)
