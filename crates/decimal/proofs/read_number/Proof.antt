@@ -1,0 +1,108 @@
+-- `decimal::read_number` meets its contract: the four ways out are those of `proofs/Value.antt`. Assumes nothing.
+use mathlib.Core.Path.{_≡_, sym, ap, subst, _∙_}
+use mathlib.Core.Bool.{Bool, true}
+use Prim.Native.Nat.{ℕ, _*_, _^_, _≤_}
+use native.Mathlib.Omega.{arith}
+use lib.Pow.{pow-pos}
+use Rattle.decimal.specs.Meaning.{dayMicros}
+use Rattle.decimal.specs.Parts.{valueOf, inside}
+use Rattle.decimal.specs.Signs.{within}
+use Rattle.decimal.proofs.Value.{after-is, before-is, value-out, one-less, micros-before}
+use borrow.Author.Needs.{needs}
+use Rattle.decimal.proofs.read_number.Statement.{statement}
+use Rattle.decimal.proofs.read_number.Tie as tie
+
+sub-below : tie.Need-sub-below
+sub-below c = search needs
+
+below-requires : tie.Need-below-requires
+below-requires c κs = search needs
+
+sub-scaled : tie.Need-sub-scaled
+sub-scaled c = search needs
+
+sub-scaled-2 : tie.Need-sub-scaled-2
+sub-scaled-2 c = search needs
+
+scaled-requires : tie.Need-scaled-requires
+scaled-requires c κs = search needs
+
+-- before day 0, in the span
+early : (c : tie.After-scaled) → let a = c .before .before .before .before .args in inside (a .first) true (a .q) (2 ^ a .sh) ≡ true
+early c =
+    let b = c .before .before in
+    let z = b .before .before in
+    let a = z .args in
+    one-less (a .first) (a .q) (a .sh) (z .pre .4) (z .pre .2) ∙ sym (b .below .ensures) ∙ c .before .if2 .taken
+
+less : (c : tie.After-scaled) → c .scaled .result ≤ 36525 * dayMicros
+less c =
+    let z = c .before .before .before .before in
+    let a = z .args in
+    subst (λ (n : ℕ). n ≤ 36525 * dayMicros) (sym (micros-before (a .first) (a .q) (a .sh) (z .pre .4) (z .pre .2) (c .scaled .result) (c .scaled .ensures .0)))
+    (within (a .first) true (a .q) (2 ^ a .sh) (z .pre .1) (pow-pos (a .sh)) (early c) .2)
+
+sub-t11 : tie.Need-sub-t11
+sub-t11 c = omega (arith, less c)
+
+returns : tie.Need-returns
+returns c =
+    let z = c .before .before .before .before in
+    let a = z .args in
+    before-is (a .first) (a .q) (a .sh) (z .pre .4) (z .pre .2) (c .scaled .result) (early c) (c .scaled .ensures .0)
+    ∙ ap (λ (t : Bool). valueOf (a .first) t (a .q) (2 ^ a .sh)) (sym (c .before .before .before .if1 .taken))
+
+returns-2 : tie.Need-returns-2
+returns-2 c =
+    let b = c .before in
+    let z = b .before .before in
+    let a = z .args in
+    sym (value-out (a .first) (a .neg) (a .q) (2 ^ a .sh)
+    (ap (λ (t : Bool). inside (a .first) t (a .q) (2 ^ a .sh)) (b .before .if1 .taken)
+    ∙ one-less (a .first) (a .q) (a .sh) (z .pre .4) (z .pre .2) ∙ sym (b .below .ensures) ∙ c .if2 .left))
+
+below-requires-2 : tie.Need-below-requires-2
+below-requires-2 c κs = search needs
+
+sub-scaled-3 : tie.Need-sub-scaled-3
+sub-scaled-3 c = search needs
+
+scaled-requires-2 : tie.Need-scaled-requires-2
+scaled-requires-2 c κs = search needs
+
+add-t15 : tie.Need-add-t15
+add-t15 c = search needs
+
+returns-3 : tie.Need-returns-3
+returns-3 c =
+    let b = c .before .before in
+    let z = b .before .before in
+    let a = z .args in
+    after-is (a .first) (a .q) (a .sh) (z .pre .4) (c .scaled2 .result) (sym (b .below2 .ensures) ∙ c .before .if3 .taken) (c .scaled2 .ensures .0)
+    ∙ ap (λ (t : Bool). valueOf (a .first) t (a .q) (2 ^ a .sh)) (sym (b .before .if1 .left))
+
+returns-4 : tie.Need-returns-4
+returns-4 c =
+    let b = c .before in
+    let a = b .before .before .args in
+    sym (value-out (a .first) (a .neg) (a .q) (2 ^ a .sh)
+    (ap (λ (t : Bool). inside (a .first) t (a .q) (2 ^ a .sh)) (b .before .if1 .left) ∙ sym (b .below2 .ensures) ∙ c .if3 .left))
+
+pub read-number-spec : {M : Type 1} → statement M
+read-number-spec =
+    tie.close
+    (tie.spec
+    sub-below
+    below-requires
+    sub-scaled
+    sub-scaled-2
+    scaled-requires
+    sub-t11
+    returns
+    returns-2
+    below-requires-2
+    sub-scaled-3
+    scaled-requires-2
+    add-t15
+    returns-3
+    returns-4)

@@ -1,0 +1,45 @@
+-- `decimal::time_of` meets its contract. Assumes nothing.
+use mathlib.Core.Path.{sym, ap, _∙_}
+use native.Mathlib.Nat.{div-add-mod'}
+use Rattle.scales.specs.Meaning.{timeAt}
+use Rattle.scales.specs.declared.Scale.{Scale}
+use Rattle.scales.specs.declared.Scale.the-variants as S
+use Rattle.decimal.specs.Parts.{timeOf}
+use borrow.Author.Needs.{needs}
+use Rattle.decimal.proofs.time_of.Statement.{statement}
+use Rattle.decimal.proofs.time_of.Tie as tie
+
+enum-told : tie.Need-enum-told
+enum-told c = search needs
+
+enum-told-2 : tie.Need-enum-told-2
+enum-told-2 c = search needs
+
+mul-t6 : tie.Need-mul-t6
+mul-t6 c = search needs
+
+add-t8 : tie.Need-add-t8
+add-t8 c = search needs
+
+enum-told-3 : tie.Need-enum-told-3
+enum-told-3 c = search needs
+
+returns : tie.Need-returns
+returns c =
+    let a = c .before .before .args in
+    sym (ap (λ (s : Scale). timeOf s (a .n)) (c .enum-told .given .1) ∙ ap (timeAt S.Tai) (div-add-mod' (a .n) 86400000000))
+
+returns-2 : tie.Need-returns-2
+returns-2 c =
+    let a = c .before .before .args in
+    sym (ap (λ (s : Scale). timeOf s (a .n)) (c .enum-told2 .given .1))
+
+returns-3 : tie.Need-returns-3
+returns-3 c =
+    let a = c .before .before .args in
+    sym (ap (λ (s : Scale). timeOf s (a .n)) (c .enum-told3 .given .1) ∙ ap (timeAt S.Gps) (div-add-mod' (a .n) 86400000000))
+
+pub time-of-spec : {M : Type 1} → statement M
+time-of-spec =
+    tie.close
+    (tie.spec enum-told enum-told-2 mul-t6 add-t8 enum-told-3 returns returns-2 returns-3)

@@ -1,0 +1,185 @@
+-- Wrong programs for decimal days, each shut out by an input at which its answer is not the meaning's. Assumes nothing.
+use mathlib.Core.Path.{_≡_, refl}
+use mathlib.Core.Bool.{Bool, true, false, cond}
+use Prim.Native.Nat.{ℕ, _+_, _*_, _/_}
+use native.Mathlib.Omega.{arith}
+use lib.Dec.{lit<, lit≤}
+use lib.IntN.{ℤ, pos, negsuc, negℤ, natAbs, _*ℤ_}
+use lib.Ieee.{Float, nan, inf, fin, binary64, fits, neg, div, ofInt}
+use lib.Ieee.Fits.{eq→eqb}
+use Rattle.evidence.specs.ShutOut.{ShutOut, differ}
+use Rattle.axis.specs.Meaning.{placeOfDay, floorZ, modZ}
+use Rattle.scales.specs.Meaning.{inSpan, given, gives, outcome, Slip, dated, timeCount, timeAt, recordOf}
+use Rattle.scales.specs.declared.Scale.{Scale}
+use Rattle.scales.specs.declared.Scale.the-variants as S
+use Rattle.scales.specs.declared.Refusal.the-variants as R
+use Rattle.scales.specs.declared.Handed.{Handed}
+use Rattle.scales.specs.declared.Handed.the-variants as H
+use Rattle.decimal.specs.Meaning.{dayMicros, Exact, exactOf, over, under, signedOver, signed, finite, spans, nearest, microsOf, scaleOf, isFinite, dayOf, microOf, takenOf, readOf, since, plusZero, decimalSlip, WroteDay}
+use Rattle.decimal.specs.declared.Decimal.{Decimal}
+use Rattle.decimal.specs.declared.Decimal.the-variants as D
+use Rattle.decimal.specs.declared.Taken.{Taken}
+use Rattle.decimal.specs.declared.Taken.the-variants as K
+
+-- ---- read: a desk with another nearest microsecond
+abbrev desk : (Scale → Exact → Bool) → (Exact → ℤ) → Float → Scale → Slip
+desk test micros x s =
+    dated s (outcome (given (finite x) 4 (given (test s (exactOf x)) 7
+    (gives (record { day = floorZ (micros (exactOf x)) dayMicros; micro = modZ (micros (exactOf x)) dayMicros })))))
+
+abbrev slipAt : ℕ → Scale → ℤ → ℕ → Slip
+slipAt n s d u = record { number = n; scale = s; day = d; micro = u }
+
+byMicro : {x y : Slip} → (x .micro ≡ y .micro → ⊥) → x ≡ y → ⊥
+byMicro d e = differ (λ (t : Slip). t .micro) d e
+
+byNumber : {x y : Slip} → (x .number ≡ y .number → ⊥) → x ≡ y → ⊥
+byNumber d e = differ (λ (t : Slip). t .number) d e
+
+-- ties to the earlier: 2 ^ -14 days are 5,273,437.5 microseconds
+abbrev tieEarlier : Exact → ℤ
+tieEarlier v = negℤ (nearest (negℤ (signedOver v *ℤ pos dayMicros)) (under v))
+
+pub read-tie-earlier :
+    ShutOut (readOf (fin false 1 (negsuc 13)) S.Tai) (slipAt 0 S.Tai (pos 0) 5273438) (desk spans tieEarlier (fin false 1 (negsuc 13)) S.Tai) (slipAt 0 S.Tai (pos 0) 5273437)
+unfolding readOf
+read-tie-earlier = (refl, refl, byMicro (λ e. omega arith))
+
+-- truncation: 2 ^ -15 days are 2,636,718.75 microseconds
+abbrev truncated : Exact → ℤ
+truncated v = signed (v .minus) (over v * dayMicros / under v)
+
+pub read-truncated :
+    ShutOut (readOf (fin false 1 (negsuc 14)) S.Tai) (slipAt 0 S.Tai (pos 0) 2636719) (desk spans truncated (fin false 1 (negsuc 14)) S.Tai) (slipAt 0 S.Tai (pos 0) 2636718)
+unfolding readOf
+read-truncated = (refl, refl, byMicro (λ e. omega arith))
+
+-- minus zero as day -1: every double with a minus sign is put before day 0
+abbrev signFirst : Float → Scale → Slip
+signFirst x s = record { number = 0; scale = s; day = cond (exactOf x .minus) (negsuc (natAbs (microsOf (exactOf x)) / dayMicros)) (floorZ (microsOf (exactOf x)) dayMicros); micro = modZ (microsOf (exactOf x)) dayMicros }
+
+pub read-minus-zero :
+    ShutOut (readOf (fin true 0 (pos 0)) S.Tai) (slipAt 0 S.Tai (pos 0) 0) (signFirst (fin true 0 (pos 0)) S.Tai) (slipAt 0 S.Tai (negsuc 0) 0)
+unfolding readOf
+read-minus-zero = (refl, refl, differ (λ (t : Slip). natAbs (t .day)) (λ e. omega arith))
+
+-- the span judged on the rounded value: the double before -10227 is less than half a microsecond from it
+abbrev roundedFirst : Scale → Exact → Bool
+roundedFirst s v = inSpan s (floorZ (microsOf v) dayMicros) (modZ (microsOf v) dayMicros)
+
+pub read-rounded-first :
+    ShutOut (readOf (fin true 5622352708632577 (negsuc 38)) S.Tai) (slipAt 7 S.Tai (pos 0) 0) (desk roundedFirst microsOf (fin true 5622352708632577 (negsuc 38)) S.Tai) (slipAt 0 S.Tai (negsuc 10226) 0)
+unfolding readOf
+read-rounded-first = (refl, refl, byNumber (λ e. omega arith))
+
+-- the empty record always of TAI
+pub read-empty-tai : ShutOut (readOf (inf false) S.Gps) (slipAt 4 S.Gps (pos 0) 0) (desk spans microsOf (inf false) S.Tai) (slipAt 4 S.Tai (pos 0) 0)
+unfolding readOf
+read-empty-tai = (refl, refl, differ (λ (t : Slip). code (t .scale)) (λ e. omega arith))
+  where
+    code : Scale → ℕ
+    code S.Tai = 0
+    code S.Utc = 1
+    code S.Gps = 2
+
+-- 7 for what is no number
+abbrev sevenForAll : Float → Scale → Slip
+sevenForAll x s = dated s (outcome (given (finite x) 7 (gives (record { day = pos 0; micro = 0 }))))
+
+pub read-seven : ShutOut (readOf nan S.Tai) (slipAt 4 S.Tai (pos 0) 0) (sevenForAll nan S.Tai) (slipAt 7 S.Tai (pos 0) 0)
+unfolding readOf
+read-seven = (refl, refl, byNumber (λ e. omega arith))
+
+-- ---- take
+abbrev kindOf : Taken → ℕ
+kindOf (K.NotFinite s) = 0
+kindOf (K.Outside s) = 1
+kindOf (K.At t) = 2 + timeCount t
+
+-- what is not finite taken as outside its span
+abbrev merged : Handed → Taken
+merged h = cond (isFinite h) (takenOf h) (K.Outside (scaleOf h))
+
+pub take-merged : ShutOut (takenOf (H.Decimal nan S.Utc)) (K.NotFinite S.Utc) (merged (H.Decimal nan S.Utc)) (K.Outside S.Utc)
+unfolding takenOf
+take-merged = (refl, refl, differ kindOf (λ e. omega arith))
+
+-- UTC counted with 86,400 s a day
+abbrev evenDays : Handed → Taken
+evenDays h = K.At (timeAt (scaleOf h) (placeOfDay (dayOf h) * dayMicros + microOf h))
+
+pub take-even-days :
+    ShutOut (takenOf (H.Record (recordOf S.Utc (pos 0) 0))) (K.At (timeAt S.Utc 3456040000000000)) (evenDays (H.Record (recordOf S.Utc (pos 0) 0))) (K.At (timeAt S.Utc 3456000000000000))
+unfolding takenOf
+take-even-days = (refl, refl, differ kindOf (λ e. omega arith))
+
+-- ---- write: the contract allows a alone (`wrote-one`), the wrong program answers b
+abbrev ShutWrite : Handed → Decimal → Decimal → Decimal → Type 0
+ShutWrite h a wrong b = WroteDay h a × (wrong ≡ b) × (a ≡ b → ⊥)
+
+byDayNumber : {x y : Decimal} → (decimalSlip x .number ≡ decimalSlip y .number → ⊥) → x ≡ y → ⊥
+byDayNumber d e = differ (λ (t : Decimal). decimalSlip t .number) d e
+
+bySignificand : {x y : Decimal} → (exactOf (decimalSlip x .day) .significand ≡ exactOf (decimalSlip y .day) .significand → ⊥) → x ≡ y → ⊥
+bySignificand d e = differ (λ (t : Decimal). exactOf (decimalSlip t .day) .significand) d e
+
+abbrev micros5 : Handed
+micros5 = H.Record (recordOf S.Tai (pos 0) 5)
+
+abbrev days5 : Float
+days5 = fin false 8955006071219475 (negsuc 86)
+
+days5-written : WroteDay micros5 (D.Day days5)
+unfolding fits
+days5-written = (
+  refl,
+  record {
+    double = tt;
+    q = 8955006071219475;
+    k = 987;
+    value = record { ends = refl; sign = refl; size = refl };
+    least = lit≤ tt;
+    most = lit< tt;
+    near = lit≤ tt;
+    tie = λ t. absurd (eq→eqb t);
+  },
+)
+
+-- the f64 quotient of the microseconds since day 0 by some whole number
+abbrev over64 : Handed → ℕ → Float
+over64 h d = div binary64 (ofInt binary64 (since (dayOf h) (microOf h))) (ofInt binary64 (pos d))
+
+-- another divisor
+abbrev utcDays : Handed → Decimal
+utcDays h = D.Day (over64 h 86401000000)
+
+pub write-other-divisor : ShutWrite micros5 (D.Day days5) (utcDays micros5) (D.Day (fin false 8954902426515465 (negsuc 86)))
+unfolding div ofInt
+write-other-divisor = (days5-written, refl, bySignificand (λ e. omega arith))
+
+-- a quotient rounded twice: to seconds, then to days
+abbrev twice : Handed → Decimal
+twice h = D.Day (div binary64 (over64 h 1000000) (ofInt binary64 (pos 86400)))
+
+pub write-rounded-twice : ShutWrite micros5 (D.Day days5) (twice micros5) (D.Day (fin false 2238751517804869 (negsuc 84)))
+unfolding div ofInt
+write-rounded-twice = (days5-written, refl, bySignificand (λ e. omega arith))
+
+-- zero with a minus sign: the count before day 0 is negated
+abbrev negated : Handed → Decimal
+negated h = D.Day (div binary64 (neg (ofInt binary64 (negℤ (since (dayOf h) (microOf h))))) (ofInt binary64 (pos dayMicros)))
+
+pub write-minus-zero :
+    ShutWrite (H.Record (recordOf S.Tai (pos 0) 0)) (D.Day plusZero) (negated (H.Record (recordOf S.Tai (pos 0) 0))) (D.Day (fin true 0 (pos 0)))
+unfolding div ofInt neg
+write-minus-zero =
+    ((refl, refl), refl, differ (λ (t : Decimal). cond (exactOf (decimalSlip t .day) .minus) 1 0) (λ e. omega arith))
+
+-- second 60 written as the next day's first
+abbrev carried : Handed → Decimal
+carried h = D.Day (over64 h dayMicros)
+
+pub write-carried :
+    ShutWrite (H.Record (recordOf S.Utc (pos 6209) 86400000000)) (D.Refused R.Image) (carried (H.Record (recordOf S.Utc (pos 6209) 86400000000))) (D.Day (fin false 3105 (pos 1)))
+unfolding div ofInt
+write-carried = ((refl, refl), refl, byDayNumber (λ e. omega arith))
