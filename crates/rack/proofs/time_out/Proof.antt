@@ -1,0 +1,54 @@
+-- `rack::time_out` meets its contract. Assumes nothing.
+use mathlib.Core.Path.{ap, ap₂, sym, _∙_}
+use Prim.Native.Nat.{ℕ}
+use lib.IntN.{ℤ, pos}
+use mir.Syntax.{w64}
+use mir.Facts.{toZ-ofZ}
+use Rattle.scales.specs.Meaning.{slip}
+use Rattle.scales.specs.declared.Dated.{Dated}
+use Rattle.rack.specs.Meaning.{timeOut}
+use Rattle.rack.specs.declared.VrkTime.{VrkTime}
+use borrow.Author.Needs.{needs}
+use Rattle.rack.proofs.time_out.Statement.{statement}
+use Rattle.rack.proofs.time_out.Tie as tie
+
+enum-known-d : tie.Need-enum-known-d
+enum-known-d c = search needs
+
+scale-code-requires : tie.Need-scale-code-requires
+scale-code-requires c κs = search needs
+
+enum-known-d-2 : tie.Need-enum-known-d-2
+enum-known-d-2 c = search needs
+
+number-requires : tie.Need-number-requires
+number-requires c κs = search needs
+
+scale-code-requires-2 : tie.Need-scale-code-requires-2
+scale-code-requires-2 c κs = search needs
+
+returns : tie.Need-returns
+returns c =
+    let d = c .before .before .before in
+    let r = d .d .given .0 .0 in
+    ap₂ {C = VrkTime} (λ (s : ℕ) (z : ℤ). record { refusal = 0; scale = s; day = z; micro = r .micro }) (c .before .scale-code .ensures)
+    (toZ-ofZ {w = w64} {z = r .day} (record { sfits = c .struct-told .given .1 .0 .1 }))
+    ∙ sym (ap (λ (x : Dated). timeOut (slip x)) (d .d .given .1))
+
+returns-2 : tie.Need-returns-2
+returns-2 c =
+    let d = c .before .before .before in
+    ap₂ {C = VrkTime} (λ (n s : ℕ). record { refusal = n; scale = s; day = pos 0; micro = 0 }) (c .before .number .ensures) (c .scale-code2 .ensures)
+    ∙ sym (ap (λ (x : Dated). timeOut (slip x)) (d .d2 .given .1))
+
+pub time-out-spec : {M : Type 1} → statement M
+time-out-spec =
+    tie.close
+    (tie.spec
+    enum-known-d
+    scale-code-requires
+    enum-known-d-2
+    number-requires
+    scale-code-requires-2
+    returns
+    returns-2)

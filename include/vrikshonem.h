@@ -1,0 +1,83 @@
+/* Vrikshonem, the dating desk: its interface for C.
+ *
+ * Every function answers every input: with a value, or with the number of one refusal, the first that applies in this
+ * order. No function keeps anything between calls, allocates, or relies on its caller having checked.
+ *
+ *    0  answered
+ *    1  input length is none of the layout's
+ *    2  marker byte or zero bits wrong
+ *    3  a field over its limit, bad character, date not in the calendar; a code that stands for nothing
+ *    4  decimal day infinite or not a number
+ *    5  leap list not accepted, where one is used
+ *    6  correlation not accepted
+ *    7  input time or receipt outside its span
+ *    8  correlation not in force
+ *    9  leap list expired
+ *   10  UTC second that its day lacks
+ *   11  result outside its scale's span
+ *   12  time has no image
+ *   13  output slice shorter than the image
+ *
+ * A refusal returns its number and an empty result (day 0 microsecond 0 of the scale that the answer would have had, plus
+ * zero, length 0), and lent memory keeps all its bytes. A slice is a pointer and a length; a null pointer with length 0 is
+ * the empty slice. Until version 1.0 this header may grow.
+ */
+#ifndef VRIKSHONEM_H
+#define VRIKSHONEM_H
+
+#include <stddef.h>
+#include <stdint.h>
+
+#ifdef __cplusplus
+extern "C" {
+#endif
+
+/* Codes of the scales. Any other code is refused. */
+enum { VRK_TAI = 0, VRK_UTC = 1, VRK_GPS = 2 };
+
+/* Codes of what is handed in. Any other code is refused. */
+enum { VRK_RECORD = 0, VRK_DECIMAL = 1 };
+
+/* A time handed in: a record (day from 1 January 2000, microsecond of that day), or a decimal day. Of a record `decimal`
+ * is not looked at, of a decimal day `day` and `micro` are not. */
+typedef struct {
+    uint32_t kind;
+    uint32_t scale;
+    int64_t day;
+    uint64_t micro;
+    double decimal;
+} vrk_handed;
+
+/* A time handed back. Spans: TAI and UTC days -10227 to 36524, GPS -7300 to 36524; microseconds below 86,400,000,000, in
+ * UTC below 86,401,000,000. */
+typedef struct {
+    uint32_t refusal;
+    uint32_t scale;
+    int64_t day;
+    uint64_t micro;
+} vrk_time;
+
+typedef struct {
+    uint32_t refusal;
+    double day;
+} vrk_decimal;
+
+/* ---- decimal days */
+
+/* Given: a decimal day and the code of its scale.
+ * Returned: the microsecond nearest the exact value of the double, ties to the later, as a record of that scale.
+ * Refused: 3 unknown scale (the empty record is then of scale 0); 4; 7, judged on the exact value: first day inclusive,
+ * 36525 exclusive. */
+vrk_time vrk_decimal_read(double day, uint32_t scale);
+
+/* Given: a time.
+ * Returned: the double nearest the exact quotient of its microseconds since day 0 by 86,400,000,000, ties to the even
+ * significand. What is written reads back as the same record.
+ * Refused: 3 unknown kind or scale; 4; 7; 12 for second 60 of a UTC day. */
+vrk_decimal vrk_decimal_write(vrk_handed time);
+
+#ifdef __cplusplus
+}
+#endif
+
+#endif
