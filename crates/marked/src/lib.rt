@@ -1,0 +1,1 @@
+// No code: the paper's marked cases, computed of the meanings.
