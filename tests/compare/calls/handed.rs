@@ -1,0 +1,74 @@
+//! Times handed in: records and decimal days, in the span, at its edges, and beyond.
+
+use super::Random;
+use crate::independent::time::{Handed, Moment, Scale};
+
+const DAY: u64 = 86_400_000_000;
+
+pub fn day(random: &mut Random) -> i64 {
+    match random.below(8) {
+        0 => random.near(-10227, 3),
+        1 => random.near(-7300, 3),
+        2 => random.near(36524, 3),
+        3 => random.near(0, 3),
+        4 => random.pick(&[i64::MIN, i64::MAX, -40001, -40000, 60000, 60001, -39999, 59999]),
+        5 if random.one_in(2) => random.next() as i64,
+        _ => random.below(46752) as i64 - 10227,
+    }
+}
+
+pub fn micro(random: &mut Random) -> u64 {
+    match random.below(10) {
+        0 => random.below(3),
+        1 => DAY - 1 - random.below(3),
+        2 => DAY + random.below(3),
+        3 => DAY + 1_000_000 - 1 - random.below(3),
+        4 => DAY + 1_000_000 + random.below(3),
+        5 if random.one_in(2) => random.next(),
+        6 => random.below(86_400) * 1_000_000,
+        _ => random.below(DAY),
+    }
+}
+
+/// A double near a whole number of microseconds or of halves of them, near an edge, or of any bits.
+pub fn decimal(random: &mut Random) -> f64 {
+    let whole = match random.below(6) {
+        0 => random.near(-10227, 1) as f64,
+        1 => random.near(-7300, 1) as f64,
+        2 => random.near(36525, 1) as f64,
+        3 => 0.0,
+        _ => (random.below(46752) as i64 - 10227) as f64,
+    };
+    match random.below(12) {
+        0 => f64::from_bits(random.next()),
+        1 => random.pick(&[f64::NAN, f64::INFINITY, f64::NEG_INFINITY, -f64::NAN]),
+        2 => random.pick(&[0.0, -0.0, f64::MIN_POSITIVE, -f64::MIN_POSITIVE, 5e-324, -5e-324, f64::MAX, f64::MIN]),
+        3 => f64::from_bits(whole.to_bits().wrapping_add(random.below(3)).wrapping_sub(1)),
+        4 => whole,
+        5 => (random.below(200) as f64 - 100.0) / 2.0 / 86_400_000_000.0,
+        // 86,400,000,000 is 10,546,875 * 2^13, so the odd 16384ths of a day are where ties are
+        6 => random.near(0, 1 << 29) as f64 / 16384.0,
+        7 => random.near(0, 40000) as f64 / f64::from_bits((1023 + random.below(80)) << 52),
+        _ => whole + random.below(DAY) as f64 / DAY as f64,
+    }
+}
+
+pub fn scale_code(random: &mut Random) -> u64 {
+    if random.one_in(24) { random.pick(&[3, 4, 255, u64::from(u32::MAX)]) } else { random.below(3) }
+}
+
+/// The five words of a vrk_handed.
+pub fn words(random: &mut Random) -> Vec<u64> {
+    let kind = if random.one_in(24) { random.pick(&[2, 3, u64::from(u32::MAX)]) } else { random.below(2) };
+    vec![kind, scale_code(random), day(random) as u64, micro(random), decimal(random).to_bits()]
+}
+
+/// What the words stand for, if they stand for anything.
+pub fn of(words: &[u64]) -> Option<Handed> {
+    let scale = Scale::coded(words[1])?;
+    match words[0] {
+        0 => Some(Handed::Record(scale, Moment { day: words[2] as i64, micro: words[3] })),
+        1 => Some(Handed::Decimal(scale, f64::from_bits(words[4]))),
+        _ => None,
+    }
+}

@@ -1,0 +1,8 @@
+//! The papers' rules once more, in plain integers and exact fractions, written from document 01 and not from the proved
+//! code. Nothing here is shared with it, so that the two can be compared.
+
+pub mod decimal;
+pub mod time;
+
+/// A refusal's number, 1 to 13.
+pub type Number = u64;
