@@ -1,10 +1,11 @@
 -- The paper's words: the spans of the scales, the order of the refusals, what an answer hands back and what a refusal hands
 -- back. Days are signed, counted from 1 January 2000. Assumes nothing.
 use mathlib.Core.Bool.{Bool, true, false, cond, _&&_}
-use mathlib.Core.List.{List, [], _∷_}
+use mathlib.Core.List.{List, [], _∷_, _++_}
 use Prim.Native.Nat.{ℕ, _/_, _%_}
 use lib.Dec.{ltb, eqb}
 use lib.IntN.{ℤ, pos, negsuc}
+use lib.ListN.{length, drop}
 use lib.Signed.{leZ}
 use Rattle.axis.specs.Meaning.{dayAt}
 use Rattle.scales.specs.declared.Scale.{Scale}
@@ -20,10 +21,24 @@ use Rattle.scales.specs.declared.DatedUtc.{DatedUtc}
 use Rattle.scales.specs.declared.DatedUtc.the-variants as DU
 use Rattle.scales.specs.declared.DatedGps.{DatedGps}
 use Rattle.scales.specs.declared.DatedGps.the-variants as DG
+use Rattle.scales.specs.declared.Written.{Written}
+use Rattle.scales.specs.declared.Written.the-variants as W
 use Rattle.scales.specs.declared.Time.{Time}
 use Rattle.scales.specs.declared.Time.the-variants as TM
 use Rattle.scales.specs.declared.Timed.{Timed}
 use Rattle.scales.specs.declared.Timed.the-variants as TD
+
+-- a scale as a number
+abbrev pub codeOf : Scale → ℕ
+codeOf S.Tai = 0
+codeOf S.Utc = 1
+codeOf S.Gps = 2
+
+abbrev pub scaleAt : ℕ → Scale
+scaleAt c = cond (eqb c 1) S.Utc (cond (eqb c 2) S.Gps S.Tai)
+
+abbrev pub sameScale : Scale → Scale → Bool
+sameScale s t = eqb (codeOf s) (codeOf t)
 
 -- ---- "Each scale has its own first day, last day and microsecond bound, and a record's span means all three"
 abbrev pub first : Scale → ℤ
@@ -89,6 +104,17 @@ abbrev pub dated : Scale → Outcome Moment → Slip
 dated s (refused n) = record { number = n; scale = s; day = pos 0; micro = 0 }
 dated s (answer t) = record { number = 0; scale = s; day = t .day; micro = t .micro }
 
+-- ---- what it hands back of a writing: the number, the length, and all bytes of the lent slice
+pub record Wrote : Type 0 where
+  pub number : ℕ
+  pub length : ℕ
+  pub bytes : List ℕ
+
+-- "lent memory keeps all its bytes"; "bytes after the written part stay"
+abbrev pub written : List ℕ → Outcome (List ℕ) → Wrote
+written out (refused n) = record { number = n; length = 0; bytes = out }
+written out (answer image) = record { number = 0; length = length image; bytes = image ++ drop (length image) out }
+
 -- ---- this paper's number and values for each case of an answer
 abbrev pub numberOf : Refusal → ℕ
 numberOf R.Length = 1
@@ -108,6 +134,11 @@ numberOf R.Room = 13
 abbrev pub slip : Dated → Slip
 slip (D.At r) = dated (r .scale) (answer (record { day = r .day; micro = r .micro }))
 slip (D.Refused f s) = dated s (refused (numberOf f))
+
+-- the second argument is the lent slice as the writer leaves it
+abbrev pub wrote : Written → List ℕ → Wrote
+wrote (W.Bytes n) out = record { number = 0; length = n; bytes = out }
+wrote (W.Refused f) out = record { number = numberOf f; length = 0; bytes = out }
 
 -- a count of scale s holds `bound s` microseconds a day, from day -40000 on
 abbrev pub momentAt : Scale → ℕ → Moment

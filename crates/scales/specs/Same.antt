@@ -4,7 +4,7 @@ use mathlib.Core.List.{List, [], _∷_}
 use Prim.Native.Nat.{ℕ}
 use native.Mathlib.Omega.{arith}
 use lib.ListN.{getD}
-use Rattle.scales.specs.Meaning.{slip, Typed, at, no, slipOf, typedTai, typedUtc, typedGps, slipTai, slipUtc, slipGps, numberOf, timeScale, timeCount, timeAt, slipTimed}
+use Rattle.scales.specs.Meaning.{codeOf, scaleAt, slip, Typed, at, no, slipOf, typedTai, typedUtc, typedGps, slipTai, slipUtc, slipGps, numberOf, timeScale, timeCount, timeAt, slipTimed, Wrote, wrote}
 use Rattle.scales.specs.Place.{count-inj}
 use Rattle.scales.specs.declared.Scale.{Scale}
 use Rattle.scales.specs.declared.Scale.the-variants as S
@@ -19,10 +19,21 @@ use Rattle.scales.specs.declared.DatedUtc.{DatedUtc}
 use Rattle.scales.specs.declared.DatedUtc.the-variants as DU
 use Rattle.scales.specs.declared.DatedGps.{DatedGps}
 use Rattle.scales.specs.declared.DatedGps.the-variants as DG
+use Rattle.scales.specs.declared.Written.{Written}
+use Rattle.scales.specs.declared.Written.the-variants as W
 use Rattle.scales.specs.declared.Time.{Time}
 use Rattle.scales.specs.declared.Time.the-variants as TM
 use Rattle.scales.specs.declared.Timed.{Timed}
 use Rattle.scales.specs.declared.Timed.the-variants as TD
+
+-- a scale is known by its code
+code-back : (s : Scale) → scaleAt (codeOf s) ≡ s
+code-back S.Tai = refl
+code-back S.Utc = refl
+code-back S.Gps = refl
+
+pub scales-same : (s t : Scale) → codeOf s ≡ codeOf t → s ≡ t
+scales-same s t e = sym (code-back s) ∙ ap scaleAt e ∙ code-back t
 
 -- a refusal by its number
 abbrev of : ℕ → Refusal
@@ -144,3 +155,9 @@ same-timed (TD.Refused f s) (TD.Refused g t) e =
     let q = same-slips s t (no f) (no g) e in
     let n : f ≡ g = cc in
     ap₂ TD.Refused n (q .0)
+
+pub same-written : (a b : Written) (x y : List ℕ) → wrote a x ≡ wrote b y → (a ≡ b) × (x ≡ y)
+same-written (W.Bytes n) (W.Bytes m) x y e = (λ i. W.Bytes (e i .length), λ i. e i .bytes)
+same-written (W.Bytes n) (W.Refused q) x y e = absurd (some q (λ i. sym e i .number))
+same-written (W.Refused r) (W.Bytes m) x y e = absurd (some r (λ i. e i .number))
+same-written (W.Refused r) (W.Refused q) x y e = (ap W.Refused (refusals r q (λ i. e i .number)), λ i. e i .bytes)

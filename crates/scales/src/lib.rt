@@ -1,12 +1,25 @@
 // The paper's words: scales, the counts that are kept apart by them, records as handed in, the refusals and the answers.
 ghost use mathlib.Core.Path.{_≡_};
-ghost use Rattle.scales.specs.Meaning.{numberOf, slip, slipTai, slipUtc, slipGps, slipTimed, spanned, recordOf, recordAt, timeAt, timeScale, timeCount};
+ghost use Rattle.scales.specs.Meaning.{codeOf, numberOf, slip, slipTai, slipUtc, slipGps, slipTimed, spanned, recordOf, recordAt, timeAt, timeScale, timeCount};
 ghost use Rattle.scales.specs.Place.{spanFrom, spanOf, counted};
 
 pub enum Scale {
     Tai,
     Utc,
     Gps,
+}
+
+impl Scale {
+    // The scale as a number; two scales are the same where their codes are.
+    pub fn code(self) -> u32
+        ensures { λ r. ⌜ r ≡ codeOf self ⌝ }
+    {
+        match self {
+            Scale::Tai => 0,
+            Scale::Utc => 1,
+            Scale::Gps => 2,
+        }
+    }
 }
 
 // Microseconds from day -40000 on, every day having 86,400 s.
@@ -107,6 +120,12 @@ pub enum Timed {
     Refused(Refusal, Scale),
 }
 
+// How many bytes were written onto the front of a lent slice, or a refusal: then none.
+pub enum Written {
+    Bytes(usize),
+    Refused(Refusal),
+}
+
 enum Counted {
     At(u64),
     Outside,
@@ -183,6 +202,16 @@ fn time_at(scale: Scale, count: u64) -> Time
 }
 
 impl Time {
+    pub fn scale(self) -> Scale
+        ensures { λ r. ⌜ r ≡ timeScale self ⌝ }
+    {
+        match self {
+            Time::Tai(_) => Scale::Tai,
+            Time::Utc(_) => Scale::Utc,
+            Time::Gps(_) => Scale::Gps,
+        }
+    }
+
     pub fn to_record(self) -> Record
         ensures { λ r. ⌜ r ≡ recordAt (timeScale self) (timeCount self) ⌝ }
     {
