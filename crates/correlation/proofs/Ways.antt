@@ -1,0 +1,45 @@
+-- The ways out of the private functions that test a span or a cover. Assumes nothing.
+use mathlib.Core.Path.{_≡_}
+use mathlib.Core.Bool.{false}
+use Prim.Native.Nat.{ℕ, _-_, _/_, _%_, _≤_, _<_}
+use lib.Dec.{leb}
+use lib.IntN.{ℤ}
+use borrow.Author.Tests.{lt-ltb, le-ltb, le-leb, lt-leb}
+use Rattle.axis.specs.Meaning.{dayAt}
+use Rattle.scales.specs.Meaning.{inSpan, spanned, slipTimed, slip, dated, refused, recordOf}
+use Rattle.scales.specs.Place.{and-false}
+use Rattle.scales.specs.Counts.{timed-at, timed-no}
+use Rattle.scales.specs.declared.Scale.{Scale}
+use Rattle.scales.specs.declared.Time.{Time}
+use Rattle.scales.specs.declared.Timed.the-variants as TD
+use Rattle.scales.specs.declared.Refusal.{Refusal}
+use Rattle.scales.specs.declared.Dated.the-variants as D
+use Rattle.correlation.specs.Places.{spot, placeIn, coversAt, resultAt}
+use Rattle.correlation.specs.declared.Cover.{Cover}
+use Rattle.correlation.specs.declared.Place.the-variants as P
+
+module _ (s : Scale) (d : ℤ) (u : ℕ) where
+  pub place-over : 86400000000 ≤ u → P.Outside ≡ placeIn s d u
+  place-over h = rw (le-ltb u 86400000000 h, and-false (inSpan s d u))
+
+  pub place-at : u < 86400000000 → (t : Time) → slipTimed (TD.At t) ≡ spanned s d u → P.At (spot d u) ≡ placeIn s d u
+  place-at h t e = rw (timed-at s d u t e .0, lt-ltb u 86400000000 h)
+
+  pub place-out : (f : Refusal) (r : Scale) → slipTimed (TD.Refused f r) ≡ spanned s d u → P.Outside ≡ placeIn s d u
+  place-out f r e = rw (timed-no s d u f r e .0)
+
+module _ (s : Scale) (m : ℕ) where
+  pub result-at : (t : Time) → slipTimed (TD.At t) ≡ spanned s (dayAt (m / 86400000000)) (m % 86400000000) →
+      slip (D.At (recordOf s (dayAt (m / 86400000000)) (m % 86400000000))) ≡ resultAt s m
+  result-at t e = rw (timed-at s (dayAt (m / 86400000000)) (m % 86400000000) t e .0)
+
+  pub result-out : (f : Refusal) (r : Scale) → slipTimed (TD.Refused f r) ≡ spanned s (dayAt (m / 86400000000)) (m % 86400000000) →
+      dated s (refused 11) ≡ resultAt s m
+  result-out f r e = rw (timed-no s (dayAt (m / 86400000000)) (m % 86400000000) f r e .0)
+
+module _ (v : Cover) (w : ℕ) where
+  pub cover-before : w < v .from → false ≡ coversAt v w
+  cover-before h = rw (lt-leb (v .from) w h)
+
+  pub cover-from : v .from ≤ w → leb w (v .to) ≡ coversAt v w
+  cover-from h = rw (le-leb (v .from) w h)

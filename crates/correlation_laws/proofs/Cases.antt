@@ -1,0 +1,181 @@
+-- Marked cases 8 and 9 and the night of the letter, computed; the order of the refusals; and each theorem at an input that meets
+-- its hypotheses. Assumes nothing.
+use mathlib.Core.Path.{_≡_, refl, _∙_}
+use mathlib.Core.Bool.{Bool, true, false}
+use Prim.Native.Nat.{ℕ, _<_, _≤_}
+use native.Mathlib.Omega.{arith}
+use lib.Dec.{lit<, lit≤}
+use lib.IntN.{ℤ, pos, negsuc, _+ℤ_}
+use lib.Signed.{leZ}
+use lib.Ieee.{nan}
+use Rattle.scales.specs.Meaning.{Moment, Judged, given, gives, Outcome, answer, refused, outcome, numbers, order, standsIn, recordOf}
+use Rattle.scales.specs.declared.Scale.the-variants as S
+use Rattle.scales.specs.declared.Handed.{Handed}
+use Rattle.scales.specs.declared.Handed.the-variants as H
+use Rattle.decimal.specs.Meaning.{since, isFinite, isInSpan}
+use Rattle.correlation.specs.Meaning.{accepted, clock, time, inWindow, covers, elapsed, dating, latest, lastCount, tickAt, instantOf, hasImage, turning}
+use Rattle.correlation.specs.Clock.{lastOf, last-of-clock, last-early, last-close}
+use Rattle.correlation.specs.declared.Correlation.{Correlation}
+use Rattle.correlation_laws.proofs.Counts.{elapsed-one}
+use Rattle.correlation_laws.proofs.Trips.{same-tick, record-back, never-later, little-earlier}
+use Rattle.correlation_laws.proofs.Wider.{widened, date-kept, tick-kept}
+use Rattle.correlation_laws.proofs.Night.{received-before, received-after, no-wrap}
+
+-- ---- "The first that applies in this order is given": the numbers that each way judges
+pub dating-order : (c : Correlation) (t : ℕ) (d : ℤ) (u : ℕ) → standsIn (numbers (dating c t d u)) order ≡ true
+dating-order c t d u = refl
+
+pub turning-order : (c : Correlation) (h : Handed) → standsIn (numbers (turning c h)) order ≡ true
+turning-order c h = refl
+
+-- what is judged in effect: 12 before 8, which is not judged for a time without an image
+abbrev pub imageFirst : Correlation → Handed → Judged ℕ
+imageFirst c h =
+    given (isFinite h) 4
+    (given (accepted c) 6
+    (given (isInSpan h) 7
+    (given (hasImage c h) 12
+    (given (covers c (instantOf h)) 8
+    (gives (tickAt (c .tick .0) (lastCount c (instantOf h))))))))
+
+pub image-first : (c : Correlation) (h : Handed) → outcome (turning c h) ≡ outcome (imageFirst c h)
+image-first c h = go (hasImage c h) refl
+  where
+    go : (i : Bool) → hasImage c h ≡ i → outcome (turning c h) ≡ outcome (imageFirst c h)
+    go true e = rw e
+    go false e = rw e
+
+-- ---- reference tick FFFFFFFF at the beginning of TAI day 0, P = 3,906,250,000, the same window either way
+abbrev pub marked : ℕ → Correlation
+marked n = record { tick = record { 0 = 4294967295 }; scale = S.Tai; day = pos 0; micro = 0; period = 3906250000; back = n; ahead = n }
+
+abbrev pub at : ℤ → ℕ → Moment
+at d u = record { day = d; micro = u }
+
+abbrev pub tai : ℤ → ℕ → Handed
+tai d u = H.Record (recordOf S.Tai d u)
+
+-- 8: tick 0 adds 3,906; FFFFFFFE takes away 3,907; each received at its date or later. And back
+pub case-8 :
+    (outcome (dating (marked 10) 0 (pos 0) 3906) ≡ answer (at (pos 0) 3906))
+    × (outcome (dating (marked 10) 4294967294 (pos 0) 0) ≡ answer (at (negsuc 0) 86399996093))
+    × (outcome (turning (marked 10) (tai (pos 0) 3906)) ≡ answer 0)
+    × (outcome (turning (marked 10) (tai (negsuc 0) 86399996093)) ≡ answer 4294967294)
+unfolding accepted clock inWindow covers latest
+case-8 = (refl, refl, refl, refl)
+
+-- 9: b = a = 0: the reference tick received at the reference time answers; the next tick: 8
+pub case-9 :
+    (outcome (dating (marked 0) 4294967295 (pos 0) 0) ≡ answer (at (pos 0) 0)) × (outcome (dating (marked 0) 0 (pos 0) 0) ≡ refused 8)
+unfolding accepted clock inWindow covers
+case-9 = (refl, refl)
+
+-- ---- the night of the letter: the record of 1 October 2008 with the widest window, a packet received on 10 March 2009 at
+-- twenty to three, whose tick is the reference tick plus the 3,541,401,600 ticks that have passed
+abbrev pub autumn : Correlation
+autumn = record { tick = record { 0 = 537399297 }; scale = S.Tai; day = pos 3196; micro = 0; period = 3906250000; back = 2147483648; ahead = 2147483647 }
+
+pub night : outcome (dating autumn 4078800897 (pos 3356) 9600000000) ≡ refused 8
+unfolding accepted clock inWindow covers
+night = refl
+
+-- ---- each refusal, where the next would be due too: in dating 6 before 7, 7 before 8, second 60 received, the next tick after the
+-- last microsecond of the span; and back 4 before 6, 6 before 7, 7 before 12, 8
+abbrev slow : Correlation
+slow = record { tick = record { 0 = 7 }; scale = S.Tai; day = pos 0; micro = 0; period = 3906500001; back = 10; ahead = 10 }
+
+abbrev end : Correlation
+end = record { tick = record { 0 = 7 }; scale = S.Tai; day = pos 36524; micro = 86399999999; period = 3906250000; back = 0; ahead = 1 }
+
+abbrev pub utc : Correlation
+utc = record { tick = record { 0 = 7 }; scale = S.Utc; day = pos 1; micro = 0; period = 3906250000; back = 10; ahead = 10 }
+
+pub dating-refusals :
+    (outcome (dating slow 7 (pos 36525) 0) ≡ refused 6)
+    × (outcome (dating (marked 0) 7 (pos 36525) 0) ≡ refused 7)
+    × (outcome (dating utc 7 (pos 0) 86400000000) ≡ refused 7)
+    × (outcome (dating end 8 (pos 36524) 86399999999) ≡ refused 11)
+unfolding accepted clock inWindow covers
+dating-refusals = (refl, refl, refl, refl)
+
+pub turning-refusals :
+    (outcome (turning slow (H.Decimal nan S.Tai)) ≡ refused 4)
+    × (outcome (turning slow (tai (pos 36525) 0)) ≡ refused 6)
+    × (outcome (turning (marked 10) (H.Record (recordOf S.Gps (negsuc 7300) 0))) ≡ refused 7)
+    × (outcome (turning (marked 10) (tai (pos 1) 0)) ≡ refused 8)
+unfolding accepted clock covers
+turning-refusals = (refl, refl, refl, refl)
+
+-- ---- each theorem, at an input
+acc : accepted (marked 10) ≡ true
+unfolding accepted
+acc = refl
+
+-- an answer is no refusal
+no-8 : {A : Type 0} {o : Outcome A} {a : A} → o ≡ answer a → o ≡ refused 8 → ⊥
+no-8 e f = let z : _≡_ {A = ℕ} 0 1 = cc in omega arith
+
+wide : accepted (widened (marked 10) 11 12) ≡ true
+unfolding accepted
+wide = refl
+
+-- a tick to a time and back, by the record and by a time that stands for it
+pub trip : outcome (turning (marked 10) (tai (negsuc 0) 86399996093)) ≡ answer 4294967294
+trip = record-back (marked 10) 4294967294 (pos 0) 0 (at (negsuc 0) 86399996093) (case-8 .1) (lit< tt)
+
+pub trip-same : (n : ℕ) → outcome (turning (marked 10) (tai (negsuc 0) 86399996093)) ≡ answer n → n ≡ 4294967294
+trip-same =
+    same-tick (marked 10) 4294967294 (pos 0) 0 (at (negsuc 0) 86399996093) (case-8 .1) (tai (negsuc 0) 86399996093)
+    (record { scale = refl; day = refl; micro = refl }) (lit< tt)
+
+-- a time to a tick and back: 3,905 microseconds after the reference, the reference
+turned : outcome (turning (marked 10) (tai (pos 0) 3905)) ≡ answer 4294967295
+unfolding accepted clock inWindow covers latest
+turned = refl
+
+dated-again : outcome (dating (marked 10) 4294967295 (pos 0) 0) ≡ answer (at (pos 0) 0)
+unfolding accepted clock inWindow covers
+dated-again = refl
+
+pub time-trip : (leZ (since (pos 0) 0) (since (pos 0) 3905) ≡ true) × (leZ (since (pos 0) 3905) (since (pos 0) 0 +ℤ pos 3906) ≡ true)
+time-trip = (
+  never-later (marked 10) (tai (pos 0) 3905) 4294967295 turned (pos 0) 0 (at (pos 0) 0) dated-again,
+  little-earlier (marked 10) (tai (pos 0) 3905) 4294967295 turned (pos 0) 0 (at (pos 0) 0) dated-again,
+)
+
+-- a wider window keeps a date and a tick
+pub kept-date : outcome (dating (widened (marked 10) 11 12) 0 (pos 0) 3906) ≡ answer (at (pos 0) 3906)
+kept-date = date-kept (marked 10) 11 12 (lit≤ tt) (lit≤ tt) acc wide 0 (pos 0) 3906 (no-8 (case-8 .0)) ∙ case-8 .0
+
+pub kept-tick : outcome (turning (widened (marked 10) 11 12) (tai (pos 0) 3906)) ≡ answer 0
+kept-tick = tick-kept (marked 10) 11 12 (lit≤ tt) (lit≤ tt) acc wide (tai (pos 0) 3906) (no-8 (case-8 .2)) ∙ case-8 .2
+
+-- received before the cover, and after it: 8 for every tick
+pub too-early : (t : ℕ) → outcome (dating autumn t (pos 3000) 0) ≡ refused 8
+unfolding accepted clock
+too-early = received-before autumn (pos 3000) 0 refl refl refl
+
+pub too-late : (t : ℕ) → outcome (dating autumn t (pos 3356) 9600000000) ≡ refused 8
+unfolding accepted clock
+too-late = received-after autumn (pos 3356) 9600000000 refl refl refl
+
+-- the tick before the reference is at count -1, and its date time(-1)
+pub one-before : negsuc 0 ≡ elapsed 4294967294 4294967295
+one-before = elapsed-one 4294967294 4294967295 (negsuc 0) refl refl refl
+
+pub right-wrap : since (negsuc 0) 86399996093 ≡ time (marked 10) (negsuc 0)
+unfolding inWindow
+right-wrap = no-wrap (marked 10) 4294967294 (pos 0) 0 (at (negsuc 0) 86399996093) (case-8 .1) (negsuc 0) refl refl
+
+-- ---- the law of the clock where the start is a fraction before day 0 and the gain no whole number: a count comes back, and the
+-- last count of a time is never late, nor early by 16
+pub fraction : lastOf (negsuc 6) 999000001 65536000 (clock (negsuc 6) 999000001 65536000 (negsuc 4)) ≡ negsuc 4
+fraction = last-of-clock (negsuc 6) 999000001 65536000 (lit< tt) (lit≤ tt) (negsuc 4)
+
+pub fraction-last :
+    (leZ (clock (negsuc 6) 999000001 65536000 (lastOf (negsuc 6) 999000001 65536000 (negsuc 99))) (negsuc 99) ≡ true)
+    × (leZ (negsuc 99) (clock (negsuc 6) 999000001 65536000 (lastOf (negsuc 6) 999000001 65536000 (negsuc 99)) +ℤ pos 15) ≡ true)
+fraction-last = (
+  last-early (negsuc 6) 999000001 65536000 (lit< tt) (lit≤ tt) (negsuc 99),
+  last-close (negsuc 6) 999000001 65536000 (lit< tt) (lit≤ tt) 15 (lit≤ tt) (negsuc 99),
+)
