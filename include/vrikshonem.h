@@ -62,6 +62,24 @@ typedef struct {
     double day;
 } vrk_decimal;
 
+typedef struct {
+    uint32_t refusal;
+    uint64_t count;
+} vrk_count;
+
+/* An SBT correlation: a reference tick and the time it stood for, the period of a tick in picoseconds, and how many ticks back
+ * and ahead it may be relied on. It is accepted with a known scale, a reference in that scale's span below microsecond
+ * 86,400,000,000, a period from 3,906,000,000 to 3,906,500,000, back to 2^31 and ahead to 2^31 - 1. */
+typedef struct {
+    uint32_t tick;
+    uint32_t scale;
+    int64_t day;
+    uint64_t micro;
+    uint64_t period;
+    uint64_t back;
+    uint64_t ahead;
+} vrk_correlation;
+
 /* ---- decimal days */
 
 /* Given: a decimal day and the code of its scale.
@@ -75,6 +93,19 @@ vrk_time vrk_decimal_read(double day, uint32_t scale);
  * significand. What is written reads back as the same record.
  * Refused: 3 unknown kind or scale; 4; 7; 12 for second 60 of a UTC day. */
 vrk_decimal vrk_decimal_write(vrk_handed time);
+
+/* ---- SBT ticks */
+
+/* Given: a tick, a correlation, and when the packet was received, in the correlation's scale.
+ * Returned: the tick's time, in the correlation's scale. The tick is taken for the one of its kind within half a wrap of the
+ * reference; it is dated only where it lies in the window and the receipt lies within the window's times.
+ * Refused: 6 (an unknown scale too: the empty record is then of scale 0); 7 for the receipt; 8; 11. */
+vrk_time vrk_sbt_date(uint32_t tick, vrk_correlation correlation, int64_t receipt_day, uint64_t receipt_micro);
+
+/* Given: a time and a correlation.
+ * Returned: the last tick of the window whose time is not later.
+ * Refused: 3 unknown kind or scale of the time; 4; 6; 7; 12 for another scale or second 60; 8 outside the window's times. */
+vrk_count vrk_sbt_tick(vrk_handed time, vrk_correlation correlation);
 
 #ifdef __cplusplus
 }

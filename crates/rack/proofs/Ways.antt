@@ -4,21 +4,23 @@ use mathlib.Core.Bool.{Bool, true, false, cond, _&&_}
 use Prim.Native.Nat.{ℕ, _≤_, _<_}
 use native.Mathlib.Omega.{arith}
 use lib.Dec.{eqb, leb}
-use lib.IntN.{pos}
+use lib.IntN.{ℤ, pos}
 use lib.Ieee.{Float}
 use borrow.Author.Tests.{eq-eqb, ne-eqb, le-leb, lt-leb, leb-false}
 use Rattle.scales.specs.declared.Scale.{Scale}
 use Rattle.scales.specs.declared.Scale.the-variants as S
 use Rattle.scales.specs.declared.Handed.{Handed}
 use Rattle.scales.specs.declared.Handed.the-variants as H
-use Rattle.scales.specs.Meaning.{recordOf}
+use Rattle.scales.specs.Meaning.{scaleAt, recordOf}
 use Rattle.scales.specs.Place.{and-false}
 use Rattle.decimal.specs.Meaning.{readOf, WroteDay, decimalSlip, plusZero}
 use Rattle.decimal.specs.declared.Decimal.{Decimal}
+use Rattle.correlation.specs.Meaning.{tickOf}
+use Rattle.rack.specs.declared.VrkCorrelation.{VrkCorrelation}
 use Rattle.rack.specs.declared.VrkHanded.{VrkHanded}
 use Rattle.rack.specs.declared.Given.the-variants as G
 use Rattle.rack.specs.declared.Named.the-variants as N
-use Rattle.rack.specs.Meaning.{knownScale, scaleAt, known, handedOf, timeOut, decimalOut, decimalRead, DecimalWrote, namedBy, givenOf}
+use Rattle.rack.specs.Meaning.{knownScale, known, handedOf, timeOut, decimalOut, decimalRead, DecimalWrote, correlationOf, tickOut, sbtTick, namedBy, givenOf}
 
 -- ---- an answer picked by a test tells the test
 module _ {A : Type 0} (good bad : A) (apart : good ≡ bad → ⊥) where
@@ -107,3 +109,23 @@ write-known h t d e w =
 pub write-unknown : (h : VrkHanded) → givenOf h ≡ G.Unknown → DecimalWrote h (record { refusal = 3; day = plusZero })
 unfolding DecimalWrote
 write-unknown h e = rw (given-bad h e) (refl, refl)
+
+-- ---- SBT
+module _ (c : VrkCorrelation) (d : ℤ) (q : d ≡ c .day) where
+  pub correlate-known : (s : Scale) → namedBy (c .scale) ≡ N.Scale s →
+      record { tick = record { 0 = c .tick }; scale = s; day = d; micro = c .micro; period = c .period; back = c .back; ahead = c .ahead } ≡ correlationOf c
+  unfolding correlationOf
+  correlate-known s e = let k = named-good (c .scale) s e in rw (k .0, k .1, q)
+
+  pub correlate-unknown : namedBy (c .scale) ≡ N.Unknown →
+      record { tick = record { 0 = c .tick }; scale = S.Tai; day = d; micro = c .micro; period = 0; back = c .back; ahead = c .ahead } ≡ correlationOf c
+  unfolding correlationOf
+  correlate-unknown e = let k = named-bad (c .scale) e in rw (k, unknown-tai (c .scale) k, q)
+
+pub tick-known : (h : VrkHanded) (c : VrkCorrelation) (t : Handed) → givenOf h ≡ G.Handed t → tickOut (tickOf (correlationOf c) t) ≡ sbtTick h c
+unfolding sbtTick tickOf
+tick-known h c t e = let k = given-good h t e in rw (k .0, k .1)
+
+pub tick-unknown : (h : VrkHanded) (c : VrkCorrelation) → givenOf h ≡ G.Unknown → record { refusal = 3; count = 0 } ≡ sbtTick h c
+unfolding sbtTick
+tick-unknown h c e = rw (given-bad h e)

@@ -3,13 +3,16 @@
 use mathlib.Core.Bool.{Bool, true, false, cond, _&&_}
 use Prim.Native.Nat.{ℕ}
 use lib.Dec.{eqb, leb}
+use lib.IntN.{ℤ}
 use lib.Ieee.{Float}
-use Rattle.scales.specs.declared.Scale.{Scale}
-use Rattle.scales.specs.declared.Scale.the-variants as S
 use Rattle.scales.specs.declared.Handed.{Handed}
 use Rattle.scales.specs.declared.Handed.the-variants as H
-use Rattle.scales.specs.Meaning.{Judged, given, outcome, Slip, dated, recordOf}
+use Rattle.scales.specs.Meaning.{codeOf, scaleAt, given, outcome, Slip, dated, recordOf}
 use Rattle.decimal.specs.Meaning.{reading, writing, DecimalSlip, Allowed}
+use Rattle.correlation.specs.Meaning.{TickSlip, ticked, dateOf, turning}
+use Rattle.correlation.specs.declared.Correlation.{Correlation}
+use Rattle.rack.specs.declared.VrkCorrelation.{VrkCorrelation}
+use Rattle.rack.specs.declared.VrkCount.{VrkCount}
 use Rattle.rack.specs.declared.VrkTime.{VrkTime}
 use Rattle.rack.specs.declared.VrkHanded.{VrkHanded}
 use Rattle.rack.specs.declared.VrkDecimal.{VrkDecimal}
@@ -19,16 +22,8 @@ use Rattle.rack.specs.declared.Named.{Named}
 use Rattle.rack.specs.declared.Named.the-variants as N
 
 -- ---- scales by code: 0 TAI, 1 UTC, 2 GPS; one that is unknown stands for scale 0 in the empty record
-abbrev pub codeOf : Scale → ℕ
-codeOf S.Tai = 0
-codeOf S.Utc = 1
-codeOf S.Gps = 2
-
 abbrev pub knownScale : ℕ → Bool
 knownScale c = leb c 2
-
-abbrev pub scaleAt : ℕ → Scale
-scaleAt c = cond (eqb c 1) S.Utc (cond (eqb c 2) S.Gps S.Tai)
 
 -- ---- what is handed in: kind 0 a record, kind 1 a decimal day
 abbrev pub known : VrkHanded → Bool
@@ -52,6 +47,28 @@ decimalRead x c = timeOut (dated (scaleAt c) (outcome (given (knownScale c) 3 (r
 
 unfoldable pub DecimalWrote : VrkHanded → VrkDecimal → Type 0
 DecimalWrote h r = Allowed (outcome (given (known h) 3 (writing (handedOf h)))) (record { number = r .refusal; day = r .day })
+
+-- a correlation of an unknown scale is one that is not accepted: its period is 0
+unfoldable pub correlationOf : VrkCorrelation → Correlation
+correlationOf c =
+    record {
+      tick = record { 0 = c .tick };
+      scale = scaleAt (c .scale);
+      day = c .day;
+      micro = c .micro;
+      period = cond (knownScale (c .scale)) (c .period) 0;
+      back = c .back;
+      ahead = c .ahead;
+    }
+
+abbrev pub tickOut : TickSlip → VrkCount
+tickOut s = record { refusal = s .number; count = s .tick }
+
+unfoldable pub sbtDate : ℕ → VrkCorrelation → ℤ → ℕ → VrkTime
+sbtDate t c d u = timeOut (dateOf (correlationOf c) t d u)
+
+unfoldable pub sbtTick : VrkHanded → VrkCorrelation → VrkCount
+sbtTick h c = tickOut (ticked (outcome (given (known h) 3 (turning (correlationOf c) (handedOf h)))))
 
 -- ---- the inner answers
 unfoldable pub namedBy : ℕ → Named

@@ -3,12 +3,16 @@
 ghost use mathlib.Core.Path.{_≡_};
 ghost use Rattle.scales.specs.Meaning.{slip};
 ghost use Rattle.decimal.specs.Meaning.{decimalSlip};
-ghost use Rattle.rack.specs.Meaning.{codeOf, namedBy, givenOf, timeOut, decimalOut, decimalRead, DecimalWrote};
+ghost use Rattle.correlation.specs.Meaning.{tickSlip};
+ghost use Rattle.rack.specs.Meaning.{namedBy, givenOf, timeOut, decimalOut, tickOut, correlationOf, decimalRead, DecimalWrote, sbtDate, sbtTick};
+use correlation::Correlation;
+use correlation::Ticked;
 use decimal::Decimal;
 use scales::Dated;
 use scales::Handed;
 use scales::Record;
 use scales::Scale;
+use scales::Tick;
 
 #[repr(C)]
 pub struct VrkHanded {
@@ -33,6 +37,23 @@ pub struct VrkDecimal {
     pub day: f64,
 }
 
+#[repr(C)]
+pub struct VrkCorrelation {
+    pub tick: u32,
+    pub scale: u32,
+    pub day: i64,
+    pub micro: u64,
+    pub period: u64,
+    pub back: u64,
+    pub ahead: u64,
+}
+
+#[repr(C)]
+pub struct VrkCount {
+    pub refusal: u32,
+    pub count: u64,
+}
+
 enum Named {
     Scale(Scale),
     Unknown,
@@ -41,16 +62,6 @@ enum Named {
 enum Given {
     Handed(Handed),
     Unknown,
-}
-
-fn scale_code(scale: Scale) -> u32
-    ensures { λ r. ⌜ r ≡ codeOf scale ⌝ }
-{
-    match scale {
-        Scale::Tai => 0,
-        Scale::Utc => 1,
-        Scale::Gps => 2,
-    }
 }
 
 fn scale_named(code: u32) -> Named
@@ -93,14 +104,14 @@ fn time_out(d: Dated) -> VrkTime
             let scale = r.scale;
             VrkTime {
                 refusal: 0,
-                scale: scale_code(scale),
+                scale: scale.code(),
                 day: r.day,
                 micro: r.micro,
             }
         }
         Dated::Refused(f, scale) => VrkTime {
             refusal: f.number(),
-            scale: scale_code(scale),
+            scale: scale.code(),
             day: 0,
             micro: 0,
         },
@@ -143,6 +154,77 @@ pub extern "C" fn vrk_decimal_write(time: VrkHanded) -> VrkDecimal
         Given::Unknown => VrkDecimal {
             refusal: 3,
             day: 0.0,
+        },
+    }
+}
+
+// A correlation of an unknown scale is one that is not accepted: its period is 0.
+fn correlate(c: VrkCorrelation) -> Correlation
+    ensures { λ r. ⌜ r ≡ correlationOf c ⌝ }
+{
+    match scale_named(c.scale) {
+        Named::Scale(scale) => Correlation {
+            tick: Tick(c.tick),
+            scale,
+            day: c.day,
+            micro: c.micro,
+            period: c.period,
+            back: c.back,
+            ahead: c.ahead,
+        },
+        Named::Unknown => Correlation {
+            tick: Tick(c.tick),
+            scale: Scale::Tai,
+            day: c.day,
+            micro: c.micro,
+            period: 0,
+            back: c.back,
+            ahead: c.ahead,
+        },
+    }
+}
+
+fn tick_out(t: Ticked) -> VrkCount
+    ensures { λ r. ⌜ r ≡ tickOut (tickSlip t) ⌝ }
+{
+    match t {
+        Ticked::Tick(tick) => VrkCount {
+            refusal: 0,
+            count: tick.0 as u64,
+        },
+        Ticked::Refused(f) => VrkCount {
+            refusal: f.number(),
+            count: 0,
+        },
+    }
+}
+
+#[no_mangle]
+pub extern "C" fn vrk_sbt_date(
+    tick: u32,
+    correlation: VrkCorrelation,
+    receipt_day: i64,
+    receipt_micro: u64,
+) -> VrkTime
+    ensures { λ r. ⌜ r ≡ sbtDate tick correlation «receipt_day» «receipt_micro» ⌝ }
+{
+    time_out(correlation::date(
+        correlate(correlation),
+        Tick(tick),
+        receipt_day,
+        receipt_micro,
+    ))
+}
+
+#[no_mangle]
+pub extern "C" fn vrk_sbt_tick(time: VrkHanded, correlation: VrkCorrelation) -> VrkCount
+    ensures { λ r. ⌜ r ≡ sbtTick time correlation ⌝ }
+{
+    match hand(time) {
+        Given::Handed(h) => tick_out(correlation::tick_of(correlate(correlation), h)),
+        Given::Unknown => VrkCount {
+            refusal: 3,
+            count: 0,
         },
     }
 }

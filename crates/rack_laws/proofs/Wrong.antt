@@ -3,12 +3,15 @@ use mathlib.Core.Path.{_≡_, refl, sym, _∙_}
 use mathlib.Core.Bool.{false}
 use Prim.Native.Nat.{ℕ}
 use native.Mathlib.Omega.{arith}
-use lib.IntN.{pos}
+use lib.IntN.{ℤ, pos}
 use lib.Ieee.{Float, nan}
 use Rattle.evidence.specs.ShutOut.{ShutOut, differ}
-use Rattle.scales.specs.Meaning.{outcome, dated}
+use Rattle.scales.specs.Meaning.{scaleAt, outcome, dated}
 use Rattle.decimal.specs.Meaning.{reading, plusZero}
-use Rattle.rack.specs.Meaning.{scaleAt, timeOut, decimalRead, DecimalWrote}
+use Rattle.correlation.specs.Meaning.{accepted, inWindow, covers, clock, dateOf, ticked, turning}
+use Rattle.rack.specs.Meaning.{handedOf, correlationOf, timeOut, tickOut, decimalRead, DecimalWrote, sbtDate, sbtTick}
+use Rattle.rack.specs.declared.VrkCorrelation.{VrkCorrelation}
+use Rattle.rack.specs.declared.VrkCount.{VrkCount}
 use Rattle.rack.specs.declared.VrkTime.{VrkTime}
 use Rattle.rack.specs.declared.VrkHanded.{VrkHanded}
 use Rattle.rack.specs.declared.VrkDecimal.{VrkDecimal}
@@ -47,3 +50,37 @@ pub write-four : DecimalWrote strange (record { refusal = 4; day = plusZero }) �
 write-four w =
     differ (λ (d : VrkDecimal). d .refusal) (λ e. omega arith)
     (decimal-one strange (record { refusal = 3; day = plusZero }) (record { refusal = 4; day = plusZero }) right w)
+
+-- ---- vrk_sbt_date
+abbrev dead : ℕ → VrkCorrelation
+dead scale = record { tick = 7; scale = scale; day = pos 0; micro = 0; period = 3906250000; back = 0; ahead = 0 }
+
+-- an unknown scale taken for TAI
+abbrev unknownDated : ℕ → VrkCorrelation → ℤ → ℕ → VrkTime
+unknownDated t c d u = timeOut (dateOf (correlationOf (record { tick = c .tick; scale = 0; day = c .day; micro = c .micro; period = c .period; back = c .back; ahead = c .ahead })) t d u)
+
+pub date-unknown : ShutOut (sbtDate 7 (dead 3) (pos 0) 0) (record { refusal = 6; scale = 0; day = pos 0; micro = 0 }) (unknownDated 7 (dead 3) (pos 0) 0) (record { refusal = 0; scale = 0; day = pos 0; micro = 0 })
+unfolding sbtDate correlationOf dateOf accepted inWindow covers clock
+date-unknown = (refl, refl, differ (λ (t : VrkTime). t .refusal) (λ e. omega arith))
+
+-- the window left to the caller
+pub date-window : ShutOut (sbtDate 8 (dead 0) (pos 0) 0) (record { refusal = 8; scale = 0; day = pos 0; micro = 0 }) (sbtDate 8 (record { tick = 7; scale = 0; day = pos 0; micro = 0; period = 3906250000; back = 1; ahead = 1 }) (pos 0) 0) (record { refusal = 0; scale = 0; day = pos 0; micro = 3906 })
+unfolding sbtDate correlationOf dateOf accepted inWindow covers clock
+date-window = (refl, refl, differ (λ (t : VrkTime). t .refusal) (λ e. omega arith))
+
+-- ---- vrk_sbt_tick
+-- an unknown kind judged after the correlation
+abbrev sixFirst : VrkHanded → VrkCorrelation → VrkCount
+sixFirst h c = tickOut (ticked (outcome (turning (correlationOf c) (handedOf h))))
+
+pub tick-kind : ShutOut (sbtTick strange (dead 3)) (record { refusal = 3; count = 0 }) (sixFirst strange (dead 3)) (record { refusal = 6; count = 0 })
+unfolding sbtTick correlationOf accepted
+tick-kind = (refl, refl, differ (λ (t : VrkCount). t .refusal) (λ e. omega arith))
+
+-- a refusal that hands back the reference tick
+abbrev handsTick : VrkHanded → VrkCorrelation → VrkCount
+handsTick h c = record { refusal = sbtTick h c .refusal; count = c .tick }
+
+pub tick-handed : ShutOut (sbtTick strange (dead 0)) (record { refusal = 3; count = 0 }) (handsTick strange (dead 0)) (record { refusal = 3; count = 7 })
+unfolding sbtTick
+tick-handed = (refl, refl, differ (λ (t : VrkCount). t .count) (λ e. omega arith))

@@ -15,8 +15,8 @@ use Rattle.rack.proofs.time_out.Tie as tie
 enum-known-d : tie.Need-enum-known-d
 enum-known-d c = search needs
 
-scale-code-requires : tie.Need-scale-code-requires
-scale-code-requires c κs = search needs
+code-requires : tie.Need-code-requires
+code-requires c κs = search needs
 
 enum-known-d-2 : tie.Need-enum-known-d-2
 enum-known-d-2 c = search needs
@@ -24,21 +24,21 @@ enum-known-d-2 c = search needs
 number-requires : tie.Need-number-requires
 number-requires c κs = search needs
 
-scale-code-requires-2 : tie.Need-scale-code-requires-2
-scale-code-requires-2 c κs = search needs
+code-requires-2 : tie.Need-code-requires-2
+code-requires-2 c κs = search needs
 
 returns : tie.Need-returns
 returns c =
     let d = c .before .before .before in
     let r = d .d .given .0 .0 in
-    ap₂ {C = VrkTime} (λ (s : ℕ) (z : ℤ). record { refusal = 0; scale = s; day = z; micro = r .micro }) (c .before .scale-code .ensures)
+    ap₂ {C = VrkTime} (λ (s : ℕ) (z : ℤ). record { refusal = 0; scale = s; day = z; micro = r .micro }) (c .before .code .ensures)
     (toZ-ofZ {w = w64} {z = r .day} (record { sfits = c .struct-told .given .1 .0 .1 }))
     ∙ sym (ap (λ (x : Dated). timeOut (slip x)) (d .d .given .1))
 
 returns-2 : tie.Need-returns-2
 returns-2 c =
     let d = c .before .before .before in
-    ap₂ {C = VrkTime} (λ (n s : ℕ). record { refusal = n; scale = s; day = pos 0; micro = 0 }) (c .before .number .ensures) (c .scale-code2 .ensures)
+    ap₂ {C = VrkTime} (λ (n s : ℕ). record { refusal = n; scale = s; day = pos 0; micro = 0 }) (c .before .number .ensures) (c .code2 .ensures)
     ∙ sym (ap (λ (x : Dated). timeOut (slip x)) (d .d2 .given .1))
 
 pub time-out-spec : {M : Type 1} → statement M
@@ -46,9 +46,9 @@ time-out-spec =
     tie.close
     (tie.spec
     enum-known-d
-    scale-code-requires
+    code-requires
     enum-known-d-2
     number-requires
-    scale-code-requires-2
+    code-requires-2
     returns
     returns-2)

@@ -1,0 +1,34 @@
+-- `rack::tick_out` meets its contract. Assumes nothing.
+use mathlib.Core.Path.{ap, sym, _∙_}
+use Prim.Native.Nat.{ℕ}
+use Rattle.correlation.specs.Meaning.{tickSlip}
+use Rattle.correlation.specs.declared.Ticked.{Ticked}
+use Rattle.rack.specs.Meaning.{tickOut}
+use Rattle.rack.specs.declared.VrkCount.{VrkCount}
+use borrow.Author.Needs.{needs}
+use Rattle.rack.proofs.tick_out.Statement.{statement}
+use Rattle.rack.proofs.tick_out.Tie as tie
+
+enum-known-t : tie.Need-enum-known-t
+enum-known-t c = search needs
+
+cast-t5 : tie.Need-cast-t5
+cast-t5 c = search needs
+
+enum-known-t-2 : tie.Need-enum-known-t-2
+enum-known-t-2 c = search needs
+
+number-requires : tie.Need-number-requires
+number-requires c κs = search needs
+
+returns : tie.Need-returns
+returns c = sym (ap (λ (x : Ticked). tickOut (tickSlip x)) (c .before .before .t .given .1))
+
+returns-2 : tie.Need-returns-2
+returns-2 c =
+    ap {B = VrkCount} (λ (n : ℕ). record { refusal = n; count = 0 }) (c .number .ensures)
+    ∙ sym (ap (λ (x : Ticked). tickOut (tickSlip x)) (c .before .before .t2 .given .1))
+
+pub tick-out-spec : {M : Type 1} → statement M
+tick-out-spec =
+    tie.close (tie.spec enum-known-t cast-t5 enum-known-t-2 number-requires returns returns-2)

@@ -1,0 +1,34 @@
+-- `rack::vrk_sbt_date` meets its contract. Assumes nothing.
+use mathlib.Core.Path.{ap, ap₂, sym, _∙_}
+use lib.IntN.{ℤ}
+use mir.Facts.{toZ-ofZ}
+use Rattle.correlation.specs.Meaning.{dateOf}
+use Rattle.correlation.specs.declared.Correlation.{Correlation}
+use Rattle.rack.specs.Meaning.{timeOut, sbtDate}
+use borrow.Author.Needs.{needs}
+use Rattle.rack.proofs.vrk_sbt_date.Statement.{statement}
+use Rattle.rack.proofs.vrk_sbt_date.Tie as tie
+
+correlate-requires : tie.Need-correlate-requires
+correlate-requires c κs = search needs
+
+date-requires : tie.Need-date-requires
+date-requires c κs = search needs
+
+time-out-requires : tie.Need-time-out-requires
+time-out-requires c κs = search needs
+
+returns : tie.Need-returns
+unfolding sbtDate
+returns c =
+    let d = c .before in
+    let k = d .before in
+    let s = k .before in
+    let a = s .args in
+    c .time-out .ensures
+    ∙ ap timeOut
+    (d .date .ensures
+    ∙ ap₂ (λ (x : Correlation) (z : ℤ). dateOf x (a .tick) z (a .receipt-micro)) (k .correlate .ensures) (toZ-ofZ (s .fits .receipt-day)))
+
+pub vrk-sbt-date-spec : {M : Type 1} → statement M
+vrk-sbt-date-spec = tie.close (tie.spec correlate-requires date-requires time-out-requires returns)

@@ -1,0 +1,57 @@
+-- `rack::vrk_sbt_tick` meets its contract. Assumes nothing.
+use mathlib.Core.Path.{ap, sym, _∙_}
+use Rattle.correlation.specs.Meaning.{tickOf}
+use Rattle.correlation.specs.declared.Correlation.{Correlation}
+use Rattle.rack.specs.Meaning.{tickOut}
+use Rattle.rack.proofs.Ways.{tick-known, tick-unknown}
+use borrow.Author.Needs.{needs}
+use Rattle.rack.proofs.vrk_sbt_tick.Statement.{statement}
+use Rattle.rack.proofs.vrk_sbt_tick.Tie as tie
+
+hand-requires : tie.Need-hand-requires
+hand-requires c κs = search needs
+
+enum-known-h : tie.Need-enum-known-h
+enum-known-h c = search needs
+
+correlate-requires : tie.Need-correlate-requires
+correlate-requires c κs = search needs
+
+tick-of-requires : tie.Need-tick-of-requires
+tick-of-requires c κs = search needs
+
+tick-out-requires : tie.Need-tick-out-requires
+tick-out-requires c κs = search needs
+
+enum-told : tie.Need-enum-told
+enum-told c = search needs
+
+returns : tie.Need-returns
+returns c =
+    let t = c .before in
+    let r = t .before in
+    let k = r .before .before in
+    let b = k .before .before in
+    let a = b .before .args in
+    c .tick-out .ensures
+    ∙ ap tickOut (t .tick-of .ensures ∙ ap (λ (x : Correlation). tickOf x (k .h .given .0 .0)) (r .correlate .ensures))
+    ∙ tick-known (a .time) (a .correlation) (k .h .given .0 .0) (sym (b .hand .ensures) ∙ k .h .given .1)
+
+returns-2 : tie.Need-returns-2
+returns-2 c =
+    let b = c .before .before in
+    let a = b .before .args in
+    tick-unknown (a .time) (a .correlation) (sym (b .hand .ensures) ∙ c .enum-told .given .1)
+
+pub vrk-sbt-tick-spec : {M : Type 1} → statement M
+vrk-sbt-tick-spec =
+    tie.close
+    (tie.spec
+    hand-requires
+    enum-known-h
+    correlate-requires
+    tick-of-requires
+    tick-out-requires
+    enum-told
+    returns
+    returns-2)
