@@ -1,5 +1,6 @@
 //! The functions of the interface, how their inputs are made, and what the independent program says of each.
 
+mod correlation;
 mod decimal;
 mod handed;
 
@@ -31,6 +32,8 @@ pub struct Function {
 pub const FUNCTIONS: &[Function] = &[
     Function { name: "decimal_read", number: 0, make: decimal::make_read, model: decimal::model_read },
     Function { name: "decimal_write", number: 1, make: decimal::make_write, model: decimal::model_write },
+    Function { name: "sbt_date", number: 2, make: correlation::make_date, model: correlation::model_date },
+    Function { name: "sbt_tick", number: 3, make: correlation::make_tick, model: correlation::model_tick },
 ];
 
 impl Call {

@@ -12,7 +12,7 @@ extern void *memset(void *, int, size_t);
 enum { ANSWER = 6, MOST = 8192, GUARD = 64 };
 
 /* The functions, numbered as in main.rs. */
-enum { DECIMAL_READ, DECIMAL_WRITE };
+enum { DECIMAL_READ, DECIMAL_WRITE, SBT_DATE, SBT_TICK };
 
 static uint64_t w[MOST / 8], answer[ANSWER];
 
@@ -30,11 +30,20 @@ static void time_is(vrk_time t) {
 
 static void decimal_is(vrk_decimal d) { answer[0] = d.refusal, answer[1] = bits_of(d.day); }
 
+static vrk_correlation correlation_at(const uint64_t *a) {
+    vrk_correlation c = {(uint32_t)a[0], (uint32_t)a[1], (int64_t)a[2], a[3], a[4], a[5], a[6]};
+    return c;
+}
+
+static void count_is(vrk_count c) { answer[0] = c.refusal, answer[1] = c.count; }
+
 static int call(uint32_t function, const unsigned char *in, size_t in_len, unsigned char *out, size_t out_len) {
     (void)in, (void)in_len, (void)out, (void)out_len;
     switch (function) {
     case DECIMAL_READ: time_is(vrk_decimal_read(double_of(w[0]), (uint32_t)w[1])); return 1;
     case DECIMAL_WRITE: decimal_is(vrk_decimal_write(handed_at(w))); return 1;
+    case SBT_DATE: time_is(vrk_sbt_date((uint32_t)w[0], correlation_at(w + 1), (int64_t)w[8], w[9])); return 1;
+    case SBT_TICK: count_is(vrk_sbt_tick(handed_at(w), correlation_at(w + 5))); return 1;
     }
     return 0;
 }

@@ -1,6 +1,7 @@
 //! The papers' rules once more, in plain integers and exact fractions, written from document 01 and not from the proved
 //! code. Nothing here is shared with it, so that the two can be compared.
 
+pub mod correlation;
 pub mod decimal;
 pub mod time;
 

@@ -48,6 +48,12 @@ pub enum Handed {
 }
 
 impl Handed {
+    pub fn scale(self) -> Scale {
+        match self {
+            Handed::Record(scale, _) | Handed::Decimal(scale, _) => scale,
+        }
+    }
+
     /// 4, and nothing of what follows it.
     pub fn finite(self) -> Result<(), Number> {
         match self {

@@ -3,8 +3,9 @@ use mathlib.Core.Path.{_≡_, refl}
 use mathlib.Core.List.{List, map}
 use lib.IntN.{ℤ}
 use Rattle.decimal.specs.Meaning.{readOf}
+use Rattle.correlation.specs.Meaning.{dateOf, accepted, inWindow, covers, clock}
 use Rattle.marked.specs.Table.{Row, table}
 
 pub marked : map (λ (r : Row). r .meaning) table ≡ map (λ (r : Row). r .paper) table
-unfolding readOf
+unfolding readOf dateOf accepted inWindow covers clock
 marked = refl

@@ -8,6 +8,8 @@ use Rattle.scales.specs.Meaning.{Slip}
 use Rattle.scales.specs.declared.Scale.{Scale}
 use Rattle.scales.specs.declared.Scale.the-variants as S
 use Rattle.decimal.specs.Meaning.{readOf}
+use Rattle.correlation.specs.Meaning.{dateOf}
+use Rattle.correlation.specs.declared.Correlation.{Correlation}
 
 pub record Row : Type 0 where
   pub case : ℕ
@@ -28,5 +30,30 @@ minusHalf = fin true 1 (negsuc 0)
 abbrev pub decimalCase : Scale → Row
 decimalCase s = record { case = 10; meaning = slipped (readOf minusHalf s); paper = answered (negsuc 0) 43200000000 }
 
+-- a correlation with P = 3,906,250,000: its reference is the first second of day 0
+abbrev pub correlated : ℕ → ℕ → Correlation
+correlated tick reach =
+    record { tick = record { 0 = tick }; scale = S.Tai; day = pos 0; micro = 1000000; period = 3906250000; back = reach; ahead = reach }
+
+-- 8. Reference tick FFFFFFFF, in force: tick 0 adds 3,906; FFFFFFFE takes away 3,907
+abbrev pub forward : Row
+forward =
+    record { case = 8; meaning = slipped (dateOf (correlated 4294967295 10) 0 (pos 0) 1003906); paper = answered (pos 0) 1003906 }
+
+abbrev pub backward : Row
+backward =
+    record { case = 8; meaning = slipped (dateOf (correlated 4294967295 10) 4294967294 (pos 0) 1000000); paper = answered (pos 0) 996093 }
+
+-- 9. b = a = 0: the reference tick received at the reference time answers; the next tick: 8
+abbrev pub atReference : Row
+atReference =
+    record { case = 9; meaning = slipped (dateOf (correlated 7 0) 7 (pos 0) 1000000); paper = answered (pos 0) 1000000 }
+
+abbrev pub nextTick : Row
+nextTick =
+    record { case = 9; meaning = slipped (dateOf (correlated 7 0) 8 (pos 0) 1000000); paper = pos 8 ∷ pos 0 ∷ pos 0 ∷ [] }
+
 abbrev pub table : List Row
-table = decimalCase S.Tai ∷ decimalCase S.Utc ∷ decimalCase S.Gps ∷ []
+table =
+    forward ∷ backward ∷ atReference ∷ nextTick
+    ∷ decimalCase S.Tai ∷ decimalCase S.Utc ∷ decimalCase S.Gps ∷ []

@@ -1,0 +1,119 @@
+use super::{answered, handed, Answer, Call, Random};
+use crate::independent::correlation::Correlation;
+use crate::independent::time::{moment_at, since_day_0, Moment, Scale};
+
+/// The seven words of a vrk_correlation: tick, scale, day, micro, period, back, ahead.
+fn words(random: &mut Random) -> Vec<u64> {
+    let tick = if random.one_in(4) { random.pick(&[0, 1, 0xffff_ffff, 0xffff_fffe]) } else { random.next() >> 32 };
+    let scale = if random.one_in(60) { random.pick(&[3, 7, u64::from(u32::MAX)]) } else { random.below(3) };
+    // a window reaches 97 days at most: times outside the span come from references near its ends
+    let day = match random.below(8) {
+        0 => handed::day(random),
+        1 | 2 => 36524 - random.below(60) as i64,
+        3 => -7300 + random.below(60) as i64,
+        4 => -10227 + random.below(60) as i64,
+        _ => random.below(43000) as i64 - 7000,
+    };
+    let micro = if random.one_in(12) { handed::micro(random) } else { random.below(86_400_000_000) };
+    let period = match random.below(16) {
+        0 => random.pick(&[3_905_999_999, 3_906_500_001, 0, u64::MAX]),
+        1 => 3_906_000_000,
+        2 => 3_906_500_000,
+        3 => 3_906_250_000,
+        _ => 3_906_000_000 + random.below(500_001),
+    };
+    vec![tick, scale, day as u64, micro, period, reach(random, 1 << 31), reach(random, (1 << 31) - 1)]
+}
+
+fn reach(random: &mut Random, most: u64) -> u64 {
+    match random.below(12) {
+        0 => 0,
+        1 => 1,
+        2 => most,
+        3 if random.one_in(3) => most + 1,
+        3 if random.one_in(3) => random.next(),
+        4 => random.below(1000),
+        _ => random.below(most + 1),
+    }
+}
+
+fn of(words: &[u64]) -> Option<Correlation> {
+    Some(Correlation {
+        tick: words[0] as u32,
+        scale: Scale::coded(words[1])?,
+        reference: Moment { day: words[2] as i64, micro: words[3] },
+        period: words[4],
+        back: words[5],
+        ahead: words[6],
+    })
+}
+
+/// A count of the window, at its ends, or just outside.
+fn count(random: &mut Random, words: &[u64]) -> i128 {
+    let (back, ahead) = (i128::from(words[5].min(1 << 32)), i128::from(words[6].min(1 << 32)));
+    match random.below(8) {
+        0 => -back,
+        1 => ahead,
+        2 => -back - 1,
+        3 => ahead + 1,
+        4 => 0,
+        _ => i128::from(random.below((back + ahead + 1) as u64)) - back,
+    }
+}
+
+/// The time at such a count, or a microsecond beside it.
+fn moment(random: &mut Random, words: &[u64]) -> Moment {
+    let reference = since_day_0(Moment { day: (words[2] as i64).clamp(-100_000, 100_000), micro: words[3].min(1 << 40) });
+    let beside = random.pick(&[-1, 0, 0, 0, 1, 2000]);
+    let at = if random.one_in(4) { 0 } else { count(random, words) };
+    moment_at(reference + (at * i128::from(words[4].min(1 << 40))).div_euclid(1_000_000) + beside)
+}
+
+pub fn make_date(random: &mut Random) -> Call {
+    let correlation = words(random);
+    let tick = if random.one_in(8) { random.next() as u32 } else { (i128::from(correlation[0]) + count(random, &correlation)) as u32 };
+    let receipt = if random.one_in(12) { Moment { day: handed::day(random), micro: handed::micro(random) } } else { moment(random, &correlation) };
+    let mut all = vec![u64::from(tick)];
+    all.extend(correlation);
+    all.extend([receipt.day as u64, receipt.micro]);
+    Call::of(all)
+}
+
+pub fn model_date(call: &Call) -> Answer {
+    let Some(correlation) = of(&call.words[1..8]) else { return answered(call, &[6]) };
+    let scale = correlation.scale.code();
+    let receipt = Moment { day: call.words[8] as i64, micro: call.words[9] };
+    match correlation.date(call.words[0] as u32, receipt) {
+        Ok(moment) => answered(call, &[0, scale, moment.day as u64, moment.micro]),
+        Err(number) => answered(call, &[number, scale]),
+    }
+}
+
+pub fn make_tick(random: &mut Random) -> Call {
+    let correlation = words(random);
+    let mut all = handed::words(random);
+    if !random.one_in(4) {
+        let moment = moment(random, &correlation);
+        all[1] = correlation[1];
+        all[2] = moment.day as u64;
+        all[3] = moment.micro;
+        if !random.one_in(6) {
+            all[4] = (moment.day as f64 + moment.micro as f64 / 86_400_000_000.0).to_bits();
+        }
+    }
+    all.extend(correlation);
+    Call::of(all)
+}
+
+pub fn model_tick(call: &Call) -> Answer {
+    let number = match (handed::of(&call.words), of(&call.words[5..])) {
+        (None, _) => Err(3),
+        // an unknown scale is a correlation that is not accepted
+        (Some(handed), None) => handed.finite().and(Err(6)),
+        (Some(handed), Some(correlation)) => correlation.tick_of(handed),
+    };
+    match number {
+        Ok(tick) => answered(call, &[0, u64::from(tick)]),
+        Err(number) => answered(call, &[number]),
+    }
+}
