@@ -15,8 +15,8 @@ use Rattle.scales.specs.declared.Refusal.{Refusal}
 use Rattle.scales.specs.declared.Refusal.the-variants as R
 use Rattle.scales.specs.declared.Time.{Time}
 use Rattle.scales.specs.declared.Timed.the-variants as TD
-use Rattle.scales.specs.declared.Span.{Span}
-use Rattle.scales.specs.declared.Counted.the-variants as C
+use Rattle.scales.specs.declared.counting.Span.{Span}
+use Rattle.scales.specs.declared.counting.Counted.the-variants as C
 
 -- ---- the ways out of the one test of a span: p is the day's place, w the span
 module _ (s : Scale) (d : ℤ) (u p : ℕ) (w : Span) (e : p ≡ placeOfDay d) (q : w ≡ spanOf s) where

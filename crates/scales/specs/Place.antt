@@ -15,9 +15,9 @@ use Rattle.scales.specs.declared.Scale.{Scale}
 use Rattle.scales.specs.declared.Scale.the-variants as S
 use Rattle.scales.specs.declared.Refusal.{Refusal}
 use Rattle.scales.specs.declared.Refusal.the-variants as R
-use Rattle.scales.specs.declared.Span.{Span}
-use Rattle.scales.specs.declared.Counted.{Counted}
-use Rattle.scales.specs.declared.Counted.the-variants as C
+use Rattle.scales.specs.declared.counting.Span.{Span}
+use Rattle.scales.specs.declared.counting.Counted.{Counted}
+use Rattle.scales.specs.declared.counting.Counted.the-variants as C
 
 -- ---- the places of a span
 abbrev pub firstAt : Scale → ℕ

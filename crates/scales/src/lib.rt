@@ -1,7 +1,13 @@
 // The paper's words: scales, the counts that are kept apart by them, records as handed in, the refusals and the answers.
 ghost use mathlib.Core.Path.{_≡_};
-ghost use Rattle.scales.specs.Meaning.{codeOf, numberOf, slip, slipTai, slipUtc, slipGps, slipTimed, spanned, recordOf, recordAt, timeAt, timeScale, timeCount};
-ghost use Rattle.scales.specs.Place.{spanFrom, spanOf, counted};
+ghost use Rattle.scales.specs.Meaning.{codeOf, numberOf, slip, slipTai, slipUtc, slipGps, slipTimed, spanned, recordOf, recordAt, timeScale, timeCount};
+
+mod counting;
+
+use counting::Counted;
+use counting::count_of;
+use counting::record_at;
+use counting::time_at;
 
 pub enum Scale {
     Tai,
@@ -124,81 +130,6 @@ pub enum Timed {
 pub enum Written {
     Bytes(usize),
     Refused(Refusal),
-}
-
-enum Counted {
-    At(u64),
-    Outside,
-}
-
-// A span on the axis: the places of its first and last day, and the microseconds of a day.
-struct Span {
-    first: u64,
-    last: u64,
-    bound: u64,
-}
-
-fn span_from(first: i64, last: i64, bound: u64) -> Span
-    ensures { λ r. ⌜ r ≡ spanFrom first last bound ⌝ }
-{
-    Span {
-        first: axis::place_of_day(first),
-        last: axis::place_of_day(last),
-        bound,
-    }
-}
-
-fn span_of(scale: Scale) -> Span
-    ensures { λ r. ⌜ r ≡ spanOf scale ⌝ }
-{
-    match scale {
-        Scale::Tai => span_from(Tai::FIRST_DAY, Tai::LAST_DAY, Tai::BOUND),
-        Scale::Utc => span_from(Utc::FIRST_DAY, Utc::LAST_DAY, Utc::BOUND),
-        Scale::Gps => span_from(Gps::FIRST_DAY, Gps::LAST_DAY, Gps::BOUND),
-    }
-}
-
-// The count of a day and a microsecond of a scale, if they lie in its span.
-fn count_of(scale: Scale, day: i64, micro: u64) -> Counted
-    ensures { λ r. ⌜ r ≡ counted scale day micro ⌝ }
-{
-    let span = span_of(scale);
-    let bound = span.bound;
-    let d = axis::place_of_day(day);
-    if d < span.first {
-        return Counted::Outside;
-    }
-    if span.last < d {
-        return Counted::Outside;
-    }
-    if bound <= micro {
-        return Counted::Outside;
-    }
-    Counted::At(d * bound + micro)
-}
-
-// The record of a count. This function and `Record::new` are the only ones that build a record.
-fn record_at(scale: Scale, count: u64) -> Record
-    ensures { λ r. ⌜ r ≡ recordAt scale count ⌝ }
-{
-    let bound = span_of(scale).bound;
-    let day = axis::day_at((count / bound) as u32);
-    Record {
-        scale,
-        day,
-        micro: count % bound,
-    }
-}
-
-// The time of a count.
-fn time_at(scale: Scale, count: u64) -> Time
-    ensures { λ r. ⌜ r ≡ timeAt scale count ⌝ }
-{
-    match scale {
-        Scale::Tai => Time::Tai(Tai(count)),
-        Scale::Utc => Time::Utc(Utc(count)),
-        Scale::Gps => Time::Gps(Gps(count)),
-    }
 }
 
 impl Time {

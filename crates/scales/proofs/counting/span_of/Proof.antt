@@ -1,9 +1,9 @@
--- `scales::span_of` meets its contract: the constants are those of the paper. Assumes nothing.
+-- `scales::counting::span_of` meets its contract: the constants are those of the paper. Assumes nothing.
 use mathlib.Core.Path.{ap, sym, _∙_}
 use borrow.Author.Needs.{needs}
 use Rattle.scales.specs.Place.{spanOf}
-use Rattle.scales.proofs.span_of.Statement.{statement}
-use Rattle.scales.proofs.span_of.Tie as tie
+use Rattle.scales.proofs.counting.span_of.Statement.{statement}
+use Rattle.scales.proofs.counting.span_of.Tie as tie
 
 enum-told : tie.Need-enum-told
 enum-told c = search needs

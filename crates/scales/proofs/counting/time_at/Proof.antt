@@ -1,10 +1,10 @@
--- `scales::time_at` meets its contract. Assumes nothing.
+-- `scales::counting::time_at` meets its contract. Assumes nothing.
 use mathlib.Core.Path.{ap, sym}
 use borrow.Author.Needs.{needs}
 use Rattle.scales.specs.Meaning.{timeAt}
 use Rattle.scales.specs.declared.Scale.{Scale}
-use Rattle.scales.proofs.time_at.Statement.{statement}
-use Rattle.scales.proofs.time_at.Tie as tie
+use Rattle.scales.proofs.counting.time_at.Statement.{statement}
+use Rattle.scales.proofs.counting.time_at.Tie as tie
 
 enum-told : tie.Need-enum-told
 enum-told c = search needs

@@ -1,4 +1,4 @@
--- `scales::record_at` meets its contract. Assumes nothing.
+-- `scales::counting::record_at` meets its contract. Assumes nothing.
 use mathlib.Core.Path.{_≡_, ap, sym, subst, _∙_}
 use Prim.Native.Nat.{ℕ, _/_, _%_, _*_, _<_, _≤_}
 use native.Mathlib.Omega.{arith}
@@ -11,9 +11,9 @@ use Rattle.axis.specs.Meaning.{dayAt}
 use Rattle.scales.specs.Meaning.{bound}
 use Rattle.scales.specs.Place.{apart}
 use Rattle.scales.specs.declared.Record.{Record}
-use Rattle.scales.specs.declared.Span.{Span}
-use Rattle.scales.proofs.record_at.Statement.{statement}
-use Rattle.scales.proofs.record_at.Tie as tie
+use Rattle.scales.specs.declared.counting.Span.{Span}
+use Rattle.scales.proofs.counting.record_at.Statement.{statement}
+use Rattle.scales.proofs.counting.record_at.Tie as tie
 
 span-of-requires : tie.Need-span-of-requires
 span-of-requires c κs = search needs

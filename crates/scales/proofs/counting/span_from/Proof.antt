@@ -1,12 +1,12 @@
--- `scales::span_from` meets its contract: the callee read each day from its bits. Assumes nothing.
+-- `scales::counting::span_from` meets its contract: the callee read each day from its bits. Assumes nothing.
 use mathlib.Core.Path.{_≡_, ap, ap₂, _∙_}
 use Prim.Native.Nat.{ℕ}
 use mir.Facts.{toZ-ofZ}
 use borrow.Author.Needs.{needs}
 use Rattle.axis.specs.Meaning.{placeOfDay}
-use Rattle.scales.specs.declared.Span.{Span}
-use Rattle.scales.proofs.span_from.Statement.{statement}
-use Rattle.scales.proofs.span_from.Tie as tie
+use Rattle.scales.specs.declared.counting.Span.{Span}
+use Rattle.scales.proofs.counting.span_from.Statement.{statement}
+use Rattle.scales.proofs.counting.span_from.Tie as tie
 
 place-of-day-requires : tie.Need-place-of-day-requires
 place-of-day-requires c κs = search needs

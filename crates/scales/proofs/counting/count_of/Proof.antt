@@ -1,12 +1,12 @@
--- `scales::count_of` meets its contract: one law for each way out. Assumes nothing.
+-- `scales::counting::count_of` meets its contract: one law for each way out. Assumes nothing.
 use mathlib.Core.Path.{_≡_, ap, _∙_}
 use native.Mathlib.Omega.{arith}
 use mir.Facts.{toZ-ofZ}
 use borrow.Author.Needs.{needs}
 use Rattle.axis.specs.Meaning.{placeOfDay}
 use Rattle.scales.specs.Counts.{count-early, count-late, count-over, count-fits, count-within}
-use Rattle.scales.proofs.count_of.Statement.{statement}
-use Rattle.scales.proofs.count_of.Tie as tie
+use Rattle.scales.proofs.counting.count_of.Statement.{statement}
+use Rattle.scales.proofs.counting.count_of.Tie as tie
 
 span-of-requires : tie.Need-span-of-requires
 span-of-requires c κs = search needs
