@@ -81,7 +81,7 @@ class Repository:
         wrong = ""
         if theorem not in self._definitions(file):
             wrong = f"the theorem {theorem} of {name} is not defined in {file}"
-        elif name not in re.findall(NAME, antt_code(read(os.path.join(self.root, file)))):
+        elif name.split(":")[-1] not in re.findall(NAME, antt_code(read(os.path.join(self.root, file)))):
             wrong = f"{file} says nothing of {name}"
         self._views[name] = (len(entry) == 4, wrong)
         return wrong
@@ -109,11 +109,13 @@ class Repository:
     def listed(self, function, name, kind):
         """The definition of a view or a relation that views.txt has."""
         known, file = self.definition(function, name)
-        relation, wrong = self._views.get(known, (None, ""))
+        # Of several definitions of one name each has its own line, FILE:NAME.
+        key = f"{file}:{known}" if f"{file}:{known}" in self._views else known
+        relation, wrong = self._views.get(key, (None, ""))
         if relation != (kind == "relation"):
             raise Refused(f"{known} is no {kind} that {VIEWS} names")
         # One line stands for one definition.
-        other = self._places.setdefault(known, file)
+        other = self._places.setdefault(key, file)
         if wrong or other != file:
             raise Refused(wrong or f"{known} is defined in {other} too, and {VIEWS} cannot tell the two apart")
         return known, file
