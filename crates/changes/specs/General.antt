@@ -1,0 +1,82 @@
+-- The ways out of the one change of any time to any scale. Assumes nothing.
+use mathlib.Core.Path.{_≡_, refl, sym, ap, ap₂, _∙_}
+use mathlib.Core.Bool.{Bool, true, false, not, _&&_, _||_, false≢true}
+use mathlib.Core.List.{List}
+use Prim.Native.Nat.{ℕ}
+use lib.IntN.{ℤ}
+use borrow.Author.Tests.{eqb-true}
+use Rattle.scales.specs.Meaning.{codeOf, sameScale, inSpan, refused, answer, outcome, Moment, dated, timeScale, timeCount}
+use Rattle.scales.specs.Same.{scales-same}
+use Rattle.scales.specs.declared.Scale.{Scale}
+use Rattle.scales.specs.declared.Scale.the-variants as S
+use Rattle.scales.specs.declared.Time.{Time}
+use Rattle.scales.specs.declared.Handed.{Handed}
+use Rattle.decimal.specs.Meaning.{scaleOf, isFinite, isInSpan}
+use Rattle.decimal.specs.Told.{Told, told-scale, told-moment}
+use Rattle.leap.specs.Meaning.{accepted}
+use Rattle.leap.specs.Walk.{or-true}
+use Rattle.changes.specs.Meaning.{toScale, isUtc, usesList, settled, moving, ofCount, momentIn, changeOf}
+
+same-scale : (s t : Scale) → sameScale s t ≡ true → s ≡ t
+same-scale s t e = scales-same s t (eqb-true (codeOf s) (codeOf t) e)
+
+-- ---- the list is used where UTC stands on either side
+pub uses-from : (s to : Scale) → isUtc s ≡ true → usesList s to ≡ true
+uses-from s to e = rw e
+
+pub uses-to : (s to : Scale) → isUtc to ≡ true → usesList s to ≡ true
+uses-to s to e = rw e (or-true (isUtc s))
+
+-- ---- to its own scale, or to another
+module _ (s to : Scale) (ds : List ℤ) (os : List ℕ) (e : ℤ) (m : Moment) (c : ℤ) where
+  pub stays : sameScale s to ≡ true → dated s (answer m) ≡ dated to (outcome (settled s to ds os e m c))
+  stays h = ap (λ (x : Scale). dated x (answer m)) (same-scale s to h) ∙ sym (rw h)
+
+  pub goes : sameScale s to ≡ false → dated to (outcome (toScale to ds os e c)) ≡ dated to (outcome (settled s to ds os e m c))
+  goes h = sym (rw h)
+
+-- ---- what is judged before
+pub lacking : (u a : Bool) → (u && not a) ≡ true → (not u || a) ≡ false
+lacking true true e = absurd (false≢true e)
+lacking true false e = refl
+lacking false a e = absurd (false≢true e)
+
+pub having : (u a : Bool) → (u && not a) ≡ false → (not u || a) ≡ true
+having true true e = refl
+having true false e = absurd (false≢true (sym e))
+having false a e = refl
+
+pub listed-so : (u a : Bool) → (u && not a) ≡ false → u ≡ true → a ≡ true
+listed-so true true e h = refl
+listed-so true false e h = absurd (false≢true (sym e))
+listed-so false a e h = absurd (false≢true h)
+
+module _ (h : Handed) (to : Scale) (ds : List ℤ) (os : List ℕ) (e : ℤ) where
+  abbrev lacks : Bool
+  lacks = usesList (scaleOf h) to && not (accepted ds os e)
+
+  pub change-infinite : isFinite h ≡ false → dated to (refused 4) ≡ changeOf h to ds os e
+  unfolding changeOf
+  change-infinite f = sym (rw f)
+
+  pub change-unlisted : isFinite h ≡ true → lacks ≡ true → dated to (refused 5) ≡ changeOf h to ds os e
+  unfolding changeOf
+  change-unlisted f l = sym (rw (f, lacking (usesList (scaleOf h) to) (accepted ds os e) l))
+
+  pub seven : (s : Scale) (m : Moment) → outcome (moving s to ds os e false m) ≡ refused 7
+  seven S.Tai m = refl
+  seven S.Utc m = refl
+  seven S.Gps m = refl
+
+  pub change-outside : isFinite h ≡ true → lacks ≡ false → isInSpan h ≡ false → dated to (refused 7) ≡ changeOf h to ds os e
+  unfolding changeOf
+  change-outside f l i =
+      sym (rw (f, having (usesList (scaleOf h) to) (accepted ds os e) l, i) (ap (dated to) (seven (scaleOf h) (momentIn h))))
+
+  pub change-at : (t : Time) → Told h t → lacks ≡ false
+      → dated to (outcome (ofCount (timeScale t) (timeCount t) (moving (timeScale t) to ds os e))) ≡ changeOf h to ds os e
+  unfolding changeOf
+  change-at t w l =
+      ap₂ (λ (s : Scale) (m : Moment). dated to (outcome (moving s to ds os e (inSpan s (m .day) (m .micro)) m))) (told-scale h t w) (told-moment h t w)
+      ∙ ap (λ (b : Bool). dated to (outcome (moving (scaleOf h) to ds os e b (momentIn h)))) (w .kept ∙ sym (w .inside))
+      ∙ sym (rw (w .finite, having (usesList (scaleOf h) to) (accepted ds os e) l))

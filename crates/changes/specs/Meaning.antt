@@ -1,0 +1,134 @@
+-- The six changes between TAI, UTC and GPS, and the one change of any time that is handed in, as the paper states them. A list is
+-- its steps' days ds, its offsets os and its last day e. Assumes nothing.
+use mathlib.Core.Bool.{Bool, cond, not, _||_}
+use mathlib.Core.List.{List}
+use Prim.Native.Nat.{ℕ}
+use lib.IntN.{ℤ, _+ℤ_, _-ℤ_}
+use Rattle.scales.specs.Meaning.{sameScale, inSpan, Judged, given, gives, outcome, Slip, Moment, dated, momentAt}
+use Rattle.scales.specs.declared.Scale.{Scale}
+use Rattle.scales.specs.declared.Scale.the-variants as S
+use Rattle.scales.specs.declared.Handed.{Handed}
+use Rattle.decimal.specs.Meaning.{since, scaleOf, isFinite, isInSpan, dayOf, microOf}
+use Rattle.leap.specs.Meaning.{seconds, accepted, taiOf, hasMicro, isExpiredDay, isExpiredTai, momentOf, utcOf}
+
+-- what one chain gives is judged by the next
+abbrev pub andThen : {A B : Type 0} → Judged A → (A → Judged B) → Judged B
+andThen (given t n rest) next = given t n (andThen rest next)
+andThen (gives a) next = next a
+
+-- ---- a time to its TAI count; `spans` says whether the time lies in its span
+abbrev pub fromTai : Bool → Moment → Judged ℤ
+fromTai spans m =
+    given spans 7
+    (gives (since (m .day) (m .micro)))
+
+-- "TAI is GPS plus 19 s"
+abbrev pub fromGps : Bool → Moment → Judged ℤ
+fromGps spans m =
+    given spans 7
+    (gives (since (m .day) (m .micro) +ℤ seconds 19))
+
+abbrev pub fromUtc : List ℤ → List ℕ → ℤ → Bool → Moment → Judged ℤ
+fromUtc ds os e spans m =
+    given spans 7
+    (given (not (isExpiredDay e (m .day))) 9
+    (given (hasMicro ds (m .day) (m .micro)) 10
+    (gives (taiOf ds os (m .day) (m .micro)))))
+
+-- ---- a TAI count, "whose span is not tested on the way", to a time
+abbrev pub within : Scale → Moment → Judged Moment
+within s m =
+    given (inSpan s (m .day) (m .micro)) 11
+    (gives m)
+
+abbrev pub toTai : ℤ → Judged Moment
+toTai c = within S.Tai (momentOf c)
+
+abbrev pub toGps : ℤ → Judged Moment
+toGps c = within S.Gps (momentOf (c -ℤ seconds 19))
+
+abbrev pub toUtc : List ℤ → List ℕ → ℤ → ℤ → Judged Moment
+toUtc ds os e c =
+    given (not (isExpiredTai ds os e c)) 9
+    (within S.Utc (utcOf ds os c))
+
+-- ---- the six changes, of a count of each scale
+abbrev pub ofCount : {A : Type 0} → Scale → ℕ → (Bool → Moment → A) → A
+ofCount s n f = f (inSpan s (momentAt s n .day) (momentAt s n .micro)) (momentAt s n)
+
+-- "5 leap list not accepted, where one is used"
+abbrev pub listed : List ℤ → List ℕ → ℤ → Judged Moment → Judged Moment
+listed ds os e rest = given (accepted ds os e) 5 rest
+
+abbrev pub taiInGps : ℕ → Judged Moment
+taiInGps n = andThen (ofCount S.Tai n fromTai) toGps
+
+abbrev pub gpsInTai : ℕ → Judged Moment
+gpsInTai n = andThen (ofCount S.Gps n fromGps) toTai
+
+abbrev pub utcInTai : List ℤ → List ℕ → ℤ → ℕ → Judged Moment
+utcInTai ds os e n = andThen (ofCount S.Utc n (fromUtc ds os e)) toTai
+
+abbrev pub utcInGps : List ℤ → List ℕ → ℤ → ℕ → Judged Moment
+utcInGps ds os e n = andThen (ofCount S.Utc n (fromUtc ds os e)) toGps
+
+abbrev pub taiInUtc : List ℤ → List ℕ → ℤ → ℕ → Judged Moment
+taiInUtc ds os e n = andThen (ofCount S.Tai n fromTai) (toUtc ds os e)
+
+abbrev pub gpsInUtc : List ℤ → List ℕ → ℤ → ℕ → Judged Moment
+gpsInUtc ds os e n = andThen (ofCount S.Gps n fromGps) (toUtc ds os e)
+
+unfoldable pub taiToGps : ℕ → Slip
+taiToGps n = dated S.Gps (outcome (taiInGps n))
+
+unfoldable pub gpsToTai : ℕ → Slip
+gpsToTai n = dated S.Tai (outcome (gpsInTai n))
+
+unfoldable pub utcToTai : ℕ → List ℤ → List ℕ → ℤ → Slip
+utcToTai n ds os e = dated S.Tai (outcome (listed ds os e (utcInTai ds os e n)))
+
+unfoldable pub utcToGps : ℕ → List ℤ → List ℕ → ℤ → Slip
+utcToGps n ds os e = dated S.Gps (outcome (listed ds os e (utcInGps ds os e n)))
+
+unfoldable pub taiToUtc : ℕ → List ℤ → List ℕ → ℤ → Slip
+taiToUtc n ds os e = dated S.Utc (outcome (listed ds os e (taiInUtc ds os e n)))
+
+unfoldable pub gpsToUtc : ℕ → List ℤ → List ℕ → ℤ → Slip
+gpsToUtc n ds os e = dated S.Utc (outcome (listed ds os e (gpsInUtc ds os e n)))
+
+-- ---- the change of any time that is handed in, to any scale
+abbrev pub fromScale : Scale → List ℤ → List ℕ → ℤ → Bool → Moment → Judged ℤ
+fromScale S.Tai ds os e = fromTai
+fromScale S.Utc ds os e = fromUtc ds os e
+fromScale S.Gps ds os e = fromGps
+
+abbrev pub toScale : Scale → List ℤ → List ℕ → ℤ → ℤ → Judged Moment
+toScale S.Tai ds os e = toTai
+toScale S.Utc ds os e = toUtc ds os e
+toScale S.Gps ds os e = toGps
+
+abbrev pub isUtc : Scale → Bool
+isUtc s = sameScale s S.Utc
+
+-- a list is used where UTC stands on either side
+abbrev pub usesList : Scale → Scale → Bool
+usesList s to = isUtc s || isUtc to
+
+-- to its own scale a time stays as it is, after the refusals that its scale brings
+abbrev pub settled : Scale → Scale → List ℤ → List ℕ → ℤ → Moment → ℤ → Judged Moment
+settled s to ds os e m c = cond (sameScale s to) (gives m) (toScale to ds os e c)
+
+abbrev pub moving : Scale → Scale → List ℤ → List ℕ → ℤ → Bool → Moment → Judged Moment
+moving s to ds os e spans m = andThen (fromScale s ds os e spans m) (settled s to ds os e m)
+
+abbrev pub momentIn : Handed → Moment
+momentIn h = record { day = dayOf h; micro = microOf h }
+
+abbrev pub changing : Handed → Scale → List ℤ → List ℕ → ℤ → Judged Moment
+changing h to ds os e =
+    given (isFinite h) 4
+    (given (not (usesList (scaleOf h) to) || accepted ds os e) 5
+    (moving (scaleOf h) to ds os e (isInSpan h) (momentIn h)))
+
+unfoldable pub changeOf : Handed → Scale → List ℤ → List ℕ → ℤ → Slip
+changeOf h to ds os e = dated to (outcome (changing h to ds os e))

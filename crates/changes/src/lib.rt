@@ -1,0 +1,105 @@
+// The changes between TAI, UTC and GPS. Each entry that uses a leap list tests it once and hands it to its core.
+ghost use mathlib.Core.Path.{_≡_};
+ghost use mathlib.Core.Bool.{not, _&&_};
+ghost use Rattle.scales.specs.Meaning.{slip, slipTai, slipUtc, slipGps, timeScale};
+ghost use Rattle.leap.specs.Meaning.{accepted};
+ghost use Rattle.changes.specs.Meaning.{taiToGps, gpsToTai, utcToTai, utcToGps, taiToUtc, gpsToUtc, usesList, changeOf};
+use decimal::Taken;
+use scales::Dated;
+use scales::DatedGps;
+use scales::DatedTai;
+use scales::DatedUtc;
+use scales::Gps;
+use scales::Handed;
+use scales::Refusal;
+use scales::Scale;
+use scales::Tai;
+use scales::Time;
+use scales::Utc;
+
+pub mod inner;
+
+pub fn tai_to_gps(t: Tai) -> DatedGps
+    ensures { λ r. ⌜ slipGps r ≡ taiToGps (t .0) ⌝ }
+{
+    match inner::from_tai(t) {
+        DatedTai::At(c) => inner::to_gps(c),
+        DatedTai::Refused(f) => DatedGps::Refused(f),
+    }
+}
+
+pub fn gps_to_tai(t: Gps) -> DatedTai
+    ensures { λ r. ⌜ slipTai r ≡ gpsToTai (t .0) ⌝ }
+{
+    match inner::from_gps(t) {
+        DatedTai::At(c) => inner::to_tai(c),
+        DatedTai::Refused(f) => DatedTai::Refused(f),
+    }
+}
+
+pub fn utc_to_tai(t: Utc, days: &[i64], offsets: &[u64], last: i64) -> DatedTai
+    ensures { λ r. ⌜ slipTai r ≡ utcToTai (t .0) (now (days .entry)) (now (offsets .entry)) last ⌝ }
+{
+    if !leap::is_accepted(days, offsets, last) {
+        return DatedTai::Refused(Refusal::List);
+    }
+    inner::utc_to_tai(t, days, offsets, last)
+}
+
+pub fn utc_to_gps(t: Utc, days: &[i64], offsets: &[u64], last: i64) -> DatedGps
+    ensures { λ r. ⌜ slipGps r ≡ utcToGps (t .0) (now (days .entry)) (now (offsets .entry)) last ⌝ }
+{
+    if !leap::is_accepted(days, offsets, last) {
+        return DatedGps::Refused(Refusal::List);
+    }
+    inner::utc_to_gps(t, days, offsets, last)
+}
+
+pub fn tai_to_utc(t: Tai, days: &[i64], offsets: &[u64], last: i64) -> DatedUtc
+    ensures { λ r. ⌜ slipUtc r ≡ taiToUtc (t .0) (now (days .entry)) (now (offsets .entry)) last ⌝ }
+{
+    if !leap::is_accepted(days, offsets, last) {
+        return DatedUtc::Refused(Refusal::List);
+    }
+    inner::tai_to_utc(t, days, offsets, last)
+}
+
+pub fn gps_to_utc(t: Gps, days: &[i64], offsets: &[u64], last: i64) -> DatedUtc
+    ensures { λ r. ⌜ slipUtc r ≡ gpsToUtc (t .0) (now (days .entry)) (now (offsets .entry)) last ⌝ }
+{
+    if !leap::is_accepted(days, offsets, last) {
+        return DatedUtc::Refused(Refusal::List);
+    }
+    inner::gps_to_utc(t, days, offsets, last)
+}
+
+// Is a list used that is not accepted?
+fn lacks_list(from: Scale, to: Scale, days: &[i64], offsets: &[u64], last: i64) -> bool
+    ensures { λ r. ⌜ r ≡ (usesList from to && not (accepted (now (days .entry)) (now (offsets .entry)) last)) ⌝ }
+{
+    if !inner::uses_list(from, to) {
+        return false;
+    }
+    !leap::is_accepted(days, offsets, last)
+}
+
+// Any time that is handed in, to any scale.
+pub fn change(h: Handed, to: Scale, days: &[i64], offsets: &[u64], last: i64) -> Dated
+    ensures { λ r. ⌜ slip r ≡ changeOf h to (now (days .entry)) (now (offsets .entry)) last ⌝ }
+{
+    match decimal::take(h) {
+        Taken::NotFinite(_) => Dated::Refused(Refusal::NotFinite, to),
+        Taken::Outside(s) => {
+            if lacks_list(s, to, days, offsets, last) {
+                return Dated::Refused(Refusal::List, to);
+            }
+            Dated::Refused(Refusal::Span, to)
+        }
+        Taken::At(t) => {
+            if lacks_list(t.scale(), to, days, offsets, last) {
+                return Dated::Refused(Refusal::List, to);
+            }
+            inner::change(t, to, days, offsets, last)
+        }
+    }
+}

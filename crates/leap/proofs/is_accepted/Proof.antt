@@ -1,0 +1,99 @@
+-- `leap::is_accepted` meets its contract: one law for each way out. Assumes nothing.
+use mathlib.Core.Path.{_≡_, sym, ap, _∙_}
+use Prim.Native.Nat.{ℕ}
+use native.Mathlib.Omega.{arith}
+use lib.ListN.{drop}
+use mir.Facts.{toZ-ofZ}
+use borrow.Author.Tests.{not-true, not-false}
+use Rattle.axis.specs.Meaning.{placeOfDay}
+use Rattle.leap.specs.Accept.{accept-empty, accept-long, accept-uneven, accept-early, accept-late, accept-other-day, accept-other-offset, firsts-no, accept-rest, rest}
+use borrow.Author.Needs.{needs}
+use Rattle.leap.proofs.is_accepted.Statement.{statement}
+use Rattle.leap.proofs.is_accepted.Tie as tie
+
+returns : tie.Need-returns
+returns c = let a = c .before .before .args in accept-empty (a .days .now) (a .offsets .now) (a .last) (c .if1 .taken)
+
+returns-2 : tie.Need-returns-2
+returns-2 c = let a = c .before .before .before .args in accept-long (a .days .now) (a .offsets .now) (a .last) (c .if2 .taken)
+
+returns-3 : tie.Need-returns-3
+returns-3 c = let a = c .before .before .before .before .args in accept-uneven (a .days .now) (a .offsets .now) (a .last) (c .if3 .taken)
+
+place-of-day-requires : tie.Need-place-of-day-requires
+place-of-day-requires c κs = search needs
+
+-- the callee read the day from its bits
+seen : (c : tie.After-place-of-day) → c .place-of-day .result ≡ placeOfDay (c .before .before .before .before .before .args .last)
+seen c = c .place-of-day .ensures ∙ ap placeOfDay (toZ-ofZ (c .before .before .before .before .before .fits .last))
+
+returns-4 : tie.Need-returns-4
+returns-4 c = let a = c .before .before .before .before .before .before .args in accept-early (a .days .now) (a .offsets .now) (a .last) (omega (arith, seen (c .before), c .if4 .taken))
+
+returns-5 : tie.Need-returns-5
+returns-5 c = let a = c .before .before .before .before .before .before .before .args in accept-late (a .days .now) (a .offsets .now) (a .last) (omega (arith, seen (c .before .before), c .if5 .taken))
+
+step-day-requires : tie.Need-step-day-requires
+step-day-requires c κs = search needs
+
+returns-6 : tie.Need-returns-6
+returns-6 c = let a = c .before .before .before .before .before .before .before .before .before .args in accept-other-day (a .days .now) (a .offsets .now) (a .last) (λ q. c .if6 .taken (c .before .step-day .ensures ∙ q))
+
+shared-slice-read-if7 : tie.Need-shared-slice-read-if7
+shared-slice-read-if7 c = search needs
+
+returns-7 : tie.Need-returns-7
+returns-7 c = let a = c .before .before .before .before .before .before .before .before .before .before .before .args in accept-other-offset (a .days .now) (a .offsets .now) (a .last) (c .if7 .taken)
+
+all-firsts-requires : tie.Need-all-firsts-requires
+all-firsts-requires c κs = search needs
+
+returns-8 : tie.Need-returns-8
+returns-8 c =
+    let a = c .before .before .before .before .before .before .before .before .before .before .before .before .before .args in
+    firsts-no (a .days .now) (a .offsets .now) (a .last) (sym (c .before .all-firsts .ensures) ∙ not-true (c .before .all-firsts .result) (c .if8 .taken))
+
+steps-follow-requires : tie.Need-steps-follow-requires
+steps-follow-requires c κs =
+    let f = c .before in
+    let p = f .before .before .before .before .before in
+    record {
+      few = p .before .before .before .before .if2 .left;
+      even = p .before .before .before .if3 .left;
+      firsts = sym (f .all-firsts .ensures) ∙ not-false (f .all-firsts .result) (c .if8 .left);
+      early = omega (arith, p .if5 .left);
+    }
+
+returns-9 : tie.Need-returns-9
+returns-9 c =
+    let f = c .before .before in
+    let k = f .before .before in
+    let d = k .before .before in
+    let p = d .before in
+    let m = p .before .before in
+    let n = m .before in
+    let a = n .before .before .before .before .args in
+    c .steps-follow .ensures
+    ∙ ap (λ (e : ℕ). rest e 29773 10 (drop 1 (a .days .now)) (drop 1 (a .offsets .now))) (seen m)
+    ∙ accept-rest (a .days .now) (a .offsets .now) (a .last) (n .before .before .if1 .left) (n .before .if2 .left) (n .if3 .left)
+    (omega (arith, seen m, p .before .if4 .left)) (omega (arith, seen m, p .if5 .left)) (sym (d .step-day .ensures) ∙ k .before .if6 .left)
+    (f .before .if7 .left) (sym (f .all-firsts .ensures) ∙ not-false (f .all-firsts .result) (c .before .if8 .left))
+
+pub is-accepted-spec : {M : Type 1} → statement M
+is-accepted-spec =
+    tie.close
+    (tie.spec
+    returns
+    returns-2
+    returns-3
+    place-of-day-requires
+    returns-4
+    returns-5
+    step-day-requires
+    returns-6
+    shared-slice-read-if7
+    returns-7
+    all-firsts-requires
+    returns-8
+    steps-follow-requires
+    returns-9)

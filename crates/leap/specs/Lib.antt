@@ -1,0 +1,10 @@
+pub mod Meaning
+pub mod Places
+pub mod Walk
+pub mod Accept
+pub mod Steps
+pub mod Search
+pub mod Force
+pub mod Back
+pub mod Whole
+pub mod Same

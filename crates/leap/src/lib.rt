@@ -1,0 +1,157 @@
+// The leap list: its acceptance, and the list as published. A list is lent as two slices, the steps' days and TAI minus UTC
+// from each day on, with its last day E.
+ghost use mathlib.Core.Path.{_≡_};
+ghost use Prim.Native.Nat.{_≤_};
+ghost use lib.ListN.{drop};
+ghost use Rattle.leap.specs.Meaning.{accepted, publishedDays, publishedOffsets};
+ghost use Rattle.leap.specs.Accept.{may, Tested, rest};
+
+pub mod inner;
+
+// The places of days -10227 and 36524.
+const FIRST: u64 = 29773;
+
+const LAST: u64 = 76524;
+
+// May the step (d, p) follow the step (s, o) in a list whose last day stands at e?
+fn follows(e: u64, s: u64, o: u64, d: u64, p: u64) -> bool
+    requires { ⌜ (e ≤ 100000) × (o ≤ 100) ⌝ }
+    ensures { λ r. ⌜ r ≡ may e s o d p ⌝ }
+{
+    if d <= s {
+        return false;
+    }
+    if p != o + 1 {
+        return false;
+    }
+    d <= e + 1
+}
+
+// May each step after the first follow the one before it?
+fn steps_follow(days: &[i64], offsets: &[u64], e: u64) -> bool
+    requires { ⌜ Tested (now days) (now offsets) e ⌝ }
+    ensures { λ r. ⌜ r ≡ rest e 29773 10 (drop 1 (now (days .entry))) (drop 1 (now (offsets .entry))) ⌝ }
+{
+    let mut s = FIRST;
+    let mut o = 10;
+    let mut i = 1;
+    while i < days.len() {
+        let d = inner::step_day(days, i);
+        let p = offsets[i];
+        if !follows(e, s, o, d, p) {
+            return false;
+        }
+        s = d;
+        o = p;
+        i += 1;
+    }
+    true
+}
+
+// Is the list accepted? The calendar is asked once, of all the days.
+pub fn is_accepted(days: &[i64], offsets: &[u64], last: i64) -> bool
+    ensures { λ r. ⌜ r ≡ accepted (now (days .entry)) (now (offsets .entry)) last ⌝ }
+{
+    let n = days.len();
+    if n < 1 {
+        return false;
+    }
+    if 64 < n {
+        return false;
+    }
+    if offsets.len() != n {
+        return false;
+    }
+    let e = axis::place_of_day(last);
+    if e < FIRST {
+        return false;
+    }
+    if LAST < e {
+        return false;
+    }
+    if inner::step_day(days, 0) != FIRST {
+        return false;
+    }
+    if offsets[0] != 10 {
+        return false;
+    }
+    if !calendar::all_firsts(days) {
+        return false;
+    }
+    steps_follow(days, offsets, e)
+}
+
+// The last day of the published list: 31 December 2024.
+pub const PUBLISHED_LAST: i64 = 9131;
+
+// The days of the 28 published steps. A program takes them once and lends them to each call.
+pub fn published_days() -> [i64; 28]
+    ensures { λ r. ⌜ r ≡ publishedDays ⌝ }
+{
+    [
+        -10227,
+        -10045,
+        -9861,
+        -9496,
+        -9131,
+        -8766,
+        -8400,
+        -8035,
+        -7670,
+        -7305,
+        -6758,
+        -6393,
+        -6028,
+        -5297,
+        -4383,
+        -3652,
+        -3287,
+        -2740,
+        -2375,
+        -2010,
+        -1461,
+        -914,
+        -365,
+        2192,
+        3288,
+        4565,
+        5660,
+        6210,
+    ]
+}
+
+// TAI minus UTC from each of them on.
+pub fn published_offsets() -> [u64; 28]
+    ensures { λ r. ⌜ r ≡ publishedOffsets ⌝ }
+{
+    [
+        10,
+        11,
+        12,
+        13,
+        14,
+        15,
+        16,
+        17,
+        18,
+        19,
+        20,
+        21,
+        22,
+        23,
+        24,
+        25,
+        26,
+        27,
+        28,
+        29,
+        30,
+        31,
+        32,
+        33,
+        34,
+        35,
+        36,
+        37,
+    ]
+}

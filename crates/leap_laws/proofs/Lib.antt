@@ -1,0 +1,9 @@
+pub mod Marked
+pub mod Order
+pub mod Stands
+pub mod Arrives
+pub mod Changes
+pub mod Fresh
+pub mod Promises
+pub mod Wrong
+pub mod Instances
