@@ -107,6 +107,21 @@ vrk_time vrk_sbt_date(uint32_t tick, vrk_correlation correlation, int64_t receip
  * Refused: 3 unknown kind or scale of the time; 4; 6; 7; 12 for another scale or second 60; 8 outside the window's times. */
 vrk_count vrk_sbt_tick(vrk_handed time, vrk_correlation correlation);
 
+/* ---- the leap list and changes of scale
+ *
+ * A list is lent as two slices of the same length, the steps' days and TAI minus UTC in seconds from each day on, and its last
+ * day E. It is accepted with 1 to 64 steps, of which the first is (-10227, 10), days that rise strictly and are firsts of
+ * months, offsets that count up by one, E from -10227 to 36524, and no step later than E + 1. */
+
+/* Returned: 1 where the list is accepted, 0 where it is not. */
+uint32_t vrk_list_accepted(const int64_t *days, size_t day_count, const uint64_t *offsets, size_t offset_count, int64_t last);
+
+/* Given: a time, the code of the scale that is wanted, and a leap list, which is looked at only where UTC stands on either side.
+ * Returned: the same instant in that scale; in its own scale a time stays as it is.
+ * Refused: 3 unknown kind or scale; 4; 5; 7; 9; 10; 11. The empty record is of the scale that is wanted (0 where unknown). */
+vrk_time vrk_change(vrk_handed time, uint32_t to_scale, const int64_t *days, size_t day_count, const uint64_t *offsets,
+                    size_t offset_count, int64_t last);
+
 #ifdef __cplusplus
 }
 #endif

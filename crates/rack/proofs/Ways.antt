@@ -1,6 +1,7 @@
 -- What the functions of the C interface share: codes, what is handed in, and a refusal 3 before a library's own. Assumes nothing.
 use mathlib.Core.Path.{_≡_, refl, sym, ap, subst, _∙_}
 use mathlib.Core.Bool.{Bool, true, false, cond, _&&_}
+use mathlib.Core.List.{List}
 use Prim.Native.Nat.{ℕ, _≤_, _<_}
 use native.Mathlib.Omega.{arith}
 use lib.Dec.{eqb, leb}
@@ -11,16 +12,17 @@ use Rattle.scales.specs.declared.Scale.{Scale}
 use Rattle.scales.specs.declared.Scale.the-variants as S
 use Rattle.scales.specs.declared.Handed.{Handed}
 use Rattle.scales.specs.declared.Handed.the-variants as H
-use Rattle.scales.specs.Meaning.{scaleAt, recordOf}
+use Rattle.scales.specs.Meaning.{codeOf, scaleAt, recordOf}
 use Rattle.scales.specs.Place.{and-false}
 use Rattle.decimal.specs.Meaning.{readOf, WroteDay, decimalSlip, plusZero}
 use Rattle.decimal.specs.declared.Decimal.{Decimal}
 use Rattle.correlation.specs.Meaning.{tickOf}
+use Rattle.changes.specs.Meaning.{changeOf}
 use Rattle.rack.specs.declared.VrkCorrelation.{VrkCorrelation}
 use Rattle.rack.specs.declared.VrkHanded.{VrkHanded}
 use Rattle.rack.specs.declared.Given.the-variants as G
 use Rattle.rack.specs.declared.Named.the-variants as N
-use Rattle.rack.specs.Meaning.{knownScale, known, handedOf, timeOut, decimalOut, decimalRead, DecimalWrote, correlationOf, tickOut, sbtTick, namedBy, givenOf}
+use Rattle.rack.specs.Meaning.{knownScale, known, handedOf, timeOut, decimalOut, decimalRead, DecimalWrote, correlationOf, tickOut, sbtTick, changed, namedBy, givenOf}
 
 -- ---- an answer picked by a test tells the test
 module _ {A : Type 0} (good bad : A) (apart : good ≡ bad → ⊥) where
@@ -129,3 +131,18 @@ tick-known h c t e = let k = given-good h t e in rw (k .0, k .1)
 pub tick-unknown : (h : VrkHanded) (c : VrkCorrelation) → givenOf h ≡ G.Unknown → record { refusal = 3; count = 0 } ≡ sbtTick h c
 unfolding sbtTick
 tick-unknown h c e = rw (given-bad h e)
+
+-- ---- changes of scale
+module _ (h : VrkHanded) (c : ℕ) (ds : List ℤ) (os : List ℕ) (e : ℤ) where
+  pub change-unknown : namedBy c ≡ N.Unknown → record { refusal = 3; scale = 0; day = pos 0; micro = 0 } ≡ changed h c ds os e
+  unfolding changed
+  change-unknown f = let k = named-bad c f in rw (k, unknown-tai c k)
+
+  module _ (s : Scale) (f : namedBy c ≡ N.Scale s) where
+    pub change-known : (t : Handed) → givenOf h ≡ G.Handed t → timeOut (changeOf t s ds os e) ≡ changed h c ds os e
+    unfolding changed changeOf
+    change-known t g = let k = named-good c s f in let l = given-good h t g in rw (k .0, l .0, k .1, l .1)
+
+    pub change-kind : givenOf h ≡ G.Unknown → record { refusal = 3; scale = codeOf s; day = pos 0; micro = 0 } ≡ changed h c ds os e
+    unfolding changed
+    change-kind g = let k = named-good c s f in rw (k .0, given-bad h g, k .1)

@@ -1,6 +1,7 @@
 -- What the structs and codes of the C interface stand for. A code that stands for nothing is refused 3, before all else.
 -- Assumes nothing.
 use mathlib.Core.Bool.{Bool, true, false, cond, _&&_}
+use mathlib.Core.List.{List}
 use Prim.Native.Nat.{ℕ}
 use lib.Dec.{eqb, leb}
 use lib.IntN.{ℤ}
@@ -11,6 +12,8 @@ use Rattle.scales.specs.Meaning.{codeOf, scaleAt, given, outcome, Slip, dated, 
 use Rattle.decimal.specs.Meaning.{reading, writing, DecimalSlip, Allowed}
 use Rattle.correlation.specs.Meaning.{TickSlip, ticked, dateOf, turning}
 use Rattle.correlation.specs.declared.Correlation.{Correlation}
+use Rattle.leap.specs.Meaning.{accepted}
+use Rattle.changes.specs.Meaning.{changing}
 use Rattle.rack.specs.declared.VrkCorrelation.{VrkCorrelation}
 use Rattle.rack.specs.declared.VrkCount.{VrkCount}
 use Rattle.rack.specs.declared.VrkTime.{VrkTime}
@@ -69,6 +72,15 @@ sbtDate t c d u = timeOut (dateOf (correlationOf c) t d u)
 
 unfoldable pub sbtTick : VrkHanded → VrkCorrelation → VrkCount
 sbtTick h c = tickOut (ticked (outcome (given (known h) 3 (turning (correlationOf c) (handedOf h)))))
+
+abbrev pub listAccepted : List ℤ → List ℕ → ℤ → ℕ
+listAccepted ds os e = cond (accepted ds os e) 1 0
+
+unfoldable pub changed : VrkHanded → ℕ → List ℤ → List ℕ → ℤ → VrkTime
+changed h c ds os e =
+    timeOut (dated (scaleAt c) (outcome
+    (given (knownScale c && known h) 3
+    (changing (handedOf h) (scaleAt c) ds os e))))
 
 -- ---- the inner answers
 unfoldable pub namedBy : ℕ → Named

@@ -4,7 +4,7 @@ ghost use mathlib.Core.Path.{_≡_};
 ghost use Rattle.scales.specs.Meaning.{slip};
 ghost use Rattle.decimal.specs.Meaning.{decimalSlip};
 ghost use Rattle.correlation.specs.Meaning.{tickSlip};
-ghost use Rattle.rack.specs.Meaning.{namedBy, givenOf, timeOut, decimalOut, tickOut, correlationOf, decimalRead, DecimalWrote, sbtDate, sbtTick};
+ghost use Rattle.rack.specs.Meaning.{namedBy, givenOf, timeOut, decimalOut, tickOut, correlationOf, decimalRead, DecimalWrote, sbtDate, sbtTick, listAccepted, changed};
 use correlation::Correlation;
 use correlation::Ticked;
 use decimal::Decimal;
@@ -225,6 +225,45 @@ pub extern "C" fn vrk_sbt_tick(time: VrkHanded, correlation: VrkCorrelation) -> 
         Given::Unknown => VrkCount {
             refusal: 3,
             count: 0,
+        },
+    }
+}
+
+#[no_mangle]
+pub extern "C" fn vrk_list_accepted(days: &[i64], offsets: &[u64], last: i64) -> u32
+    ensures { λ r. ⌜ r ≡ listAccepted (now (days .entry)) (now (offsets .entry)) last ⌝ }
+{
+    if leap::is_accepted(days, offsets, last) {
+        return 1;
+    }
+    0
+}
+
+#[no_mangle]
+pub extern "C" fn vrk_change(
+    time: VrkHanded,
+    to_scale: u32,
+    days: &[i64],
+    offsets: &[u64],
+    last: i64,
+) -> VrkTime
+    ensures { λ r. ⌜ r ≡ changed time «to_scale» (now (days .entry)) (now (offsets .entry)) last ⌝ }
+{
+    let Named::Scale(to) = scale_named(to_scale) else {
+        return VrkTime {
+            refusal: 3,
+            scale: 0,
+            day: 0,
+            micro: 0,
+        };
+    };
+    match hand(time) {
+        Given::Handed(h) => time_out(changes::change(h, to, days, offsets, last)),
+        Given::Unknown => VrkTime {
+            refusal: 3,
+            scale: to.code(),
+            day: 0,
+            micro: 0,
         },
     }
 }

@@ -1,15 +1,20 @@
 -- Wrong covers for C, each shut out by an input at which its answer is not the meaning's. Assumes nothing.
 use mathlib.Core.Path.{_≡_, refl, sym, _∙_}
-use mathlib.Core.Bool.{false}
+use mathlib.Core.Bool.{cond, _&&_}
+use mathlib.Core.List.{List, [], _∷_}
 use Prim.Native.Nat.{ℕ}
 use native.Mathlib.Omega.{arith}
-use lib.IntN.{ℤ, pos}
+use lib.IntN.{ℤ, pos, negsuc}
 use lib.Ieee.{Float, nan}
 use Rattle.evidence.specs.ShutOut.{ShutOut, differ}
-use Rattle.scales.specs.Meaning.{scaleAt, outcome, dated}
+use Rattle.scales.specs.Meaning.{scaleAt, given, outcome, dated}
 use Rattle.decimal.specs.Meaning.{reading, plusZero}
 use Rattle.correlation.specs.Meaning.{accepted, inWindow, covers, clock, dateOf, ticked, turning}
-use Rattle.rack.specs.Meaning.{handedOf, correlationOf, timeOut, tickOut, decimalRead, DecimalWrote, sbtDate, sbtTick}
+use Rattle.calendar.specs.Meaning.{leap, monthLength, lengthOf, firstDay, dayAfter, daysTo, walk, isFirst}
+use Rattle.leap.specs.Meaning as L
+use Rattle.leap.specs.Meaning.{begins, risesFrom, rises, countsFrom, countsUp}
+use Rattle.changes.specs.Meaning.{changing}
+use Rattle.rack.specs.Meaning.{knownScale, known, listAccepted, changed, handedOf, correlationOf, timeOut, tickOut, decimalRead, DecimalWrote, sbtDate, sbtTick}
 use Rattle.rack.specs.declared.VrkCorrelation.{VrkCorrelation}
 use Rattle.rack.specs.declared.VrkCount.{VrkCount}
 use Rattle.rack.specs.declared.VrkTime.{VrkTime}
@@ -84,3 +89,43 @@ handsTick h c = record { refusal = sbtTick h c .refusal; count = c .tick }
 pub tick-handed : ShutOut (sbtTick strange (dead 0)) (record { refusal = 3; count = 0 }) (handsTick strange (dead 0)) (record { refusal = 3; count = 7 })
 unfolding sbtTick
 tick-handed = (refl, refl, differ (λ (t : VrkCount). t .count) (λ e. omega arith))
+
+-- ---- vrk_list_accepted
+-- any list taken that begins as it must
+abbrev headOnly : List ℤ → List ℕ → ℤ → ℕ
+headOnly ds os e = cond (begins ds os) 1 0
+
+pub list-head : ShutOut (listAccepted (negsuc 10226 ∷ []) (10 ∷ []) (pos 36525)) 0 (headOnly (negsuc 10226 ∷ []) (10 ∷ []) (pos 36525)) 1
+unfolding L.accepted begins rises risesFrom isFirst walk daysTo dayAfter firstDay lengthOf monthLength leap countsUp countsFrom
+list-head = (refl, refl, λ e. omega arith)
+
+-- a number for every answer but the right one
+abbrev swappedOnes : List ℤ → List ℕ → ℤ → ℕ
+swappedOnes ds os e = cond (L.accepted ds os e) 0 1
+
+pub list-swapped : ShutOut (listAccepted [] [] (pos 0)) 0 (swappedOnes [] [] (pos 0)) 1
+unfolding L.accepted
+list-swapped = (refl, refl, λ e. omega arith)
+
+-- ---- vrk_change
+-- the empty record of the scale that was handed in
+abbrev fromScaleEmpty : VrkHanded → ℕ → List ℤ → List ℕ → ℤ → VrkTime
+fromScaleEmpty h c ds os e = timeOut (dated (scaleAt (h .scale)) (outcome (given (knownScale c && known h) 3 (changing (handedOf h) (scaleAt c) ds os e))))
+
+abbrev late : VrkHanded
+late = record { kind = 0; scale = 0; day = pos 36525; micro = 0; decimal = plusZero }
+
+pub change-empty : ShutOut (changed late 2 [] [] (pos 0)) (record { refusal = 7; scale = 2; day = pos 0; micro = 0 }) (fromScaleEmpty late 2 [] [] (pos 0)) (record { refusal = 7; scale = 0; day = pos 0; micro = 0 })
+unfolding changed
+change-empty = (refl, refl, differ (λ (t : VrkTime). t .scale) (λ e. omega arith))
+
+-- an unknown scale wanted, taken for TAI
+abbrev wantsTai : VrkHanded → ℕ → List ℤ → List ℕ → ℤ → VrkTime
+wantsTai h c ds os e = timeOut (dated (scaleAt c) (outcome (given (known h) 3 (changing (handedOf h) (scaleAt c) ds os e))))
+
+abbrev today : VrkHanded
+today = record { kind = 0; scale = 0; day = pos 0; micro = 5; decimal = plusZero }
+
+pub change-wanted : ShutOut (changed today 3 [] [] (pos 0)) (record { refusal = 3; scale = 0; day = pos 0; micro = 0 }) (wantsTai today 3 [] [] (pos 0)) (record { refusal = 0; scale = 0; day = pos 0; micro = 5 })
+unfolding changed
+change-wanted = (refl, refl, differ (λ (t : VrkTime). t .refusal) (λ e. omega arith))
