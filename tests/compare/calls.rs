@@ -3,6 +3,7 @@
 mod correlation;
 mod decimal;
 mod handed;
+mod leap;
 
 /// As in serve.c.
 pub const ANSWER: usize = 6;
@@ -34,6 +35,8 @@ pub const FUNCTIONS: &[Function] = &[
     Function { name: "decimal_write", number: 1, make: decimal::make_write, model: decimal::model_write },
     Function { name: "sbt_date", number: 2, make: correlation::make_date, model: correlation::model_date },
     Function { name: "sbt_tick", number: 3, make: correlation::make_tick, model: correlation::model_tick },
+    Function { name: "list_accepted", number: 4, make: leap::make_accepted, model: leap::model_accepted },
+    Function { name: "change", number: 5, make: leap::make_change, model: leap::model_change },
 ];
 
 impl Call {

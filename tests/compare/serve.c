@@ -12,7 +12,7 @@ extern void *memset(void *, int, size_t);
 enum { ANSWER = 6, MOST = 8192, GUARD = 64 };
 
 /* The functions, numbered as in main.rs. */
-enum { DECIMAL_READ, DECIMAL_WRITE, SBT_DATE, SBT_TICK };
+enum { DECIMAL_READ, DECIMAL_WRITE, SBT_DATE, SBT_TICK, LIST_ACCEPTED, CHANGE };
 
 static uint64_t w[MOST / 8], answer[ANSWER];
 
@@ -35,6 +35,9 @@ static vrk_correlation correlation_at(const uint64_t *a) {
     return c;
 }
 
+/* A list: its last day, how many days and offsets, the days, the offsets. The empty slice is a null pointer. */
+#define LIST(a) (a)[1] ? (const int64_t *)(a) + 3 : 0, (a)[1], (a)[2] ? (a) + 3 + (a)[1] : 0, (a)[2], (int64_t)(a)[0]
+
 static void count_is(vrk_count c) { answer[0] = c.refusal, answer[1] = c.count; }
 
 static int call(uint32_t function, const unsigned char *in, size_t in_len, unsigned char *out, size_t out_len) {
@@ -44,6 +47,8 @@ static int call(uint32_t function, const unsigned char *in, size_t in_len, unsig
     case DECIMAL_WRITE: decimal_is(vrk_decimal_write(handed_at(w))); return 1;
     case SBT_DATE: time_is(vrk_sbt_date((uint32_t)w[0], correlation_at(w + 1), (int64_t)w[8], w[9])); return 1;
     case SBT_TICK: count_is(vrk_sbt_tick(handed_at(w), correlation_at(w + 5))); return 1;
+    case LIST_ACCEPTED: answer[0] = vrk_list_accepted(LIST(w)); return 1;
+    case CHANGE: time_is(vrk_change(handed_at(w), (uint32_t)w[5], LIST(w + 6))); return 1;
     }
     return 0;
 }

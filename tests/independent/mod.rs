@@ -1,8 +1,10 @@
 //! The papers' rules once more, in plain integers and exact fractions, written from document 01 and not from the proved
 //! code. Nothing here is shared with it, so that the two can be compared.
 
+pub mod calendar;
 pub mod correlation;
 pub mod decimal;
+pub mod leap;
 pub mod time;
 
 /// A refusal's number, 1 to 13.

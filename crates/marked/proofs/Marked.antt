@@ -4,8 +4,12 @@ use mathlib.Core.List.{List, map}
 use lib.IntN.{ℤ}
 use Rattle.decimal.specs.Meaning.{readOf}
 use Rattle.correlation.specs.Meaning.{dateOf, accepted, inWindow, covers, clock}
+use Rattle.calendar.specs.Meaning.{leap, monthLength, lengthOf, firstDay, dayAfter, daysTo, walk, isFirst}
+use Rattle.leap.specs.Meaning as L
+use Rattle.leap.specs.Meaning.{begins, risesFrom, rises, countsFrom, countsUp, noneLater, through, isStep}
+use Rattle.changes.specs.Meaning.{changeOf}
 use Rattle.marked.specs.Table.{Row, table}
 
 pub marked : map (λ (r : Row). r .meaning) table ≡ map (λ (r : Row). r .paper) table
-unfolding readOf dateOf accepted inWindow covers clock
+unfolding readOf dateOf accepted inWindow covers clock changeOf L.accepted begins risesFrom rises countsFrom countsUp noneLater through isStep isFirst walk daysTo dayAfter firstDay lengthOf monthLength leap
 marked = refl

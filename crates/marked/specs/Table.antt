@@ -1,13 +1,16 @@
 -- The paper's marked cases: one table, a row a call, with what the meaning gives and what the paper says of it. Assumes nothing.
 use mathlib.Core.Bool.{true}
-use mathlib.Core.List.{List, [], _∷_}
+use mathlib.Core.List.{List, [], _∷_, _++_}
 use Prim.Native.Nat.{ℕ}
 use lib.IntN.{ℤ, pos, negsuc}
 use lib.Ieee.{Float, fin}
-use Rattle.scales.specs.Meaning.{Slip}
+use Rattle.scales.specs.Meaning.{Slip, recordOf}
 use Rattle.scales.specs.declared.Scale.{Scale}
 use Rattle.scales.specs.declared.Scale.the-variants as S
+use Rattle.scales.specs.declared.Handed.the-variants as H
 use Rattle.decimal.specs.Meaning.{readOf}
+use Rattle.leap.specs.Meaning.{publishedDays, publishedOffsets, publishedLast}
+use Rattle.changes.specs.Meaning.{changeOf}
 use Rattle.correlation.specs.Meaning.{dateOf}
 use Rattle.correlation.specs.declared.Correlation.{Correlation}
 
@@ -23,12 +26,32 @@ slipped s = pos (s .number) ∷ s .day ∷ pos (s .micro) ∷ []
 abbrev pub answered : ℤ → ℕ → List ℤ
 answered d u = pos 0 ∷ d ∷ pos u ∷ []
 
+abbrev pub refusedBy : ℕ → List ℤ
+refusedBy n = pos n ∷ pos 0 ∷ pos 0 ∷ []
+
 -- 10. Decimal -0.5: day -1, 43,200,000,000, in each scale
 abbrev pub minusHalf : Float
 minusHalf = fin true 1 (negsuc 0)
 
 abbrev pub decimalCase : Scale → Row
 decimalCase s = record { case = 10; meaning = slipped (readOf minusHalf s); paper = answered (negsuc 0) 43200000000 }
+
+-- under the 28 steps with last day e
+abbrev pub changedRow : ℕ → ℤ → ℤ → ℕ → Scale → List ℤ → Row
+changedRow n e d u to said =
+    record { case = n; meaning = slipped (changeOf (H.Record (recordOf S.Utc d u)) to publishedDays publishedOffsets e); paper = said }
+
+-- 1. UTC day -7300, 0 is TAI 19 s, GPS 0, same day
+-- 2. UTC day 6209, 86,400,000,000 is TAI day 6210, 36 s
+-- 3. UTC day 6210, 0 is TAI day 6210, 37 s. With E = 6209: 9
+abbrev pub changedRows : List Row
+changedRows =
+    changedRow 1 publishedLast (negsuc 7299) 0 S.Tai (answered (negsuc 7299) 19000000)
+    ∷ changedRow 1 publishedLast (negsuc 7299) 0 S.Gps (answered (negsuc 7299) 0)
+    ∷ changedRow 2 publishedLast (pos 6209) 86400000000 S.Tai (answered (pos 6210) 36000000)
+    ∷ changedRow 3 publishedLast (pos 6210) 0 S.Tai (answered (pos 6210) 37000000)
+    ∷ changedRow 3 (pos 6209) (pos 6210) 0 S.Tai (refusedBy 9)
+    ∷ []
 
 -- a correlation with P = 3,906,250,000: its reference is the first second of day 0
 abbrev pub correlated : ℕ → ℕ → Correlation
@@ -51,9 +74,9 @@ atReference =
 
 abbrev pub nextTick : Row
 nextTick =
-    record { case = 9; meaning = slipped (dateOf (correlated 7 0) 8 (pos 0) 1000000); paper = pos 8 ∷ pos 0 ∷ pos 0 ∷ [] }
+    record { case = 9; meaning = slipped (dateOf (correlated 7 0) 8 (pos 0) 1000000); paper = refusedBy 8 }
 
 abbrev pub table : List Row
 table =
-    forward ∷ backward ∷ atReference ∷ nextTick
-    ∷ decimalCase S.Tai ∷ decimalCase S.Utc ∷ decimalCase S.Gps ∷ []
+    changedRows
+    ++ (forward ∷ backward ∷ atReference ∷ nextTick ∷ decimalCase S.Tai ∷ decimalCase S.Utc ∷ decimalCase S.Gps ∷ [])

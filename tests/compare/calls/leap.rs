@@ -1,0 +1,160 @@
+use super::{answered, handed, Answer, Call, Random};
+use crate::independent::calendar::{day_of, Date};
+use crate::independent::leap::{change, List};
+use crate::independent::time::Scale;
+
+/// The 28 steps that were published: years with a step on 1 January, and on 1 July.
+fn published() -> Vec<i64> {
+    let january = [1972, 1973, 1974, 1975, 1976, 1977, 1978, 1979, 1980, 1988, 1990, 1991, 1996, 1999, 2006, 2009, 2017];
+    let july = [1972, 1981, 1982, 1983, 1985, 1992, 1993, 1994, 1997, 2012, 2015];
+    let first = |year: i64, month| day_of(&Date { year, month, day: 1 }).expect("a date");
+    let mut days: Vec<i64> = january.iter().map(|&y| first(y, 1)).chain(july.iter().map(|&y| first(y, 7))).collect();
+    days.sort_unstable();
+    days
+}
+
+/// Firsts of months, rising, from January 1972 on.
+fn made_up(random: &mut Random, steps: u64) -> Vec<i64> {
+    let mut month = 0;
+    let mut days = Vec::new();
+    for _ in 0..steps {
+        days.push(day_of(&Date { year: 1972 + month as i64 / 12, month: month % 12 + 1, day: 1 }).expect("a date"));
+        month += 1 + random.below(1530 / steps.max(1));
+        if month > 1536 {
+            break;
+        }
+    }
+    days
+}
+
+struct Made {
+    days: Vec<i64>,
+    offsets: Vec<u64>,
+    last: i64,
+}
+
+fn good(random: &mut Random) -> Made {
+    let mut days = match random.below(3) {
+        0 => published(),
+        1 => published()[..1 + random.below(28) as usize].to_vec(),
+        _ => {
+            let steps = 1 + random.below(64);
+            made_up(random, steps)
+        }
+    };
+    days.truncate(64);
+    let least = days.last().expect("a step") - 1;
+    let last = match random.below(4) {
+        0 => least.max(-10227),
+        1 => 36524,
+        2 => 9131.max(least),
+        _ => least.max(-10227) + random.below((36525 - least.max(-10227)) as u64) as i64,
+    };
+    let offsets = (10..).take(days.len()).collect();
+    Made { days, offsets, last }
+}
+
+/// A list that is accepted, or one with a fault.
+fn made(random: &mut Random, faulty: u64) -> Made {
+    let mut list = good(random);
+    if !random.one_in(faulty) {
+        return list;
+    }
+    let at = random.below(list.days.len() as u64) as usize;
+    match random.below(14) {
+        0 => list.days.clear(),
+        1 => {
+            list.days.pop();
+        }
+        2 => {
+            list.offsets.pop();
+        }
+        3 => list.days[at] += random.pick(&[-1, 1, 31]),
+        4 => list.offsets[at] = list.offsets[at].wrapping_add(random.pick(&[1, u64::MAX, 5])),
+        5 => list.last = random.pick(&[-10228, 36525, i64::MIN, i64::MAX]),
+        6 => list.last = list.days[list.days.len() - 1] - 2,
+        7 => list.days[at] = list.days[at / 2],
+        8 => list.days[0] = random.pick(&[-10228, -10196, 0]),
+        9 => list.offsets[0] = random.pick(&[0, 9, 11, 19]),
+        10 => {
+            list.days = made_up(random, 66);
+            list.offsets = (10..).take(list.days.len()).collect();
+            list.last = 36524;
+        }
+        11 => list.days[at] = random.next() as i64,
+        12 => list.offsets[at] = random.next(),
+        _ => list.days.swap(at, at / 2),
+    }
+    list
+}
+
+fn push(words: &mut Vec<u64>, list: &Made) {
+    words.extend([list.last as u64, list.days.len() as u64, list.offsets.len() as u64]);
+    words.extend(list.days.iter().map(|&day| day as u64));
+    words.extend(&list.offsets);
+}
+
+/// Reads back what push wrote.
+fn with<T>(words: &[u64], use_it: impl FnOnce(&List) -> T) -> T {
+    let (days, offsets) = (words[1] as usize, words[2] as usize);
+    let signed: Vec<i64> = words[3..3 + days].iter().map(|&day| day as i64).collect();
+    use_it(&List { days: &signed, offsets: &words[3 + days..3 + days + offsets], last: words[0] as i64 })
+}
+
+pub fn make_accepted(random: &mut Random) -> Call {
+    let list = made(random, 2);
+    let mut words = Vec::new();
+    push(&mut words, &list);
+    Call::of(words)
+}
+
+pub fn model_accepted(call: &Call) -> Answer {
+    answered(call, &[u64::from(with(&call.words, |list| list.accepted()))])
+}
+
+/// A time near a step or near the list's end, as a record.
+fn near_step(random: &mut Random, list: &Made) -> (i64, u64) {
+    let step = match random.below(4) {
+        0 => list.last.clamp(-20_000, 40_000) + 1,
+        _ if list.days.is_empty() => 0,
+        _ => list.days[random.below(list.days.len() as u64) as usize].clamp(-20_000, 40_000),
+    };
+    let second = 1_000_000;
+    match random.below(5) {
+        0 => (step - 1, 86_400 * second + random.below(second)),
+        1 => (step - 1, 86_340 * second + random.below(60 * second)),
+        2 => (step, random.below(70 * second)),
+        3 => (step + random.pick(&[0, 1]), random.pick(&[0, 86_400]) * second + random.below(second)),
+        _ => (step + random.below(3) as i64 - 1, random.below(86_400) * second),
+    }
+}
+
+pub fn make_change(random: &mut Random) -> Call {
+    let list = made(random, 8);
+    let mut words = handed::words(random);
+    if !random.one_in(3) {
+        let (day, micro) = near_step(random, &list);
+        words[0] = u64::from(random.one_in(12));
+        words[2] = day as u64;
+        words[3] = micro;
+    }
+    if random.one_in(10) {
+        // where a change leaves a span
+        let (day, micro) = random.pick(&[(-10227, 0), (-10227, 9_999_999), (-7300, 0), (-7300, 18_999_999), (36524, 86_399_999_999), (36524, 86_390_000_000)]);
+        words[0] = 0;
+        words[2] = day as u64;
+        words[3] = micro + random.below(2);
+    }
+    words.push(handed::scale_code(random));
+    push(&mut words, &list);
+    Call::of(words)
+}
+
+pub fn model_change(call: &Call) -> Answer {
+    let (handed, to) = (handed::of(&call.words), Scale::coded(call.words[5]));
+    let (Some(handed), Some(to)) = (handed, to) else { return answered(call, &[3, to.map_or(0, Scale::code)]) };
+    match with(&call.words[6..], |list| change(handed, to, list)) {
+        Ok(moment) => answered(call, &[0, to.code(), moment.day as u64, moment.micro]),
+        Err(number) => answered(call, &[number, to.code()]),
+    }
+}
