@@ -4,17 +4,12 @@ use mathlib.Core.Bool.{Bool, cond, not, _||_}
 use mathlib.Core.List.{List}
 use Prim.Native.Nat.{ℕ}
 use lib.IntN.{ℤ, _+ℤ_, _-ℤ_}
-use Rattle.scales.specs.Meaning.{sameScale, inSpan, Judged, given, gives, outcome, Slip, Moment, dated, momentAt}
+use Rattle.scales.specs.Meaning.{andThen, sameScale, inSpan, Judged, given, gives, outcome, Slip, Moment, dated, momentAt}
 use Rattle.scales.specs.declared.Scale.{Scale}
 use Rattle.scales.specs.declared.Scale.the-variants as S
 use Rattle.scales.specs.declared.Handed.{Handed}
 use Rattle.decimal.specs.Meaning.{since, scaleOf, isFinite, isInSpan, dayOf, microOf}
 use Rattle.leap.specs.Meaning.{seconds, accepted, taiOf, hasMicro, isExpiredDay, isExpiredTai, momentOf, utcOf}
-
--- what one chain gives is judged by the next
-abbrev pub andThen : {A B : Type 0} → Judged A → (A → Judged B) → Judged B
-andThen (given t n rest) next = given t n (andThen rest next)
-andThen (gives a) next = next a
 
 -- ---- a time to its TAI count; `spans` says whether the time lies in its span
 abbrev pub fromTai : Bool → Moment → Judged ℤ

@@ -11,7 +11,7 @@ use borrow.Author.Tests.{le-leb, lt-leb, lt-ltb, le-ltb}
 use Rattle.axis.specs.Meaning.{placeOfDay, dayAt, microsAt}
 use Rattle.axis.specs.Axis.{day-le}
 use Rattle.axis.specs.Diff.{sub-inj-same}
-use Rattle.scales.specs.Meaning.{bound, inSpan, Judged, given, gives, Outcome, refused, answer, outcome, Slip, Moment, dated, numberOf, momentAt}
+use Rattle.scales.specs.Meaning.{andThen, bound, inSpan, Judged, given, gives, Outcome, refused, answer, outcome, Slip, Moment, dated, numberOf, momentAt}
 use Rattle.scales.specs.Place.{firstAt, and-false}
 use Rattle.scales.specs.Same.{refusals}
 use Rattle.scales.specs.declared.Scale.{Scale}
@@ -28,7 +28,7 @@ use Rattle.leap.specs.Places.{day-next, micros-le, micros-add, micros-minus, ta
 use Rattle.leap.specs.Steps.{steps}
 use Rattle.leap.specs.Back.{forth, none-before}
 use Rattle.leap.specs.Whole.{taiAt, expired-at, offset-small, before-known}
-use Rattle.changes.specs.Meaning.{andThen, fromTai, fromGps, fromUtc, within, toTai, toGps, toUtc, ofCount, listed}
+use Rattle.changes.specs.Meaning.{fromTai, fromGps, fromUtc, within, toTai, toGps, toUtc, ofCount, listed}
 
 -- ---- a TAI count on the way: its span is not tested, and it is well on the axis
 pub record OnTheWay (c : ℕ) : Type 0 where

@@ -11,7 +11,7 @@ use lib.IntN.{ℤ}
 use Rattle.axis.specs.Meaning.{placeOfDay, microsAt}
 use Rattle.axis.specs.Diff.{Way, way, below, above}
 use Rattle.axis.specs.Axis.{day-inj}
-use Rattle.scales.specs.Meaning.{bound, Judged, given, gives, Outcome, refused, answer, outcome, Moment, momentAt}
+use Rattle.scales.specs.Meaning.{andThen, bound, Judged, given, gives, Outcome, refused, answer, outcome, Moment, momentAt}
 use Rattle.scales.specs.Place.{count-inj, day-part, micro-part}
 use Rattle.scales.specs.declared.Scale.{Scale}
 use Rattle.scales.specs.declared.Scale.the-variants as S
@@ -20,7 +20,7 @@ use Rattle.leap.specs.Meaning.{accepted}
 use Rattle.leap.specs.Steps.{steps}
 use Rattle.leap.specs.Back.{forth}
 use Rattle.leap.specs.Whole.{taiAt, tai-later, before-known}
-use Rattle.changes.specs.Meaning.{andThen, fromScale, toScale, ofCount}
+use Rattle.changes.specs.Meaning.{fromScale, toScale, ofCount}
 use Rattle.leap_laws.proofs.Stands.{moment, onTai, Stands, inside, leaves, left}
 use Rattle.leap_laws.proofs.Arrives.{on-the-way, arrives, found}
 

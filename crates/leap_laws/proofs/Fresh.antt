@@ -11,7 +11,7 @@ use borrow.Author.Tests.{lt-leb, le-leb, lt-ltb, le-ltb, leb-true, leb-false, lt
 use Rattle.axis.specs.Meaning.{placeOfDay, dayAt, microsAt}
 use Rattle.axis.specs.Diff.{Way, way, below, above}
 use Rattle.axis.specs.Axis.{day-to, day-le}
-use Rattle.scales.specs.Meaning.{sameScale, Judged, given, gives, Outcome, refused, answer, outcome, Moment}
+use Rattle.scales.specs.Meaning.{andThen, sameScale, Judged, given, gives, Outcome, refused, answer, outcome, Moment}
 use Rattle.scales.specs.Place.{and-both}
 use Rattle.scales.specs.declared.Scale.{Scale}
 use Rattle.scales.specs.declared.Scale.the-variants as S
@@ -26,7 +26,7 @@ use Rattle.leap.specs.Steps.{Steps, steps, parts, usable}
 use Rattle.leap.specs.Force.{offset-mono}
 use Rattle.leap.specs.Back.{said-nothing}
 use Rattle.leap.specs.Whole.{expired-at, taiAt, offset-small}
-use Rattle.changes.specs.Meaning.{andThen, fromScale, toScale, settled, moving, within}
+use Rattle.changes.specs.Meaning.{fromScale, toScale, settled, moving, within}
 use Rattle.changes.specs.Ways.{expires}
 use Rattle.leap_laws.proofs.Stands.{moment, onTai}
 use Rattle.leap_laws.proofs.Changes.{onward, then-is}

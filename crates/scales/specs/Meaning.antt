@@ -73,6 +73,11 @@ abbrev pub outcome : {A : Type 0} → Judged A → Outcome A
 outcome (given t n rest) = cond t (outcome rest) (refused n)
 outcome (gives a) = answer a
 
+-- what one chain gives is judged by the next
+abbrev pub andThen : {A B : Type 0} → Judged A → (A → Judged B) → Judged B
+andThen (given t n rest) next = given t n (andThen rest next)
+andThen (gives a) next = next a
+
 -- the numbers that a function may refuse with, as it judges them
 abbrev pub numbers : {A : Type 0} → Judged A → List ℕ
 numbers (given t n rest) = n ∷ numbers rest

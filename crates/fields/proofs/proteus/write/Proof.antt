@@ -1,0 +1,78 @@
+-- `fields::proteus::write` meets its contract. Assumes nothing.
+use denote.Ref.{now}
+use native.Mathlib.Omega.{arith}
+use borrow.Author.Tests.{lt-ltb, le-ltb, le-leb, lt-leb}
+use Rattle.scales.specs.Order.{here}
+use Rattle.scales.specs.declared.Refusal.the-variants as R
+use Rattle.fields.specs.Proteus.{headOf, inLimits, writing, write}
+use Rattle.fields.proofs.Ways.{keeps, over-first, over-second, within, three}
+use borrow.Author.Needs.{needs}
+use Rattle.fields.proofs.proteus.write.Statement.{statement}
+use Rattle.fields.proofs.proteus.write.Tie as tie
+
+cast-week : tie.Need-cast-week
+cast-week c = search needs
+
+cast-second : tie.Need-cast-second
+cast-second c = search needs
+
+returns : tie.Need-returns
+unfolding write
+returns c =
+    let a = c .before .before .before .before .args in
+    keeps (now (a .out)) (writing (a .f) (now (a .out))) R.Field (here (over-first _ _ (le-ltb (a .f .week) 4096 (c .if1 .taken))))
+
+returns-2 : tie.Need-returns-2
+unfolding write
+returns-2 c =
+    let l = c .before in
+    let a = l .before .before .before .before .args in
+    keeps (now (a .out)) (writing (a .f) (now (a .out))) R.Field
+    (here (over-second _ _ (lt-ltb (a .f .week) 4096 (l .if1 .left)) (lt-leb (a .f .second) 604799 (c .if2 .taken))))
+
+head-requires : tie.Need-head-requires
+head-requires c κs = search needs
+
+mul-place-two : tie.Need-mul-place-two
+mul-place-two c = search needs
+
+cast-place-two : tie.Need-cast-place-two
+cast-place-two c = search needs
+
+add-place-two : tie.Need-add-place-two
+add-place-two c = search needs
+
+place-two-requires : tie.Need-place-two-requires
+place-two-requires c κs = search needs
+
+same-length : tie.Need-same-length
+same-length c = search needs
+
+returns-3 : tie.Need-returns-3
+unfolding write
+returns-3 c =
+    let p = c .before .before in
+    let g = p .before .before .struct-known3 .given in
+    let h = p .before .before .before in
+    let e = h .before in
+    let l = e .before in
+    let a = l .before .before .before .before .args in
+    let o = now (a .out) in
+    three o (inLimits (a .f)) (within _ _ (lt-ltb (a .f .week) 4096 (l .if1 .left)) (le-leb (a .f .second) 604799 (e .if2 .left)))
+    (h .head .result) (headOf (a .f .week) (a .f .h3)) (a .f .second) (a .f .fraction) (h .head .ensures) (omega (arith, g .1 .1 .0)) (omega (arith, g .1 .1 .1 .0)) (p .place-two .ensures)
+
+pub write-spec : {M : Type 1} → statement M
+write-spec =
+    tie.close
+    (tie.spec
+    cast-week
+    cast-second
+    returns
+    returns-2
+    head-requires
+    mul-place-two
+    cast-place-two
+    add-place-two
+    place-two-requires
+    same-length
+    returns-3)

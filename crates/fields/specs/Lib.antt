@@ -1,0 +1,10 @@
+pub mod Meaning
+pub mod Cuc
+pub mod Goce
+pub mod Obet
+pub mod Proteus
+pub mod Cryosat
+pub mod Siral
+pub mod Sbt
+pub mod Parts
+pub mod Same

@@ -1,0 +1,56 @@
+// CryoSat general: day 16 bits, millisecond 32 bits, microsecond 16 bits.
+ghost use mathlib.Core.Path.{_≡_};
+ghost use Rattle.scales.specs.Meaning.{wrote};
+ghost use Rattle.fields.specs.Cryosat.{slip, read, write};
+use scales::Refusal;
+use scales::Written;
+
+pub struct Fields {
+    pub day: u16,
+    pub millisecond: u32,
+    pub microsecond: u16,
+}
+
+pub enum Parted {
+    Fields(Fields),
+    Refused(Refusal),
+}
+
+pub fn read(b: &[u8]) -> Parted
+    ensures { λ r. ⌜ slip r ≡ read (now (b .entry)) ⌝ }
+{
+    if b.len() != 8 {
+        return Parted::Refused(Refusal::Length);
+    }
+    let millisecond = crate::part(b, 2, 4);
+    if 86_400_000 <= millisecond {
+        return Parted::Refused(Refusal::Field);
+    }
+    let microsecond = crate::part(b, 6, 2);
+    if 1000 <= microsecond {
+        return Parted::Refused(Refusal::Field);
+    }
+    Parted::Fields(Fields {
+        day: crate::part(b, 0, 2) as u16,
+        millisecond: millisecond as u32,
+        microsecond: microsecond as u16,
+    })
+}
+
+pub fn write(f: Fields, out: &mut [u8]) -> Written
+    ensures { λ r. ⌜ wrote r (now (out .exit)) ≡ write f (now (out .entry)) ⌝ }
+{
+    if 86_400_000 <= f.millisecond {
+        return Written::Refused(Refusal::Field);
+    }
+    if 1000 <= f.microsecond {
+        return Written::Refused(Refusal::Field);
+    }
+    crate::place_two(
+        f.day as u64,
+        2,
+        (f.millisecond as u64) * 65536 + (f.microsecond as u64),
+        6,
+        out,
+    )
+}

@@ -1,0 +1,54 @@
+// SIRAL: CryoSat's three fields, then an extra counter of 16 bits.
+ghost use mathlib.Core.Path.{_≡_};
+ghost use Rattle.scales.specs.Meaning.{wrote};
+ghost use Rattle.fields.specs.Siral.{slip, read, write};
+use scales::Refusal;
+use scales::Written;
+
+pub struct Fields {
+    pub day: u16,
+    pub millisecond: u32,
+    pub microsecond: u16,
+    pub extra: u16,
+}
+
+pub enum Parted {
+    Fields(Fields),
+    Refused(Refusal),
+}
+
+pub fn read(b: &[u8]) -> Parted
+    ensures { λ r. ⌜ slip r ≡ read (now (b .entry)) ⌝ }
+{
+    if b.len() != 10 {
+        return Parted::Refused(Refusal::Length);
+    }
+    let millisecond = crate::part(b, 2, 4);
+    if 86_400_000 <= millisecond {
+        return Parted::Refused(Refusal::Field);
+    }
+    let microsecond = crate::part(b, 6, 2);
+    if 1000 <= microsecond {
+        return Parted::Refused(Refusal::Field);
+    }
+    Parted::Fields(Fields {
+        day: crate::part(b, 0, 2) as u16,
+        millisecond: millisecond as u32,
+        microsecond: microsecond as u16,
+        extra: crate::part(b, 8, 2) as u16,
+    })
+}
+
+pub fn write(f: Fields, out: &mut [u8]) -> Written
+    ensures { λ r. ⌜ wrote r (now (out .exit)) ≡ write f (now (out .entry)) ⌝ }
+{
+    if 86_400_000 <= f.millisecond {
+        return Written::Refused(Refusal::Field);
+    }
+    if 1000 <= f.microsecond {
+        return Written::Refused(Refusal::Field);
+    }
+    let front = (f.day as u64) * 4_294_967_296 + (f.millisecond as u64);
+    let back = (f.microsecond as u64) * 65536 + (f.extra as u64);
+    crate::place_two(front, 6, back, 4, out)
+}

@@ -1,0 +1,72 @@
+-- `layouts::cuc::read` meets its contract. Assumes nothing.
+use denote.Ref.{now}
+use mathlib.Core.Path.{refl, sym, ap, _∙_}
+use Prim.Native.Nat.{ℕ, _+_, _*_}
+use Rattle.scales.specs.Meaning.{spanned}
+use Rattle.scales.specs.declared.Scale.the-variants as S
+use Rattle.fields.specs.Cuc.{reading as fieldsReading, empty, slip as fieldsSlip, read as fieldsRead}
+use Rattle.fields.specs.declared.cuc.Fields.{Fields}
+use Rattle.layouts.specs.Meaning.{momentFrom}
+use Rattle.layouts.specs.Chain.{read-no, read-at}
+use Rattle.layouts.specs.Cuc.{epoch, microsOf, read}
+use borrow.Author.Needs.{needs}
+use Rattle.layouts.proofs.cuc.read.Statement.{statement}
+use Rattle.layouts.proofs.cuc.read.Tie as tie
+
+read-requires : tie.Need-read-requires
+read-requires c κs = search needs
+
+enum-known-f : tie.Need-enum-known-f
+enum-known-f c = search needs
+
+cast-n : tie.Need-cast-n
+cast-n c = search needs
+
+mul-n : tie.Need-mul-n
+mul-n c = search needs
+
+fraction-micros-requires : tie.Need-fraction-micros-requires
+fraction-micros-requires c κs = search needs
+
+add-n : tie.Need-add-n
+add-n c = search needs
+
+since-requires : tie.Need-since-requires
+since-requires c κs = search needs
+
+enum-known-r : tie.Need-enum-known-r
+enum-known-r c = search needs
+
+returns : tie.Need-returns
+unfolding read fieldsRead
+returns c =
+    let k = c .before .before .before .before in
+    let f = k .f .given .0 .0 in
+    let b = k .before .before in
+    let s = now (b .before .before .args .b) in
+    c .since .ensures
+    ∙ ap (λ (n : ℕ). spanned S.Gps (momentFrom epoch n .day) (momentFrom epoch n .micro)) (ap (λ (x : ℕ). f .seconds * 1000000 + x) (c .before .fraction-micros .ensures))
+    ∙ read-at S.Gps empty (λ (f : Fields). momentFrom epoch (microsOf f)) (fieldsReading s) refl f (sym (ap fieldsSlip (k .f .given .1)) ∙ b .read .ensures)
+
+returns-2 : tie.Need-returns-2
+unfolding read fieldsRead
+returns-2 c =
+    let k = c .before in
+    let b = k .before .before in
+    let s = now (b .before .before .args .b) in
+    read-no S.Gps empty (λ (f : Fields). momentFrom epoch (microsOf f)) (fieldsReading s) (k .r .given .0 .0) (sym (ap fieldsSlip (k .r .given .1)) ∙ b .read .ensures)
+
+pub read-spec : {M : Type 1} → statement M
+read-spec =
+    tie.close
+    (tie.spec
+    read-requires
+    enum-known-f
+    cast-n
+    mul-n
+    fraction-micros-requires
+    add-n
+    since-requires
+    enum-known-r
+    returns
+    returns-2)

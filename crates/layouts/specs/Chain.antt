@@ -1,0 +1,54 @@
+-- Chains of tests one after the other, and what the answer of a reader of fields tells of its chain. Assumes nothing.
+use mathlib.Core.Path.{_≡_, sym, ap}
+use mathlib.Core.Bool.{Bool, true, false, _&&_}
+use Prim.Native.Nat.{ℕ}
+use native.Mathlib.Omega.{arith}
+use lib.Dec.{ltb}
+use borrow.Author.Tests.{ltb-true}
+use Rattle.scales.specs.Meaning.{andThen, Judged, given, gives, refused, answer, outcome, Moment, dated, slip, spanned, numberOf}
+use Rattle.scales.specs.Place.{and-both}
+use Rattle.scales.specs.Same.{some as is-some}
+use Rattle.scales.specs.declared.Scale.{Scale}
+use Rattle.scales.specs.declared.Refusal.{Refusal}
+use Rattle.scales.specs.declared.Dated.the-variants as D
+use Rattle.fields.specs.Meaning.{some, no, valued, slipOf}
+use Rattle.layouts.specs.Meaning.{judged}
+
+-- ---- one chain after the other
+module _ {A B : Type 0} (f : A → Judged B) where
+  pub then-refused : (j : Judged A) (n : ℕ) → outcome j ≡ refused n → outcome (andThen j f) ≡ refused n
+  then-refused (given true m rest) n e = then-refused rest n e
+  then-refused (given false m rest) n e = let q : m ≡ n = cc in ap refused q
+  then-refused (gives a) n e = absurd (let z : _≡_ {A = ℕ} 0 1 = cc in omega arith)
+
+  pub then-answer : (j : Judged A) (a : A) → outcome j ≡ answer a → outcome (andThen j f) ≡ outcome (f a)
+  then-answer (given true m rest) a e = then-answer rest a e
+  then-answer (given false m rest) a e = absurd (let z : _≡_ {A = ℕ} 0 1 = cc in omega arith)
+  then-answer (gives b) a e = let q : b ≡ a = cc in ap (λ (x : A). outcome (f x)) q
+
+-- ---- no refusal of the chain has the number 0, which an answer has
+abbrev pub numbered : {A : Type 0} → Judged A → Bool
+numbered (given t n rest) = ltb 0 n && numbered rest
+numbered (gives a) = true
+
+module _ {A : Type 0} (z : A) where
+  pub told-answer : (j : Judged A) → numbered j ≡ true → (a : A) → slipOf z (some a) ≡ valued z (outcome j) → outcome j ≡ answer a
+  told-answer (given true m rest) p a e = told-answer rest (and-both (ltb 0 m) (numbered rest) p .1) a e
+  told-answer (given false m rest) p a e =
+      absurd (let n : _≡_ {A = ℕ} 0 m = λ i. e i .number in omega (arith, ltb-true 0 m (and-both (ltb 0 m) (numbered rest) p .0)))
+  told-answer (gives b) p a e = ap answer (λ i. sym e i .value)
+
+  pub told-refused : (j : Judged A) (f : Refusal) → slipOf z (no f) ≡ valued z (outcome j) → outcome j ≡ refused (numberOf f)
+  told-refused (given true m rest) f e = told-refused rest f e
+  told-refused (given false m rest) f e = ap refused (λ i. sym e i .number)
+  told-refused (gives b) f e = absurd (is-some f (λ i. e i .number))
+
+-- ---- the ways out of a reader of times, over its scale, the chain of its fields and the time of the fields
+module _ {A : Type 0} (s : Scale) (z : A) (moment : A → Moment) (j : Judged A) where
+  pub read-no : (f : Refusal) → slipOf z (no f) ≡ valued z (outcome j) → slip (D.Refused f s) ≡ dated s (outcome (andThen j (λ (a : A). judged s (moment a))))
+  read-no f e = ap (dated s) (sym (then-refused (λ (a : A). judged s (moment a)) j (numberOf f) (told-refused z j f e)))
+
+  pub read-at : numbered j ≡ true → (a : A) → slipOf z (some a) ≡ valued z (outcome j) →
+      spanned s (moment a .day) (moment a .micro) ≡ dated s (outcome (andThen j (λ (a : A). judged s (moment a))))
+  unfolding spanned
+  read-at p a e = ap (dated s) (sym (then-answer (λ (a : A). judged s (moment a)) j a (told-answer z j p a e)))

@@ -1,0 +1,11 @@
+pub mod Meaning
+pub mod Cuc
+pub mod Proteus
+pub mod Cryosat
+pub mod Siral
+pub mod Fraction
+pub mod Days
+pub mod Due
+pub mod Chain
+pub mod Stamps
+pub mod Same

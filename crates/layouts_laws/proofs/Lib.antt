@@ -1,0 +1,9 @@
+pub mod Chains
+pub mod Fields
+pub mod Later
+pub mod Times
+pub mod Back
+pub mod Cases
+pub mod Meets
+pub mod FieldsWrong
+pub mod TimesWrong
