@@ -80,6 +80,51 @@ typedef struct {
     uint64_t ahead;
 } vrk_correlation;
 
+/* How many bytes were written onto the front of the lent slice; 0 on a refusal, which leaves every byte. */
+typedef struct {
+    uint32_t refusal;
+    uint64_t length;
+} vrk_written;
+
+/* A vrk_time with the H3 bit of the Proteus layout, 0 or 1; 0 on a refusal. */
+typedef struct {
+    uint32_t refusal;
+    uint32_t scale;
+    int64_t day;
+    uint64_t micro;
+    uint32_t h3;
+} vrk_proteus;
+
+/* The fields of the layouts that have several; all 0 on a refusal. */
+typedef struct {
+    uint32_t refusal;
+    uint32_t seconds;
+    uint32_t fraction;
+} vrk_cuc_fields;
+
+typedef struct {
+    uint32_t refusal;
+    uint32_t week;
+    uint32_t h3;
+    uint32_t second;
+    uint32_t fraction;
+} vrk_proteus_fields;
+
+typedef struct {
+    uint32_t refusal;
+    uint32_t day;
+    uint32_t millisecond;
+    uint32_t microsecond;
+} vrk_cryosat_fields;
+
+typedef struct {
+    uint32_t refusal;
+    uint32_t day;
+    uint32_t millisecond;
+    uint32_t microsecond;
+    uint32_t extra;
+} vrk_siral_fields;
+
 /* ---- decimal days */
 
 /* Given: a decimal day and the code of its scale.
@@ -121,6 +166,54 @@ uint32_t vrk_list_accepted(const int64_t *days, size_t day_count, const uint64_t
  * Refused: 3 unknown kind or scale; 4; 5; 7; 9; 10; 11. The empty record is of the scale that is wanted (0 where unknown). */
 vrk_time vrk_change(vrk_handed time, uint32_t to_scale, const int64_t *days, size_t day_count, const uint64_t *offsets,
                     size_t offset_count, int64_t last);
+
+/* ---- byte layouts, most significant byte first
+ *
+ * A reader takes a slice of any length: 1 where it is none of the layout's, then 2, 3, 7. A writer takes a lent slice of any
+ * length, writes exactly the image onto its front and leaves every later byte; on a refusal it leaves every byte. */
+
+/* CUC, Aeolus, 6 bytes: seconds since 6 January 1980 and a fraction of 1/65536 s, as GPS.
+ * Read: 1; 7. Written, the last image whose reading is not later: 3; 4; 7; 12 for a scale other than GPS; 13. */
+vrk_time vrk_cuc_read(const uint8_t *bytes, size_t count);
+vrk_written vrk_cuc_write(vrk_handed time, uint8_t *out, size_t count);
+
+/* GOCE OBT, 6 bytes, a count of 48 bits. Read: 1. Written: 3 from 2^48 on; 13. */
+vrk_count vrk_goce_read(const uint8_t *bytes, size_t count);
+vrk_written vrk_goce_write(uint64_t value, uint8_t *out, size_t count);
+
+/* OBET, SMOS, 8 bytes: 66 hexadecimal and a count of 56 bits. Read: 1; 2. Written: 3 from 2^56 on; 13. */
+vrk_count vrk_obet_read(const uint8_t *bytes, size_t count);
+vrk_written vrk_obet_write(uint64_t value, uint8_t *out, size_t count);
+
+/* Proteus, SMOS, 8 bytes: week from 6 January 1980, H3, second of week, fraction, as UTC with weeks of 604,800 s.
+ * Read: 1; 2; 3. Written, the last image whose reading is not later: 3 (H3 other than 0 or 1 too); 4; 7; 12 for a scale other
+ * than UTC, second 60, or a day outside -7300 to 21371; 13. */
+vrk_proteus vrk_proteus_read(const uint8_t *bytes, size_t count);
+vrk_written vrk_proteus_write(vrk_handed time, uint32_t h3, uint8_t *out, size_t count);
+
+/* CryoSat general, 8 bytes: day, millisecond, microsecond, as TAI.
+ * Read: 1; 3; 7. Written: 3; 4; 7; 12 for a scale other than TAI or a day before 0; 13. */
+vrk_time vrk_cryosat_read(const uint8_t *bytes, size_t count);
+vrk_written vrk_cryosat_write(vrk_handed time, uint8_t *out, size_t count);
+
+/* SIRAL, 10 bytes: the same and an extra counter of 33/16 microsecond, which is added, and written as 0. */
+vrk_time vrk_siral_read(const uint8_t *bytes, size_t count);
+vrk_written vrk_siral_write(vrk_handed time, uint8_t *out, size_t count);
+
+/* SBT, 4 bytes, the tick. Read: 1. Written: 13. */
+vrk_count vrk_sbt_read(const uint8_t *bytes, size_t count);
+vrk_written vrk_sbt_write(uint32_t tick, uint8_t *out, size_t count);
+
+/* Bytes to fields and back, exactly. Read: 1; 2; 3. Written: 3 for a field over its limit or too wide; 13. */
+vrk_cuc_fields vrk_cuc_fields_read(const uint8_t *bytes, size_t count);
+vrk_written vrk_cuc_fields_write(uint32_t seconds, uint32_t fraction, uint8_t *out, size_t count);
+vrk_proteus_fields vrk_proteus_fields_read(const uint8_t *bytes, size_t count);
+vrk_written vrk_proteus_fields_write(uint32_t week, uint32_t h3, uint32_t second, uint32_t fraction, uint8_t *out, size_t count);
+vrk_cryosat_fields vrk_cryosat_fields_read(const uint8_t *bytes, size_t count);
+vrk_written vrk_cryosat_fields_write(uint32_t day, uint32_t millisecond, uint32_t microsecond, uint8_t *out, size_t count);
+vrk_siral_fields vrk_siral_fields_read(const uint8_t *bytes, size_t count);
+vrk_written vrk_siral_fields_write(uint32_t day, uint32_t millisecond, uint32_t microsecond, uint32_t extra, uint8_t *out,
+                                   size_t count);
 
 #ifdef __cplusplus
 }

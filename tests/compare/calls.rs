@@ -3,6 +3,7 @@
 mod correlation;
 mod decimal;
 mod handed;
+mod layouts;
 mod leap;
 
 /// As in serve.c.
@@ -37,6 +38,28 @@ pub const FUNCTIONS: &[Function] = &[
     Function { name: "sbt_tick", number: 3, make: correlation::make_tick, model: correlation::model_tick },
     Function { name: "list_accepted", number: 4, make: leap::make_accepted, model: leap::model_accepted },
     Function { name: "change", number: 5, make: leap::make_change, model: leap::model_change },
+    Function { name: "cuc_read", number: 6, make: layouts::make_cuc_read, model: layouts::model_cuc_read },
+    Function { name: "cuc_write", number: 7, make: layouts::make_cuc_write, model: layouts::model_cuc_write },
+    Function { name: "goce_read", number: 8, make: layouts::make_goce_read, model: layouts::model_goce_read },
+    Function { name: "goce_write", number: 9, make: layouts::make_goce_write, model: layouts::model_goce_write },
+    Function { name: "obet_read", number: 10, make: layouts::make_obet_read, model: layouts::model_obet_read },
+    Function { name: "obet_write", number: 11, make: layouts::make_obet_write, model: layouts::model_obet_write },
+    Function { name: "proteus_read", number: 12, make: layouts::make_proteus_read, model: layouts::model_proteus_read },
+    Function { name: "proteus_write", number: 13, make: layouts::make_proteus_write, model: layouts::model_proteus_write },
+    Function { name: "cryosat_read", number: 14, make: layouts::make_cryosat_read, model: layouts::model_cryosat_read },
+    Function { name: "cryosat_write", number: 15, make: layouts::make_cryosat_write, model: layouts::model_cryosat_write },
+    Function { name: "siral_read", number: 16, make: layouts::make_siral_read, model: layouts::model_siral_read },
+    Function { name: "siral_write", number: 17, make: layouts::make_siral_write, model: layouts::model_siral_write },
+    Function { name: "sbt_read", number: 18, make: layouts::make_sbt_read, model: layouts::model_sbt_read },
+    Function { name: "sbt_write", number: 19, make: layouts::make_sbt_write, model: layouts::model_sbt_write },
+    Function { name: "cuc_fields_read", number: 20, make: layouts::make_cuc_read, model: layouts::model_cuc_split },
+    Function { name: "cuc_fields_write", number: 21, make: layouts::make_cuc_fields, model: layouts::model_cuc_fields },
+    Function { name: "proteus_fields_read", number: 22, make: layouts::make_proteus_read, model: layouts::model_proteus_split },
+    Function { name: "proteus_fields_write", number: 23, make: layouts::make_proteus_fields, model: layouts::model_proteus_fields },
+    Function { name: "cryosat_fields_read", number: 24, make: layouts::make_cryosat_read, model: layouts::model_cryosat_split },
+    Function { name: "cryosat_fields_write", number: 25, make: layouts::make_cryosat_fields, model: layouts::model_cryosat_fields },
+    Function { name: "siral_fields_read", number: 26, make: layouts::make_siral_read, model: layouts::model_siral_split },
+    Function { name: "siral_fields_write", number: 27, make: layouts::make_siral_fields, model: layouts::model_siral_fields },
 ];
 
 impl Call {

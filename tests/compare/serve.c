@@ -12,7 +12,13 @@ extern void *memset(void *, int, size_t);
 enum { ANSWER = 6, MOST = 8192, GUARD = 64 };
 
 /* The functions, numbered as in main.rs. */
-enum { DECIMAL_READ, DECIMAL_WRITE, SBT_DATE, SBT_TICK, LIST_ACCEPTED, CHANGE };
+enum {
+    DECIMAL_READ, DECIMAL_WRITE, SBT_DATE, SBT_TICK, LIST_ACCEPTED, CHANGE,
+    CUC_READ, CUC_WRITE, GOCE_READ, GOCE_WRITE, OBET_READ, OBET_WRITE, PROTEUS_READ, PROTEUS_WRITE,
+    CRYOSAT_READ, CRYOSAT_WRITE, SIRAL_READ, SIRAL_WRITE, SBT_READ, SBT_WRITE,
+    CUC_FIELDS_READ, CUC_FIELDS_WRITE, PROTEUS_FIELDS_READ, PROTEUS_FIELDS_WRITE, 
+    CRYOSAT_FIELDS_READ, CRYOSAT_FIELDS_WRITE, SIRAL_FIELDS_READ, SIRAL_FIELDS_WRITE,
+};
 
 static uint64_t w[MOST / 8], answer[ANSWER];
 
@@ -40,8 +46,15 @@ static vrk_correlation correlation_at(const uint64_t *a) {
 
 static void count_is(vrk_count c) { answer[0] = c.refusal, answer[1] = c.count; }
 
+#define FIELDS(r, a, b, c, d) answer[0] = r, answer[1] = a, answer[2] = b, answer[3] = c, answer[4] = d
+
+static void written_is(vrk_written r) { answer[0] = r.refusal, answer[1] = r.length; }
+
+static void proteus_is(vrk_proteus p) {
+    answer[0] = p.refusal, answer[1] = p.scale, answer[2] = (uint64_t)p.day, answer[3] = p.micro, answer[4] = p.h3;
+}
+
 static int call(uint32_t function, const unsigned char *in, size_t in_len, unsigned char *out, size_t out_len) {
-    (void)in, (void)in_len, (void)out, (void)out_len;
     switch (function) {
     case DECIMAL_READ: time_is(vrk_decimal_read(double_of(w[0]), (uint32_t)w[1])); return 1;
     case DECIMAL_WRITE: decimal_is(vrk_decimal_write(handed_at(w))); return 1;
@@ -49,6 +62,28 @@ static int call(uint32_t function, const unsigned char *in, size_t in_len, unsig
     case SBT_TICK: count_is(vrk_sbt_tick(handed_at(w), correlation_at(w + 5))); return 1;
     case LIST_ACCEPTED: answer[0] = vrk_list_accepted(LIST(w)); return 1;
     case CHANGE: time_is(vrk_change(handed_at(w), (uint32_t)w[5], LIST(w + 6))); return 1;
+    case CUC_READ: time_is(vrk_cuc_read(in, in_len)); return 1;
+    case CUC_WRITE: written_is(vrk_cuc_write(handed_at(w), out, out_len)); return 1;
+    case GOCE_READ: count_is(vrk_goce_read(in, in_len)); return 1;
+    case GOCE_WRITE: written_is(vrk_goce_write(w[0], out, out_len)); return 1;
+    case OBET_READ: count_is(vrk_obet_read(in, in_len)); return 1;
+    case OBET_WRITE: written_is(vrk_obet_write(w[0], out, out_len)); return 1;
+    case PROTEUS_READ: proteus_is(vrk_proteus_read(in, in_len)); return 1;
+    case PROTEUS_WRITE: written_is(vrk_proteus_write(handed_at(w), (uint32_t)w[5], out, out_len)); return 1;
+    case CRYOSAT_READ: time_is(vrk_cryosat_read(in, in_len)); return 1;
+    case CRYOSAT_WRITE: written_is(vrk_cryosat_write(handed_at(w), out, out_len)); return 1;
+    case SIRAL_READ: time_is(vrk_siral_read(in, in_len)); return 1;
+    case SIRAL_WRITE: written_is(vrk_siral_write(handed_at(w), out, out_len)); return 1;
+    case SBT_READ: count_is(vrk_sbt_read(in, in_len)); return 1;
+    case SBT_WRITE: written_is(vrk_sbt_write((uint32_t)w[0], out, out_len)); return 1;
+    case CUC_FIELDS_READ: { vrk_cuc_fields f = vrk_cuc_fields_read(in, in_len); FIELDS(f.refusal, f.seconds, f.fraction, 0, 0); return 1; }
+    case CUC_FIELDS_WRITE: written_is(vrk_cuc_fields_write((uint32_t)w[0], (uint32_t)w[1], out, out_len)); return 1;
+    case PROTEUS_FIELDS_READ: { vrk_proteus_fields f = vrk_proteus_fields_read(in, in_len); FIELDS(f.refusal, f.week, f.h3, f.second, f.fraction); return 1; }
+    case PROTEUS_FIELDS_WRITE: written_is(vrk_proteus_fields_write((uint32_t)w[0], (uint32_t)w[1], (uint32_t)w[2], (uint32_t)w[3], out, out_len)); return 1;
+    case CRYOSAT_FIELDS_READ: { vrk_cryosat_fields f = vrk_cryosat_fields_read(in, in_len); FIELDS(f.refusal, f.day, f.millisecond, f.microsecond, 0); return 1; }
+    case CRYOSAT_FIELDS_WRITE: written_is(vrk_cryosat_fields_write((uint32_t)w[0], (uint32_t)w[1], (uint32_t)w[2], out, out_len)); return 1;
+    case SIRAL_FIELDS_READ: { vrk_siral_fields f = vrk_siral_fields_read(in, in_len); FIELDS(f.refusal, f.day, f.millisecond, f.microsecond, f.extra); return 1; }
+    case SIRAL_FIELDS_WRITE: written_is(vrk_siral_fields_write((uint32_t)w[0], (uint32_t)w[1], (uint32_t)w[2], (uint32_t)w[3], out, out_len)); return 1;
     }
     return 0;
 }
@@ -83,7 +118,8 @@ int main(void) {
             memset(lent, 0xA5, sizeof lent);
             memcpy(lent + GUARD, p + words + head[2], head[3]);
             memset(answer, 0, sizeof answer);
-            if (!call(head[0], p + words, head[2], lent + GUARD, head[3])) return 2;
+            /* the empty slice is a null pointer */
+            if (!call(head[0], head[2] ? p + words : 0, head[2], head[3] ? lent + GUARD : 0, head[3])) return 2;
             for (size_t k = 0; k < GUARD; k++)
                 if (lent[k] != 0xA5 || lent[GUARD + head[3] + k] != 0xA5) return 3;
             if (made + sizeof answer + head[3] > sizeof output) {

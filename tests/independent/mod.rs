@@ -4,6 +4,7 @@
 pub mod calendar;
 pub mod correlation;
 pub mod decimal;
+pub mod layouts;
 pub mod leap;
 pub mod time;
 

@@ -8,8 +8,12 @@ use Rattle.calendar.specs.Meaning.{leap, monthLength, lengthOf, firstDay, dayAf
 use Rattle.leap.specs.Meaning as L
 use Rattle.leap.specs.Meaning.{begins, risesFrom, rises, countsFrom, countsUp, noneLater, through, isStep}
 use Rattle.changes.specs.Meaning.{changeOf}
+use Rattle.octets.specs.Meaning.{number}
+use Rattle.layouts.specs.Cuc as Cuc
+use Rattle.layouts.specs.Proteus as Proteus
+use Rattle.layouts.specs.Siral as Siral
 use Rattle.marked.specs.Table.{Row, table}
 
 pub marked : map (λ (r : Row). r .meaning) table ≡ map (λ (r : Row). r .paper) table
-unfolding readOf dateOf accepted inWindow covers clock changeOf L.accepted begins risesFrom rises countsFrom countsUp noneLater through isStep isFirst walk daysTo dayAfter firstDay lengthOf monthLength leap
+unfolding number Cuc.read Proteus.read Siral.read readOf dateOf accepted inWindow covers clock changeOf L.accepted begins risesFrom rises countsFrom countsUp noneLater through isStep isFirst walk daysTo dayAfter firstDay lengthOf monthLength leap
 marked = refl

@@ -11,6 +11,9 @@ use Rattle.scales.specs.declared.Handed.the-variants as H
 use Rattle.decimal.specs.Meaning.{readOf}
 use Rattle.leap.specs.Meaning.{publishedDays, publishedOffsets, publishedLast}
 use Rattle.changes.specs.Meaning.{changeOf}
+use Rattle.layouts.specs.Cuc as Cuc
+use Rattle.layouts.specs.Proteus as Proteus
+use Rattle.layouts.specs.Siral as Siral
 use Rattle.correlation.specs.Meaning.{dateOf}
 use Rattle.correlation.specs.declared.Correlation.{Correlation}
 
@@ -53,6 +56,36 @@ changedRows =
     ∷ changedRow 3 (pos 6209) (pos 6210) 0 S.Tai (refusedBy 9)
     ∷ []
 
+-- 4. CUC 00 00 00 01 00 01: GPS day -7300, 1,000,015
+-- 5. CUC seconds 3,786,479,999 read; 3,786,480,000: 7
+abbrev pub cucRow : ℕ → List ℕ → List ℤ → Row
+cucRow n bytes said = record { case = n; meaning = slipped (Cuc.read bytes); paper = said }
+
+-- 6. Proteus second 604,799 read; 604,800: 3; second byte 02: 2
+abbrev pub proteusRow : List ℕ → List ℤ → Row
+proteusRow bytes said = record { case = 6; meaning = slipped (Proteus.read bytes .slip); paper = said }
+
+-- 7. SIRAL extra 16 adds 33, extra 1 adds 2
+abbrev pub siralRow : ℕ → ℕ → Row
+siralRow extra micros =
+    record {
+      case = 7;
+      meaning = slipped (Siral.read (0 ∷ 1 ∷ 0 ∷ 0 ∷ 0 ∷ 0 ∷ 0 ∷ 0 ∷ 0 ∷ extra ∷ []));
+      paper = answered (pos 1) micros;
+    }
+
+abbrev pub byteRows : List Row
+byteRows =
+    cucRow 4 (0 ∷ 0 ∷ 0 ∷ 1 ∷ 0 ∷ 1 ∷ []) (answered (negsuc 7299) 1000015)
+    ∷ cucRow 5 (225 ∷ 177 ∷ 25 ∷ 127 ∷ 0 ∷ 0 ∷ []) (answered (pos 36524) 86399000000)
+    ∷ cucRow 5 (225 ∷ 177 ∷ 25 ∷ 128 ∷ 0 ∷ 0 ∷ []) (refusedBy 7)
+    ∷ proteusRow (0 ∷ 0 ∷ 0 ∷ 9 ∷ 58 ∷ 127 ∷ 0 ∷ 0 ∷ []) (answered (negsuc 7293) 86399000000)
+    ∷ proteusRow (0 ∷ 0 ∷ 0 ∷ 9 ∷ 58 ∷ 128 ∷ 0 ∷ 0 ∷ []) (refusedBy 3)
+    ∷ proteusRow (0 ∷ 2 ∷ 0 ∷ 9 ∷ 58 ∷ 127 ∷ 0 ∷ 0 ∷ []) (refusedBy 2)
+    ∷ siralRow 16 33
+    ∷ siralRow 1 2
+    ∷ []
+
 -- a correlation with P = 3,906,250,000: its reference is the first second of day 0
 abbrev pub correlated : ℕ → ℕ → Correlation
 correlated tick reach =
@@ -79,4 +112,5 @@ nextTick =
 abbrev pub table : List Row
 table =
     changedRows
-    ++ (forward ∷ backward ∷ atReference ∷ nextTick ∷ decimalCase S.Tai ∷ decimalCase S.Utc ∷ decimalCase S.Gps ∷ [])
+    ++ (byteRows
+    ++ (forward ∷ backward ∷ atReference ∷ nextTick ∷ decimalCase S.Tai ∷ decimalCase S.Utc ∷ decimalCase S.Gps ∷ []))

@@ -1,1 +1,4 @@
 pub mod Meaning
+pub mod Bytes
+pub mod Parts
+pub mod Same

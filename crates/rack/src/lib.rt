@@ -14,6 +14,9 @@ use scales::Record;
 use scales::Scale;
 use scales::Tick;
 
+pub mod bytes;
+pub mod parts;
+
 #[repr(C)]
 pub struct VrkHanded {
     pub kind: u32,

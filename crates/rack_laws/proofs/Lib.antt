@@ -1,2 +1,3 @@
+pub mod BytesWrong
 pub mod One
 pub mod Wrong

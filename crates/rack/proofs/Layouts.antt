@@ -1,0 +1,53 @@
+-- What the functions on bytes of the C interface share: the cases of a library's answer, and 3 before what a library judges.
+-- Assumes nothing.
+use mathlib.Core.Path.{_≡_, refl, sym, ap, subst, _∙_}
+use mathlib.Core.Bool.{Bool, true}
+use mathlib.Core.List.{List}
+use Prim.Native.Nat.{ℕ}
+use Rattle.scales.specs.Meaning.{Judged, given, outcome, written}
+use Rattle.scales.specs.Order.{Refuses, here, later, refuses-is}
+use Rattle.scales.specs.declared.Handed.{Handed}
+use Rattle.rack.specs.declared.VrkHanded.{VrkHanded}
+use Rattle.rack.specs.declared.Given.the-variants as G
+use Rattle.rack.specs.Meaning.{givenOf}
+use Rattle.rack.specs.Bytes.{wroteOf, writes, handedWriting}
+use Rattle.rack.proofs.Ways.{given-bad, given-good}
+
+-- ---- a reader: the case y of the library's answer x
+module _ {X Y R : Type 0} (slip : X → Y) (out : Y → R) where
+  pub told : {x y : X} {v : Y} → x ≡ y → slip x ≡ v → out (slip y) ≡ out v
+  told e r = ap out (sym (ap slip e) ∙ r)
+
+-- ---- a writer
+-- a chain goes on as the chain j: every test before holds
+pub data Passes {A : Type 0} (j : Judged A) : Judged A → Type 0 where
+  done : Passes j j
+  on : {t : Bool} {n : ℕ} {rest : Judged A} → t ≡ true → Passes j rest → Passes j (given t n rest)
+
+passes-is : {A : Type 0} {j k : Judged A} → Passes j k → outcome j ≡ outcome k
+passes-is done = refl
+passes-is (on e p) = rw e (passes-is p)
+
+-- of numbers
+module _ (m : List ℕ → Judged (List ℕ)) (out : List ℕ) where
+  pub three : Refuses (m out) 3 → wroteOf (record { refusal = 3; length = 0 }) out ≡ writes m out
+  unfolding writes
+  three r = ap (written out) (sym (refuses-is r))
+
+  pub past : {j : Judged (List ℕ)} → Passes j (m out) → written out (outcome j) ≡ writes m out
+  unfolding writes
+  past p = ap (written out) (passes-is p)
+
+-- of a handed time
+module _ (m : Handed → List ℕ → Judged (List ℕ)) (h : VrkHanded) (out : List ℕ) where
+  pub handed-three : givenOf h ≡ G.Unknown → wroteOf (record { refusal = 3; length = 0 }) out ≡ writes (handedWriting m h) out
+  handed-three e = three (handedWriting m h) out (here (given-bad h e))
+
+  module _ (t : Handed) (e : givenOf h ≡ G.Handed t) where
+    pub handed-later : Refuses (m t out) 3 → wroteOf (record { refusal = 3; length = 0 }) out ≡ writes (handedWriting m h) out
+    handed-later r = let k = given-good h t e in
+        three (handedWriting m h) out (later (k .0) (subst (λ (x : Handed). Refuses (m x out) 3) (k .1) r))
+
+    pub handed-past : {j : Judged (List ℕ)} → Passes j (m t out) → written out (outcome j) ≡ writes (handedWriting m h) out
+    handed-past {j} p = let k = given-good h t e in
+        past (handedWriting m h) out (on (k .0) (subst (λ (x : Handed). Passes j (m x out)) (k .1) p))

@@ -1,0 +1,18 @@
+-- `rack::bytes::vrk_obet_read` meets its contract. Assumes nothing.
+use mathlib.Core.Path.{ap, _∙_}
+use Rattle.rack.specs.Bytes.{countOut}
+use borrow.Author.Needs.{needs}
+use Rattle.rack.proofs.bytes.vrk_obet_read.Statement.{statement}
+use Rattle.rack.proofs.bytes.vrk_obet_read.Tie as tie
+
+read-requires : tie.Need-read-requires
+read-requires c κs = search needs
+
+count-out-requires : tie.Need-count-out-requires
+count-out-requires c κs = search needs
+
+returns : tie.Need-returns
+returns c = c .count-out .ensures ∙ ap countOut (c .before .read .ensures)
+
+pub vrk-obet-read-spec : {M : Type 1} → statement M
+vrk-obet-read-spec = tie.close (tie.spec read-requires count-out-requires returns)

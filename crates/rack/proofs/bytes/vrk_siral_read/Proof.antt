@@ -1,0 +1,18 @@
+-- `rack::bytes::vrk_siral_read` meets its contract. Assumes nothing.
+use mathlib.Core.Path.{ap, _∙_}
+use Rattle.rack.specs.Meaning.{timeOut}
+use borrow.Author.Needs.{needs}
+use Rattle.rack.proofs.bytes.vrk_siral_read.Statement.{statement}
+use Rattle.rack.proofs.bytes.vrk_siral_read.Tie as tie
+
+read-requires : tie.Need-read-requires
+read-requires c κs = search needs
+
+time-out-requires : tie.Need-time-out-requires
+time-out-requires c κs = search needs
+
+returns : tie.Need-returns
+returns c = c .time-out .ensures ∙ ap timeOut (c .before .read .ensures)
+
+pub vrk-siral-read-spec : {M : Type 1} → statement M
+vrk-siral-read-spec = tie.close (tie.spec read-requires time-out-requires returns)

@@ -1,0 +1,51 @@
+-- `rack::parts::vrk_cryosat_fields_read` meets its contract. Assumes nothing.
+use mathlib.Core.Path.{ap, _∙_}
+use Prim.Native.Nat.{ℕ}
+use Rattle.scales.specs.Meaning.{refused}
+use Rattle.fields.specs.Meaning.{valued}
+use Rattle.fields.specs.Cryosat.{empty, slip}
+use Rattle.rack.specs.Parts.{cryosatFields}
+use Rattle.rack.proofs.Layouts.{told}
+use borrow.Author.Needs.{needs}
+use Rattle.rack.proofs.parts.vrk_cryosat_fields_read.Statement.{statement}
+use Rattle.rack.proofs.parts.vrk_cryosat_fields_read.Tie as tie
+
+read-requires : tie.Need-read-requires
+read-requires c κs = search needs
+
+enum-known-f : tie.Need-enum-known-f
+enum-known-f c = search needs
+
+cast-t6 : tie.Need-cast-t6
+cast-t6 c = search needs
+
+cast-t7 : tie.Need-cast-t7
+cast-t7 c = search needs
+
+enum-known-f-2 : tie.Need-enum-known-f-2
+enum-known-f-2 c = search needs
+
+number-requires : tie.Need-number-requires
+number-requires c κs = search needs
+
+returns : tie.Need-returns
+returns c = let f = c .before .before .before in told slip cryosatFields (f .f .given .1) (f .before .before .read .ensures)
+
+returns-2 : tie.Need-returns-2
+returns-2 c =
+    let f = c .before .before in
+    ap (λ (n : ℕ). cryosatFields (valued empty (refused n))) (c .number .ensures)
+    ∙ told slip cryosatFields (f .f2 .given .1) (f .before .before .read .ensures)
+
+pub vrk-cryosat-fields-read-spec : {M : Type 1} → statement M
+vrk-cryosat-fields-read-spec =
+    tie.close
+    (tie.spec
+    read-requires
+    enum-known-f
+    cast-t6
+    cast-t7
+    enum-known-f-2
+    number-requires
+    returns
+    returns-2)

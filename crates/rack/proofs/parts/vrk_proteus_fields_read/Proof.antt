@@ -1,0 +1,61 @@
+-- `rack::parts::vrk_proteus_fields_read` meets its contract. Assumes nothing.
+use mathlib.Core.Path.{ap, _∙_}
+use Prim.Native.Nat.{ℕ}
+use Rattle.scales.specs.Meaning.{refused}
+use Rattle.fields.specs.Meaning.{valued}
+use Rattle.fields.specs.Proteus.{empty, slip}
+use Rattle.rack.specs.Parts.{proteusFields}
+use Rattle.rack.specs.declared.parts.VrkProteusFields.{VrkProteusFields}
+use Rattle.rack.proofs.Layouts.{told}
+use borrow.Author.Needs.{needs}
+use Rattle.rack.proofs.parts.vrk_proteus_fields_read.Statement.{statement}
+use Rattle.rack.proofs.parts.vrk_proteus_fields_read.Tie as tie
+
+read-requires : tie.Need-read-requires
+read-requires c κs = search needs
+
+enum-known-f : tie.Need-enum-known-f
+enum-known-f c = search needs
+
+cast-t6 : tie.Need-cast-t6
+cast-t6 c = search needs
+
+bit-requires : tie.Need-bit-requires
+bit-requires c κs = search needs
+
+cast-t8 : tie.Need-cast-t8
+cast-t8 c = search needs
+
+enum-known-f-2 : tie.Need-enum-known-f-2
+enum-known-f-2 c = search needs
+
+number-requires : tie.Need-number-requires
+number-requires c κs = search needs
+
+returns : tie.Need-returns
+returns c =
+    let b = c .before in
+    let f = b .before .before .before in
+    let g = f .f .given .0 .0 in
+    ap {B = VrkProteusFields} (λ (h : ℕ). record { refusal = 0; week = g .week; h3 = h; second = g .second; fraction = g .fraction }) (b .bit .ensures)
+    ∙ told slip proteusFields (f .f .given .1) (f .before .before .read .ensures)
+
+returns-2 : tie.Need-returns-2
+returns-2 c =
+    let f = c .before .before in
+    ap (λ (n : ℕ). proteusFields (valued empty (refused n))) (c .number .ensures)
+    ∙ told slip proteusFields (f .f2 .given .1) (f .before .before .read .ensures)
+
+pub vrk-proteus-fields-read-spec : {M : Type 1} → statement M
+vrk-proteus-fields-read-spec =
+    tie.close
+    (tie.spec
+    read-requires
+    enum-known-f
+    cast-t6
+    bit-requires
+    cast-t8
+    enum-known-f-2
+    number-requires
+    returns
+    returns-2)

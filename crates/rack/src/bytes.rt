@@ -1,0 +1,231 @@
+// Times, counts and ticks in bytes, for C.
+ghost use mathlib.Core.Path.{_≡_};
+ghost use mathlib.Core.List.{List};
+ghost use Prim.Native.Nat.{ℕ};
+ghost use Rattle.scales.specs.Meaning.{wrote};
+ghost use Rattle.fields.specs.Meaning.{countSlip};
+ghost use Rattle.fields.specs.Goce.{read as goceRead, write as goceWrite};
+ghost use Rattle.fields.specs.Obet.{read as obetRead, write as obetWrite};
+ghost use Rattle.fields.specs.Sbt.{read as sbtRead, write as sbtWrite};
+ghost use Rattle.layouts.specs.Cuc.{read as cucRead, writing as cucWriting};
+ghost use Rattle.layouts.specs.Cryosat.{read as cryosatRead, writing as cryosatWriting};
+ghost use Rattle.layouts.specs.Siral.{read as siralRead, writing as siralWriting};
+ghost use Rattle.layouts.specs.Proteus.{read as proteusRead};
+ghost use Rattle.rack.specs.Meaning.{timeOut};
+ghost use Rattle.rack.specs.Bytes.{countOut, sbtOut, bitOf, proteusOut, wroteOf, writes, handedWriting, proteusWriting};
+use crate::Given;
+use crate::VrkCount;
+use crate::VrkHanded;
+use crate::VrkTime;
+use crate::hand;
+use crate::time_out;
+use fields::Counting;
+use fields::sbt::Ticking;
+use layouts::proteus::ProteusDated;
+use scales::Tick;
+use scales::Written;
+
+#[repr(C)]
+pub struct VrkWritten {
+    pub refusal: u32,
+    pub length: u64,
+}
+
+#[repr(C)]
+pub struct VrkProteus {
+    pub refusal: u32,
+    pub scale: u32,
+    pub day: i64,
+    pub micro: u64,
+    pub h3: u32,
+}
+
+pub(crate) fn written_out(w: Written) -> VrkWritten
+    ensures { λ r. ⌜ ((out : List ℕ) → wroteOf r out ≡ wrote w out) ⌝ }
+{
+    match w {
+        Written::Bytes(n) => VrkWritten {
+            refusal: 0,
+            length: n as u64,
+        },
+        Written::Refused(f) => VrkWritten {
+            refusal: f.number(),
+            length: 0,
+        },
+    }
+}
+
+pub(crate) fn bit(b: bool) -> u32
+    ensures { λ r. ⌜ r ≡ bitOf b ⌝ }
+{
+    if b { 1 } else { 0 }
+}
+
+#[no_mangle]
+pub extern "C" fn vrk_cuc_read(bytes: &[u8]) -> VrkTime
+    ensures { λ r. ⌜ r ≡ timeOut (cucRead (now (bytes .entry))) ⌝ }
+{
+    time_out(layouts::cuc::read(bytes))
+}
+
+#[no_mangle]
+pub extern "C" fn vrk_cryosat_read(bytes: &[u8]) -> VrkTime
+    ensures { λ r. ⌜ r ≡ timeOut (cryosatRead (now (bytes .entry))) ⌝ }
+{
+    time_out(layouts::cryosat::read(bytes))
+}
+
+#[no_mangle]
+pub extern "C" fn vrk_siral_read(bytes: &[u8]) -> VrkTime
+    ensures { λ r. ⌜ r ≡ timeOut (siralRead (now (bytes .entry))) ⌝ }
+{
+    time_out(layouts::siral::read(bytes))
+}
+
+fn count_out(c: Counting) -> VrkCount
+    ensures { λ r. ⌜ r ≡ countOut (countSlip c) ⌝ }
+{
+    match c {
+        Counting::Count(count) => VrkCount { refusal: 0, count },
+        Counting::Refused(f) => VrkCount {
+            refusal: f.number(),
+            count: 0,
+        },
+    }
+}
+
+#[no_mangle]
+pub extern "C" fn vrk_goce_read(bytes: &[u8]) -> VrkCount
+    ensures { λ r. ⌜ r ≡ countOut (goceRead (now (bytes .entry))) ⌝ }
+{
+    count_out(fields::goce::read(bytes))
+}
+
+#[no_mangle]
+pub extern "C" fn vrk_obet_read(bytes: &[u8]) -> VrkCount
+    ensures { λ r. ⌜ r ≡ countOut (obetRead (now (bytes .entry))) ⌝ }
+{
+    count_out(fields::obet::read(bytes))
+}
+
+#[no_mangle]
+pub extern "C" fn vrk_sbt_read(bytes: &[u8]) -> VrkCount
+    ensures { λ r. ⌜ r ≡ sbtOut (sbtRead (now (bytes .entry))) ⌝ }
+{
+    match fields::sbt::read(bytes) {
+        Ticking::Tick(tick) => VrkCount {
+            refusal: 0,
+            count: tick.0 as u64,
+        },
+        Ticking::Refused(f) => VrkCount {
+            refusal: f.number(),
+            count: 0,
+        },
+    }
+}
+
+#[no_mangle]
+pub extern "C" fn vrk_cuc_write(time: VrkHanded, out: &mut [u8]) -> VrkWritten
+    ensures { λ r. ⌜ wroteOf r (now (out .exit)) ≡ writes (handedWriting cucWriting time) (now (out .entry)) ⌝ }
+{
+    match hand(time) {
+        Given::Handed(h) => written_out(layouts::cuc::write(h, out)),
+        Given::Unknown => VrkWritten {
+            refusal: 3,
+            length: 0,
+        },
+    }
+}
+
+#[no_mangle]
+pub extern "C" fn vrk_cryosat_write(time: VrkHanded, out: &mut [u8]) -> VrkWritten
+    ensures { λ r. ⌜ wroteOf r (now (out .exit)) ≡ writes (handedWriting cryosatWriting time) (now (out .entry)) ⌝ }
+{
+    match hand(time) {
+        Given::Handed(h) => written_out(layouts::cryosat::write(h, out)),
+        Given::Unknown => VrkWritten {
+            refusal: 3,
+            length: 0,
+        },
+    }
+}
+
+#[no_mangle]
+pub extern "C" fn vrk_siral_write(time: VrkHanded, out: &mut [u8]) -> VrkWritten
+    ensures { λ r. ⌜ wroteOf r (now (out .exit)) ≡ writes (handedWriting siralWriting time) (now (out .entry)) ⌝ }
+{
+    match hand(time) {
+        Given::Handed(h) => written_out(layouts::siral::write(h, out)),
+        Given::Unknown => VrkWritten {
+            refusal: 3,
+            length: 0,
+        },
+    }
+}
+
+#[no_mangle]
+pub extern "C" fn vrk_goce_write(count: u64, out: &mut [u8]) -> VrkWritten
+    ensures { λ r. ⌜ wroteOf r (now (out .exit)) ≡ goceWrite count (now (out .entry)) ⌝ }
+{
+    written_out(fields::goce::write(count, out))
+}
+
+#[no_mangle]
+pub extern "C" fn vrk_obet_write(count: u64, out: &mut [u8]) -> VrkWritten
+    ensures { λ r. ⌜ wroteOf r (now (out .exit)) ≡ obetWrite count (now (out .entry)) ⌝ }
+{
+    written_out(fields::obet::write(count, out))
+}
+
+#[no_mangle]
+pub extern "C" fn vrk_sbt_write(tick: u32, out: &mut [u8]) -> VrkWritten
+    ensures { λ r. ⌜ wroteOf r (now (out .exit)) ≡ sbtWrite (record { 0 = tick }) (now (out .entry)) ⌝ }
+{
+    written_out(fields::sbt::write(Tick(tick), out))
+}
+
+#[no_mangle]
+pub extern "C" fn vrk_proteus_read(bytes: &[u8]) -> VrkProteus
+    ensures { λ r. ⌜ r ≡ proteusOut (proteusRead (now (bytes .entry))) ⌝ }
+{
+    match layouts::proteus::read(bytes) {
+        ProteusDated::At(r, h3) => {
+            let scale = r.scale;
+            VrkProteus {
+                refusal: 0,
+                scale: scale.code(),
+                day: r.day,
+                micro: r.micro,
+                h3: bit(h3),
+            }
+        }
+        ProteusDated::Refused(f) => VrkProteus {
+            refusal: f.number(),
+            scale: 1,
+            day: 0,
+            micro: 0,
+            h3: 0,
+        },
+    }
+}
+
+#[no_mangle]
+pub extern "C" fn vrk_proteus_write(time: VrkHanded, h3: u32, out: &mut [u8]) -> VrkWritten
+    ensures { λ r. ⌜ wroteOf r (now (out .exit)) ≡ writes (handedWriting (proteusWriting h3) time) (now (out .entry)) ⌝ }
+{
+    match hand(time) {
+        Given::Handed(h) => {
+            if 1 < h3 {
+                return VrkWritten {
+                    refusal: 3,
+                    length: 0,
+                };
+            }
+            written_out(layouts::proteus::write(h, h3 == 1, out))
+        }
+        Given::Unknown => VrkWritten {
+            refusal: 3,
+            length: 0,
+        },
+    }
+}

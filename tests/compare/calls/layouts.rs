@@ -1,0 +1,346 @@
+use super::{answered, handed, Answer, Call, Random};
+use crate::independent::layouts::{cryosat, cuc, field, goce, obet, proteus, sbt, siral};
+use crate::independent::time::{Moment, Scale};
+use crate::independent::Number;
+
+// ---- bytes in
+
+/// Bytes of a layout that reads well most of the time, with its length, marker or fields damaged some times.
+fn bytes(random: &mut Random, parts: &[(usize, u64)]) -> Vec<u8> {
+    let mut all: Vec<u8> = parts.iter().flat_map(|&(width, value)| field(width, value)).collect();
+    match random.below(12) {
+        0 => all.truncate(random.below(all.len() as u64 + 1) as usize),
+        1 => all.extend((0..random.below(40)).map(|_| random.next() as u8)),
+        2 => all = (0..random.below(41)).map(|_| random.next() as u8).collect(),
+        3 => {
+            let at = random.below(all.len() as u64) as usize;
+            all[at] ^= 1 << random.below(8);
+        }
+        _ => {}
+    }
+    all
+}
+
+fn seconds(random: &mut Random) -> u64 {
+    match random.below(6) {
+        0 => random.near(3_786_479_999, 3) as u64,
+        1 => random.pick(&[0, 1, 0xffff_ffff]),
+        2 => random.next() >> 32,
+        _ => random.below(3_786_480_000),
+    }
+}
+
+fn fraction(random: &mut Random) -> u64 {
+    if random.one_in(4) { random.pick(&[0, 1, 2, 65534, 65535]) } else { random.below(65536) }
+}
+
+fn cuc_parts(random: &mut Random) -> Vec<(usize, u64)> {
+    vec![(4, seconds(random)), (2, fraction(random))]
+}
+
+fn obet_parts(random: &mut Random) -> Vec<(usize, u64)> {
+    let marker = if random.one_in(6) { random.below(256) } else { 0x66 };
+    vec![(1, marker), (7, random.next() >> 8)]
+}
+
+fn proteus_parts(random: &mut Random) -> Vec<(usize, u64)> {
+    let zeros = if random.one_in(6) { random.below(8) << 1 } else { 0 };
+    vec![(2, random.below(4096) << 4 | zeros | random.below(2)), (4, second_of_week(random)), (2, fraction(random))]
+}
+
+fn second_of_week(random: &mut Random) -> u64 {
+    match random.below(6) {
+        0 => random.near(604_799, 2) as u64,
+        1 => random.next() >> 32,
+        _ => random.below(604_800),
+    }
+}
+
+fn cryosat_fields(random: &mut Random) -> Vec<u64> {
+    let day = match random.below(5) {
+        0 => random.near(36524, 2) as u64,
+        1 => random.below(65536),
+        _ => random.below(36525),
+    };
+    let milli = match random.below(8) {
+        0 => random.near(86_399_999, 2) as u64,
+        1 => random.next() >> 32,
+        _ => random.below(86_400_000),
+    };
+    let micro = match random.below(8) {
+        0 => random.near(999, 2) as u64,
+        1 => random.below(65536),
+        _ => random.below(1000),
+    };
+    vec![day, milli, micro]
+}
+
+fn siral_fields(random: &mut Random) -> Vec<u64> {
+    let mut all = cryosat_fields(random);
+    if random.one_in(8) {
+        // a carry that passes midnight, on the last day too
+        all[0] = random.pick(&[0, 100, 36523, 36524]);
+        all[1] = 86_399_999 - random.below(140);
+    }
+    all.push(if random.one_in(4) { random.pick(&[0, 1, 16, 65535]) } else { random.below(65536) });
+    all
+}
+
+fn with_widths(values: Vec<u64>, widths: &[usize]) -> Vec<(usize, u64)> {
+    widths.iter().copied().zip(values).collect()
+}
+
+fn of_bytes(input: Vec<u8>) -> Call {
+    Call { words: Vec::new(), input, lent: Vec::new() }
+}
+
+macro_rules! readers {
+    ($($make:ident $parts:expr;)*) => {
+        $(pub fn $make(random: &mut Random) -> Call {
+            let parts: Vec<(usize, u64)> = $parts(random);
+            of_bytes(bytes(random, &parts))
+        })*
+    };
+}
+
+readers! {
+    make_cuc_read cuc_parts;
+    make_goce_read |random: &mut Random| vec![(6, random.next() >> 16)];
+    make_obet_read obet_parts;
+    make_proteus_read proteus_parts;
+    make_cryosat_read |random: &mut Random| with_widths(cryosat_fields(random), &[2, 4, 2]);
+    make_siral_read |random: &mut Random| with_widths(siral_fields(random), &[2, 4, 2, 2]);
+    make_sbt_read |random: &mut Random| vec![(4, random.next() >> 32)];
+}
+
+// ---- what the readers give
+
+fn timed(call: &Call, scale: Scale, read: Result<Moment, Number>) -> Answer {
+    match read {
+        Ok(moment) => answered(call, &[0, scale.code(), moment.day as u64, moment.micro]),
+        Err(number) => answered(call, &[number, scale.code()]),
+    }
+}
+
+fn counted(call: &Call, read: Result<u64, Number>) -> Answer {
+    match read {
+        Ok(count) => answered(call, &[0, count]),
+        Err(number) => answered(call, &[number]),
+    }
+}
+
+fn parted<const N: usize>(call: &Call, read: Result<[u64; N], Number>) -> Answer {
+    match read {
+        Ok(fields) => answered(call, &[&[0], &fields[..]].concat()),
+        Err(number) => answered(call, &[number]),
+    }
+}
+
+pub fn model_cuc_read(call: &Call) -> Answer {
+    timed(call, Scale::Gps, cuc::read(&call.input))
+}
+
+pub fn model_cryosat_read(call: &Call) -> Answer {
+    timed(call, Scale::Tai, cryosat::read(&call.input))
+}
+
+pub fn model_siral_read(call: &Call) -> Answer {
+    timed(call, Scale::Tai, siral::read(&call.input))
+}
+
+pub fn model_proteus_read(call: &Call) -> Answer {
+    match proteus::read(&call.input) {
+        Ok((moment, h3)) => answered(call, &[0, Scale::Utc.code(), moment.day as u64, moment.micro, h3]),
+        Err(number) => answered(call, &[number, Scale::Utc.code()]),
+    }
+}
+
+pub fn model_goce_read(call: &Call) -> Answer {
+    counted(call, goce::read(&call.input))
+}
+
+pub fn model_obet_read(call: &Call) -> Answer {
+    counted(call, obet::read(&call.input))
+}
+
+pub fn model_sbt_read(call: &Call) -> Answer {
+    counted(call, sbt::read(&call.input))
+}
+
+pub fn model_cuc_split(call: &Call) -> Answer {
+    parted(call, cuc::split(&call.input))
+}
+
+pub fn model_proteus_split(call: &Call) -> Answer {
+    parted(call, proteus::split(&call.input))
+}
+
+pub fn model_cryosat_split(call: &Call) -> Answer {
+    parted(call, cryosat::split(&call.input))
+}
+
+pub fn model_siral_split(call: &Call) -> Answer {
+    parted(call, siral::split(&call.input))
+}
+
+// ---- writing into a lent slice
+
+fn lent(random: &mut Random, image: u64) -> Vec<u8> {
+    let length = match random.below(6) {
+        0 => random.below(image),
+        1 => image,
+        _ => random.below(41),
+    };
+    (0..length).map(|_| random.next() as u8).collect()
+}
+
+/// The image on the front of the lent bytes, or 13 where it has no room; every byte stays on a refusal.
+fn written(call: &Call, image: Result<Vec<u8>, Number>) -> Answer {
+    let fits = image.and_then(|image| if image.len() <= call.lent.len() { Ok(image) } else { Err(13) });
+    match fits {
+        Ok(image) => {
+            let mut answer = answered(call, &[0, image.len() as u64]);
+            answer.lent[..image.len()].copy_from_slice(&image);
+            answer
+        }
+        Err(number) => answered(call, &[number]),
+    }
+}
+
+/// A handed time of one scale most of the time.
+fn of_scale(random: &mut Random, scale: Scale, image: u64) -> Call {
+    let mut words = handed::words(random);
+    if !random.one_in(6) && words[1] < 3 {
+        words[1] = scale.code();
+    }
+    if random.one_in(8) {
+        // where Proteus' weeks end
+        words[2] = random.near(21371, 1) as u64;
+    }
+    let lent = lent(random, image);
+    Call { words, input: Vec::new(), lent }
+}
+
+pub fn make_cuc_write(random: &mut Random) -> Call {
+    of_scale(random, Scale::Gps, 6)
+}
+
+pub fn make_cryosat_write(random: &mut Random) -> Call {
+    of_scale(random, Scale::Tai, 8)
+}
+
+pub fn make_siral_write(random: &mut Random) -> Call {
+    of_scale(random, Scale::Tai, 10)
+}
+
+pub fn make_proteus_write(random: &mut Random) -> Call {
+    let mut call = of_scale(random, Scale::Utc, 8);
+    call.words.push(if random.one_in(20) { 2 + random.below(9) } else { random.below(2) });
+    call
+}
+
+pub fn model_cuc_write(call: &Call) -> Answer {
+    written(call, handed::of(&call.words).ok_or(3).and_then(cuc::write))
+}
+
+pub fn model_cryosat_write(call: &Call) -> Answer {
+    written(call, handed::of(&call.words).ok_or(3).and_then(cryosat::write))
+}
+
+pub fn model_siral_write(call: &Call) -> Answer {
+    written(call, handed::of(&call.words).ok_or(3).and_then(siral::write))
+}
+
+pub fn model_proteus_write(call: &Call) -> Answer {
+    let h3 = call.words[5];
+    let handed = if h3 < 2 { handed::of(&call.words).ok_or(3) } else { Err(3) };
+    written(call, handed.and_then(|handed| proteus::write(handed, h3)))
+}
+
+fn count(random: &mut Random, bits: u32, image: u64) -> Call {
+    let words = vec![match random.below(6) {
+        0 => random.near(1 << bits, 2) as u64,
+        1 => random.next(),
+        _ => random.next() >> (64 - bits),
+    }];
+    let lent = lent(random, image);
+    Call { words, input: Vec::new(), lent }
+}
+
+pub fn make_goce_write(random: &mut Random) -> Call {
+    count(random, 48, 6)
+}
+
+pub fn make_obet_write(random: &mut Random) -> Call {
+    count(random, 56, 8)
+}
+
+pub fn make_sbt_write(random: &mut Random) -> Call {
+    let words = vec![random.next() >> 32];
+    let lent = lent(random, 4);
+    Call { words, input: Vec::new(), lent }
+}
+
+pub fn model_goce_write(call: &Call) -> Answer {
+    written(call, goce::write(call.words[0]))
+}
+
+pub fn model_obet_write(call: &Call) -> Answer {
+    written(call, obet::write(call.words[0]))
+}
+
+pub fn model_sbt_write(call: &Call) -> Answer {
+    written(call, Ok(sbt::write(call.words[0])))
+}
+
+// ---- fields into a lent slice
+
+fn of_fields(random: &mut Random, mut words: Vec<u64>, image: u64) -> Call {
+    if random.one_in(6) {
+        // too wide for its field, or over its limit
+        let at = random.below(words.len() as u64) as usize;
+        words[at] = random.next() >> (32 + random.below(32));
+    }
+    let lent = lent(random, image);
+    Call { words, input: Vec::new(), lent }
+}
+
+pub fn make_cuc_fields(random: &mut Random) -> Call {
+    let words = vec![seconds(random), fraction(random)];
+    of_fields(random, words, 6)
+}
+
+pub fn make_proteus_fields(random: &mut Random) -> Call {
+    let words = vec![random.below(4096), random.below(2), second_of_week(random), fraction(random)];
+    of_fields(random, words, 8)
+}
+
+pub fn make_cryosat_fields(random: &mut Random) -> Call {
+    let words = cryosat_fields(random);
+    of_fields(random, words, 8)
+}
+
+pub fn make_siral_fields(random: &mut Random) -> Call {
+    let words = siral_fields(random);
+    of_fields(random, words, 10)
+}
+
+fn parts<const N: usize>(call: &Call) -> [u64; N] {
+    call.words[..].try_into().expect("so many fields")
+}
+
+pub fn model_cuc_fields(call: &Call) -> Answer {
+    written(call, cuc::image(parts(call)))
+}
+
+pub fn model_proteus_fields(call: &Call) -> Answer {
+    written(call, proteus::image(parts(call)))
+}
+
+pub fn model_cryosat_fields(call: &Call) -> Answer {
+    written(call, cryosat::image(parts(call)))
+}
+
+pub fn model_siral_fields(call: &Call) -> Answer {
+    written(call, siral::image(parts(call)))
+}
