@@ -1,0 +1,63 @@
+-- Texts read and written under the published list, computed from the meanings: the paper's line and its neighbours. Assumes nothing.
+use mathlib.Core.Path.{_≡_, refl, sym, _∙_}
+use mathlib.Core.List.{List, [], _∷_}
+use Prim.Native.Nat.{ℕ}
+use native.Mathlib.Omega.{arith}
+use lib.Dec.{lit≤}
+use lib.IntN.{pos}
+use lib.ListN.{take, drop}
+use Rattle.scales.specs.Meaning.{refused, answer, Slip, dated, Wrote, recordOf}
+use Rattle.scales.specs.declared.Scale.the-variants as S
+use Rattle.scales.specs.declared.Handed.{Handed}
+use Rattle.scales.specs.declared.Handed.the-variants as H
+use Rattle.calendar.specs.Meaning.{leap, monthLength, lengthOf, firstDay, isDate, dayAfter, daysTo, walk, dayOfDate, dateOfDay}
+use Rattle.leap.specs.Meaning.{isStep, publishedDays, publishedOffsets, publishedLast}
+use Rattle.leap_laws.proofs.Marked.{published, published-6209}
+use Rattle.text_read.specs.Meaning.{digitOf, twoOf, fourOf, sixOf, names, letter, isNamed, seek, monthOf, hasMarks, microIn, stampIn, inLimits, prefixOf, hasPrefix, scaleIn, bodyIn, isPrefixRight, isBody, readText}
+use Rattle.text_write.specs.Meaning.{textOf, writeText}
+use Rattle.text_write.specs.declared.Form.{Form}
+use Rattle.text_write.specs.declared.Form.the-variants as F
+use Rattle.text_laws.specs.Back.{read-back}
+use Rattle.text_laws.specs.Fresh.{published-again}
+
+abbrev pub reads : List ℕ → Slip
+reads s = readText s publishedDays publishedOffsets publishedLast
+
+abbrev pub sixty : List ℕ
+sixty =
+    85 ∷ 84 ∷ 67 ∷ 61 ∷ 51 ∷ 49 ∷ 45 ∷ 68 ∷ 69 ∷ 67 ∷ 45 ∷ 50 ∷ 48 ∷ 49 ∷ 54 ∷ 32 ∷ 50 ∷ 51 ∷ 58 ∷ 53 ∷ 57 ∷ 58 ∷ 54 ∷ 48 ∷ 46 ∷ 48 ∷ 48 ∷ 48 ∷ 48 ∷ 48 ∷ 48 ∷ []
+
+-- UTC=31-DEC-2016 23:59:60.000000
+pub read-sixty : reads sixty ≡ dated S.Utc (answer (record { day = pos 6209; micro = 86400000000 }))
+unfolding readText isPrefixRight isBody scaleIn bodyIn hasPrefix prefixOf hasMarks stampIn microIn inLimits digitOf twoOf fourOf sixOf monthOf seek isNamed letter names isDate dayOfDate dayAfter firstDay lengthOf monthLength leap isStep
+read-sixty = rw published
+
+-- 31-DEC-2016 23:59:6
+pub read-short : reads (drop 4 (take 23 sixty)) ≡ dated S.Tai (refused 1)
+unfolding readText
+read-short = refl
+
+-- the same second written
+abbrev pub blank : List ℕ
+blank = 0 ∷ 0 ∷ 0 ∷ 0 ∷ 0 ∷ 0 ∷ 0 ∷ 0 ∷ 0 ∷ 0 ∷ 0 ∷ 0 ∷ 0 ∷ 0 ∷ 0 ∷ 0 ∷ 0 ∷ 0 ∷ 0 ∷ 0 ∷ 0 ∷ 0 ∷ 0 ∷ 0 ∷ 0 ∷ 0 ∷ 0 ∷ 0 ∷ 0 ∷ 0 ∷ 0 ∷ []
+
+abbrev pub leapSecond : Handed
+leapSecond = H.Record (recordOf S.Utc (pos 6209) 86400000000)
+
+abbrev pub writes : Handed → Form → Wrote
+writes h f = writeText h f publishedDays publishedOffsets publishedLast blank
+
+pub write-sixty : writes leapSecond F.PrefixedMicros ≡ record { number = 0; length = 31; bytes = sixty }
+unfolding writeText textOf prefixOf letter names dateOfDay daysTo dayAfter walk firstDay lengthOf monthLength leap isStep
+write-sixty = rw published
+
+pub sixty-back : let w = writes leapSecond F.PrefixedMicros in reads (take (w .length) (w .bytes)) ≡ dated S.Utc (answer (record { day = pos 6209; micro = 86400000000 }))
+sixty-back = read-back leapSecond F.PrefixedMicros publishedDays publishedOffsets publishedLast blank (lit≤ tt) (λ i. write-sixty i .number)
+
+-- under a list that ends on that very day it was read the same, and a list that extends it keeps the answer
+pub read-early : readText sixty publishedDays publishedOffsets (pos 6209) ≡ dated S.Utc (answer (record { day = pos 6209; micro = 86400000000 }))
+unfolding readText isPrefixRight isBody scaleIn bodyIn hasPrefix prefixOf hasMarks stampIn microIn inLimits digitOf twoOf fourOf sixOf monthOf seek isNamed letter names isDate dayOfDate dayAfter firstDay lengthOf monthLength leap isStep
+read-early = rw published-6209
+
+pub sixty-again : reads sixty ≡ readText sixty publishedDays publishedOffsets (pos 6209)
+sixty-again = published-again .read sixty (λ q. let z : _≡_ {A = ℕ} 0 9 = (λ i. sym read-early i .number) ∙ q in omega arith)

@@ -1,0 +1,6 @@
+pub mod Order
+pub mod Fresh
+pub mod Digits
+pub mod Back
+pub mod Computed
+pub mod Wrong

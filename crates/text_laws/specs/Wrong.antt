@@ -1,0 +1,99 @@
+-- Wrong programs that the contracts shut out: for each an input, the right answer and the wrong one, which differ. Assumes nothing.
+use mathlib.Core.Path.{_≡_, refl, sym, ap, _∙_}
+use mathlib.Core.Bool.{cond, _&&_}
+use mathlib.Core.List.{List, [], _∷_}
+use Prim.Native.Nat.{ℕ, _-_}
+use native.Mathlib.Omega.{arith}
+use lib.Dec.{eqb, leb}
+use lib.IntN.{pos, negsuc}
+use Rattle.evidence.specs.ShutOut.{ShutOut}
+use Rattle.scales.specs.Meaning.{codeOf, given, refused, answer, outcome, Slip, dated, Wrote, written, recordOf}
+use Rattle.scales.specs.declared.Scale.the-variants as S
+use Rattle.scales.specs.declared.Handed.{Handed}
+use Rattle.scales.specs.declared.Handed.the-variants as H
+use Rattle.calendar.specs.Meaning.{leap, monthLength, lengthOf, firstDay, isDate, dayAfter, daysTo, walk, dayOfDate, dateOfDay}
+use Rattle.decimal.specs.Meaning.{scaleOf, dayOf, microOf}
+use Rattle.leap.specs.Meaning.{accepted, publishedDays, publishedOffsets, publishedLast}
+use Rattle.leap_laws.proofs.Marked.{published}
+use Rattle.text_read.specs.Meaning.{digitOf, twoOf, fourOf, names, letter, isNamed, seek, monthOf, hasMarks, microIn, stampIn, inLimits, prefixOf, hasPrefix, scaleIn, bodyIn, isPrefixRight, isBody, reading, readText}
+use Rattle.text_write.specs.Meaning.{textOf, hasImage, writing, writeText}
+use Rattle.text_write.specs.declared.Form.{Form}
+use Rattle.text_write.specs.declared.Form.the-variants as F
+use Rattle.text_laws.specs.Computed.{reads, blank, writes}
+
+-- ---- reading
+-- lower-case months accepted: 31-dec-2016 00:00:00
+abbrev pub capitals : List ℕ → List ℕ
+capitals [] = []
+capitals (b ∷ bs) = cond (leb 97 b && leb b 122) (b - 32) b ∷ capitals bs
+
+abbrev pub lower : List ℕ
+lower = 51 ∷ 49 ∷ 45 ∷ 100 ∷ 101 ∷ 99 ∷ 45 ∷ 50 ∷ 48 ∷ 49 ∷ 54 ∷ 32 ∷ 48 ∷ 48 ∷ 58 ∷ 48 ∷ 48 ∷ 58 ∷ 48 ∷ 48 ∷ []
+
+upper : reads (capitals lower) ≡ dated S.Utc (answer (record { day = pos 6209; micro = 0 }))
+unfolding readText isPrefixRight isBody scaleIn bodyIn hasPrefix prefixOf hasMarks stampIn microIn inLimits digitOf twoOf fourOf monthOf seek isNamed letter names isDate dayOfDate dayAfter firstDay lengthOf monthLength leap
+upper = rw published
+
+pub lower-case : ShutOut (reads lower) (dated S.Tai (refused 3)) (reads (capitals lower)) (dated S.Utc (answer (record { day = pos 6209; micro = 0 })))
+unfolding readText isPrefixRight isBody scaleIn bodyIn hasPrefix prefixOf hasMarks stampIn microIn inLimits digitOf twoOf fourOf monthOf seek isNamed letter names isDate dayOfDate dayAfter firstDay lengthOf monthLength leap
+lower-case = (refl, upper, λ q. let z : _≡_ {A = ℕ} 3 0 = (λ i. q i .number) ∙ (λ i. upper i .number) in omega arith)
+
+-- 3 and 7 swapped: 29-FEB-0000 00:00:00
+abbrev pub swapped : Slip → Slip
+swapped r = record { number = cond (eqb (r .number) 3) 7 (cond (eqb (r .number) 7) 3 (r .number)); scale = r .scale; day = r .day; micro = r .micro }
+
+abbrev pub leapDay0000 : List ℕ
+leapDay0000 = 50 ∷ 57 ∷ 45 ∷ 70 ∷ 69 ∷ 66 ∷ 45 ∷ 48 ∷ 48 ∷ 48 ∷ 48 ∷ 32 ∷ 48 ∷ 48 ∷ 58 ∷ 48 ∷ 48 ∷ 58 ∷ 48 ∷ 48 ∷ []
+
+outside : reads leapDay0000 ≡ dated S.Tai (refused 7)
+unfolding readText isPrefixRight isBody scaleIn bodyIn hasPrefix prefixOf hasMarks stampIn microIn inLimits digitOf twoOf fourOf monthOf seek isNamed letter names isDate dayOfDate dayAfter firstDay lengthOf monthLength leap
+outside = rw published
+
+pub three-for-seven : ShutOut (reads leapDay0000) (dated S.Tai (refused 7)) (swapped (reads leapDay0000)) (dated S.Tai (refused 3))
+three-for-seven = (outside, ap swapped outside, λ q. let z : _≡_ {A = ℕ} 7 3 = (λ i. sym outside i .number) ∙ (λ i. q i .number) ∙ (λ i. ap swapped outside i .number) in omega arith)
+
+-- a refused reading in the text's own scale: GPS=01-JAN-1972 00:00:00
+abbrev pub ownScale : List ℕ → Slip
+ownScale s = dated (scaleIn s) (outcome (reading s publishedDays publishedOffsets publishedLast))
+
+abbrev pub beforeGps : List ℕ
+beforeGps =
+    71 ∷ 80 ∷ 83 ∷ 61 ∷ 48 ∷ 49 ∷ 45 ∷ 74 ∷ 65 ∷ 78 ∷ 45 ∷ 49 ∷ 57 ∷ 55 ∷ 50 ∷ 32 ∷ 48 ∷ 48 ∷ 58 ∷ 48 ∷ 48 ∷ 58 ∷ 48 ∷ 48 ∷ []
+
+pub refused-in-gps : ShutOut (reads beforeGps) (dated S.Tai (refused 7)) (ownScale beforeGps) (dated S.Gps (refused 7))
+unfolding readText isPrefixRight isBody scaleIn bodyIn hasPrefix prefixOf hasMarks stampIn microIn inLimits digitOf twoOf fourOf monthOf seek isNamed letter names isDate dayOfDate dayAfter firstDay lengthOf monthLength leap
+refused-in-gps = (refl, refl, λ q. let z : _≡_ {A = ℕ} 0 2 = λ i. codeOf (q i .scale) in omega arith)
+
+-- a list asked for where none is used: TAI=01-JAN-1972 00:00:00 under no list at all
+abbrev pub listFirst : List ℕ → Slip
+listFirst s = dated S.Tai (outcome (given (accepted [] [] (pos 0)) 5 (reading s [] [] (pos 0))))
+
+abbrev pub firstTai : List ℕ
+firstTai =
+    84 ∷ 65 ∷ 73 ∷ 61 ∷ 48 ∷ 49 ∷ 45 ∷ 74 ∷ 65 ∷ 78 ∷ 45 ∷ 49 ∷ 57 ∷ 55 ∷ 50 ∷ 32 ∷ 48 ∷ 48 ∷ 58 ∷ 48 ∷ 48 ∷ 58 ∷ 48 ∷ 48 ∷ []
+
+pub list-for-tai : ShutOut (readText firstTai [] [] (pos 0)) (dated S.Tai (answer (record { day = negsuc 10226; micro = 0 }))) (listFirst firstTai) (dated S.Tai (refused 5))
+unfolding readText isPrefixRight isBody scaleIn bodyIn hasPrefix prefixOf hasMarks stampIn microIn inLimits digitOf twoOf fourOf monthOf seek isNamed letter names isDate dayOfDate dayAfter firstDay lengthOf monthLength leap accepted
+list-for-tai = (refl, refl, λ q. let z : _≡_ {A = ℕ} 0 5 = λ i. q i .number in omega arith)
+
+-- ---- writing
+-- a TAI time handed to an unprefixed form and written as if it were UTC
+abbrev pub asUtc : Handed → Form → Wrote
+asUtc h f = writes (H.Record (recordOf S.Utc (dayOf h) (microOf h))) f
+
+written-utc : asUtc (H.Record (recordOf S.Tai (pos 0) 0)) F.Plain .number ≡ 0
+unfolding writeText textOf letter names dateOfDay daysTo dayAfter walk firstDay lengthOf monthLength leap
+written-utc = rw published
+
+pub tai-as-utc : ShutOut (writes (H.Record (recordOf S.Tai (pos 0) 0)) F.Plain .number) 12 (asUtc (H.Record (recordOf S.Tai (pos 0) 0)) F.Plain .number) 0
+unfolding writeText
+tai-as-utc = (refl, written-utc, λ q. let z : _≡_ {A = ℕ} 12 0 = q ∙ written-utc in omega arith)
+
+-- the form judged before the span
+abbrev pub formFirst : Handed → Form → Wrote
+formFirst h f =
+    written blank (outcome (given (hasImage f (scaleOf h) (microOf h)) 12 (writing h f publishedDays publishedOffsets publishedLast blank)))
+
+pub twelve-before-seven : ShutOut (writes (H.Record (recordOf S.Tai (pos 36525) 0)) F.Plain .number) 7 (formFirst (H.Record (recordOf S.Tai (pos 36525) 0)) F.Plain .number) 12
+unfolding writeText
+twelve-before-seven = (refl, refl, λ q. let z : _≡_ {A = ℕ} 7 12 = q in omega arith)

@@ -1,0 +1,139 @@
+-- `text_read::inner::parse_body` meets its contract: one law for each way out. Assumes nothing.
+use mathlib.Core.List.{List}
+use Rattle.scales.specs.declared.Scale.{Scale}
+use mathlib.Core.Path.{_≡_, sym, ap, ap₂, subst, _∙_}
+use native.Mathlib.Omega.{arith}
+use denote.Ref.{now}
+use mathlib.Core.Bool.{true}
+use borrow.Author.Tests.{not-true, not-false}
+use mir.Facts.{toZ-ofZ}
+use lib.IntN.{ℤ}
+use Prim.Native.Nat.{ℕ}
+use Rattle.scales.specs.Meaning.{recordOf}
+use Rattle.scales.specs.declared.Record.{Record}
+use Rattle.scales.specs.declared.Handed.the-variants as H
+use Rattle.calendar.specs.Meaning.{daySlip, dayOfDate}
+use Rattle.calendar.specs.declared.DayAnswer.{DayAnswer}
+use Rattle.scales.specs.Same.{some}
+use Rattle.decimal.specs.Meaning.{Took}
+use Rattle.text_read.specs.Meaning.{hasMarks, stampIn, inLimits, microOf}
+use Rattle.text_read.specs.Parse.{limited, body-marks, body-limits, body-date, body-outside, body-at}
+use Rattle.text_read.specs.declared.Stamp.{Stamp}
+use borrow.Author.Needs.{needs}
+use Rattle.text_read.proofs.inner.parse_body.Statement.{statement}
+use Rattle.text_read.proofs.inner.parse_body.Tie as tie
+
+-- what is known where the date is asked for its day
+record Known (z : Scale) (s : List ℕ) (t : Stamp) (r : DayAnswer) : Type 0 where
+  stamp : t ≡ stampIn s
+  marks : hasMarks s ≡ true
+  limits : inLimits z (stampIn s) ≡ true
+  day : daySlip r ≡ dayOfDate (stampIn s .date)
+
+known : (c : tie.After-day-of) → let x = c .before .before .before .before .before .before .before .before .args in
+    Known (x .z) (now (x .s)) (c .before .before .before .before .stamp-in .result) (c .day-of .result)
+known c =
+    let e = c .before .before in
+    let l = e .before in
+    let m = l .before in
+    let x = m .before .before .before .before .args in
+    record {
+      stamp = m .stamp-in .ensures;
+      marks = sym (m .before .before .has-marks .ensures) ∙ not-false _ (m .before .if1 .left);
+      limits = ap (inLimits (x .z)) (sym (m .stamp-in .ensures)) ∙ sym (l .in-limits .ensures) ∙ not-false _ (e .if2 .left);
+      day = c .day-of .ensures ∙ ap (λ (t : Stamp). dayOfDate (t .date)) (m .stamp-in .ensures);
+    }
+
+has-marks-requires : tie.Need-has-marks-requires
+has-marks-requires c κs = search needs
+
+returns : tie.Need-returns
+returns c = let x = c .before .before .before .args in body-marks (x .z) (now (x .s)) (sym (c .before .has-marks .ensures) ∙ not-true _ (c .if1 .taken))
+
+stamp-in-requires : tie.Need-stamp-in-requires
+stamp-in-requires c κs = search needs
+
+in-limits-requires : tie.Need-in-limits-requires
+in-limits-requires c κs = search needs
+
+returns-2 : tie.Need-returns-2
+returns-2 c = let l = c .before in let m = l .before in let x = m .before .before .before .before .args in body-limits (x .z) (now (x .s)) (ap (inLimits (x .z)) (sym (m .stamp-in .ensures)) ∙ sym (l .in-limits .ensures) ∙ not-true _ (c .if2 .taken))
+
+day-of-requires : tie.Need-day-of-requires
+day-of-requires c κs = search needs
+
+enum-known-day : tie.Need-enum-known-day
+enum-known-day c = search needs
+
+micro-of-requires : tie.Need-micro-of-requires
+micro-of-requires c κs =
+    let d = c .before .before .before in
+    let k = known d in
+    let x = d .before .before .before .before .before .before .before .before .args in
+    let l = limited (x .z) (stampIn (now (x .s))) (k .limits) in
+    rw (k .stamp) (omega arith, omega arith, omega arith, l .micro)
+
+new-requires : tie.Need-new-requires
+new-requires c κs = search needs
+
+take-requires : tie.Need-take-requires
+take-requires c κs = search needs
+
+enum-known-f : tie.Need-enum-known-f
+enum-known-f c = search needs
+
+number-requires : tie.Need-number-requires
+number-requires c κs = search needs
+
+returns-3 : tie.Need-returns-3
+returns-3 c =
+    let f = c .before .before .before in
+    let d = f .before .before in
+    let k = known d in
+    let x = d .before .before .before .before .before .before .before .before .args in
+    let q = ap daySlip (sym (f .f .given .1)) ∙ k .day in
+    body-date (x .z) (now (x .s)) ((λ i. sym q i .number) ∙ sym (c .before .number .ensures) ∙ c .if3 .taken)
+
+returns-4 : tie.Need-returns-4
+returns-4 c =
+    let d = c .before .before .before .before .before .before in
+    let k = known d in
+    let x = d .before .before .before .before .before .before .before .before .args in
+    let g = c .before .before .before .before .day .given in
+    let q = ap daySlip (sym (g .1)) ∙ k .day in
+    let u = c .before .before .micro-of .ensures ∙ ap microOf (k .stamp) in
+    body-at (x .z) (now (x .s)) (k .marks) (k .limits) (g .0 .0) q _
+    (subst (λ (r : Record). Took (H.Record r) (c .take .result))
+    (c .before .new .ensures ∙ ap₂ (λ (a : ℤ) (n : ℕ). recordOf (x .z) a n) (toZ-ofZ (record { sfits = c .before .before .before .known-told .given .0 .1 })) u)
+    (c .take .ensures))
+
+returns-5 : tie.Need-returns-5
+returns-5 c =
+    let f = c .before .before .before in
+    let d = f .before .before in
+    let k = known d in
+    let x = d .before .before .before .before .before .before .before .before .args in
+    let q = ap daySlip (sym (f .f .given .1)) ∙ k .day in
+    let n = c .before .number .ensures in
+    body-outside (x .z) (now (x .s)) (k .marks) (k .limits)
+    (λ e. c .if3 .left (n ∙ (λ i. q i .number) ∙ e)) (λ e. some (f .f .given .0 .0) ((λ i. q i .number) ∙ e))
+
+pub parse-body-spec : {M : Type 1} → statement M
+parse-body-spec =
+    tie.close
+    (tie.spec
+    has-marks-requires
+    returns
+    stamp-in-requires
+    in-limits-requires
+    returns-2
+    day-of-requires
+    enum-known-day
+    micro-of-requires
+    new-requires
+    take-requires
+    enum-known-f
+    number-requires
+    returns-3
+    returns-4
+    returns-5)

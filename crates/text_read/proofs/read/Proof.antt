@@ -1,0 +1,76 @@
+-- `text_read::read` meets its contract: one law for each way out. Assumes nothing.
+use mathlib.Core.Path.{sym, ap, _∙_}
+use denote.Ref.{now}
+use mathlib.Core.Bool.{not, _&&_}
+use mir.Facts.{toZ-ofZ}
+use lib.IntN.{ℤ}
+use Rattle.leap.specs.Meaning.{accepted}
+use Rattle.scales.specs.Meaning.{outcome}
+use Rattle.text_read.specs.Meaning.{datedIn}
+use Rattle.text_read.specs.Stage.{usesIn, takenScale, taking}
+use Rattle.text_read.specs.Ways.{read-refused, read-parsed, read-lacks, not-lacking}
+use mir.Val.{toZ, ofZ}
+use mir.Syntax.{w64}
+use borrow.Author.Needs.{needs}
+use Rattle.text_read.proofs.read.Statement.{statement}
+use Rattle.text_read.proofs.read.Tie as tie
+
+parse-requires : tie.Need-parse-requires
+parse-requires c κs = search needs
+
+enum-known-f : tie.Need-enum-known-f
+enum-known-f c = search needs
+
+enum-known-t : tie.Need-enum-known-t
+enum-known-t c = search needs
+
+lacks-list-requires : tie.Need-lacks-list-requires
+lacks-list-requires c κs = search needs
+
+returns : tie.Need-returns
+returns c =
+    let l = c .before in
+    let g = l .before .before .t .given in
+    let p = l .before .before .before .before in
+    let s = p .before .before .before in
+    let x = s .args in
+    read-lacks (now (x .text)) (now (x .days)) (now (x .offsets)) (x .last) (p .parse .result) (p .parse .ensures) (g .0 .0) (g .1)
+    (sym (ap (λ (z : ℤ). usesIn (g .0 .0) && not (accepted (now (x .days)) (now (x .offsets)) z)) (toZ-ofZ (s .fits .last))) ∙ sym (l .lacks-list .ensures) ∙ c .if1 .taken)
+
+read-time-requires : tie.Need-read-time-requires
+read-time-requires c κs =
+    let l = c .before in
+    let g = l .before .before .t .given in
+    let x = l .before .before .before .before .before .before .before .args in
+    not-lacking (usesIn (g .0 .0)) (accepted (now (x .days)) (now (x .offsets)) (toZ w64 (ofZ w64 (x .last)))) (sym (l .lacks-list .ensures) ∙ c .if1 .left)
+
+returns-2 : tie.Need-returns-2
+returns-2 c =
+    let g = c .before .f .given in
+    let p = c .before .before .before in
+    let x = p .before .before .before .args in
+    read-refused (now (x .text)) (now (x .days)) (now (x .offsets)) (x .last) (p .parse .result) (p .parse .ensures) (g .0 .0) (g .1)
+
+returns-3 : tie.Need-returns-3
+returns-3 c =
+    let l = c .before .before in
+    let g = l .before .before .t .given in
+    let p = l .before .before .before .before in
+    let s = p .before .before .before in
+    let x = s .args in
+    c .read-time .ensures
+    ∙ ap (λ (z : ℤ). datedIn (takenScale (g .0 .0)) (outcome (taking (g .0 .0) (now (x .days)) (now (x .offsets)) z))) (toZ-ofZ (s .fits .last))
+    ∙ read-parsed (now (x .text)) (now (x .days)) (now (x .offsets)) (x .last) (p .parse .result) (p .parse .ensures) (g .0 .0) (g .1)
+
+pub read-spec : {M : Type 1} → statement M
+read-spec =
+    tie.close
+    (tie.spec
+    parse-requires
+    enum-known-f
+    enum-known-t
+    lacks-list-requires
+    returns
+    read-time-requires
+    returns-2
+    returns-3)

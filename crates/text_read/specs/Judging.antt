@@ -1,0 +1,103 @@
+-- What both ways judge of a time: a law for each way out, and what an answer tells. Assumes nothing.
+use mathlib.Core.Path.{_≡_, refl, sym, ap, ap₂, _∙_}
+use mathlib.Core.Bool.{Bool, true, false, not, _||_, _&&_, false≢true}
+use mathlib.Core.List.{List, [], _∷_}
+use Prim.Native.Nat.{ℕ}
+use native.Mathlib.Omega.{arith}
+use lib.Dec.{eqb}
+use lib.IntN.{ℤ}
+use borrow.Author.Tests.{eq-eqb}
+use Rattle.scales.specs.Meaning.{inSpan, Judged, given, gives, Outcome, refused, answer, outcome, numbers, Moment, dated, numberOf, slip, momentAt, timeScale, timeCount}
+use Rattle.scales.specs.Same.{some}
+use Rattle.scales.specs.Place.{and-both}
+use Rattle.scales.specs.declared.Scale.{Scale}
+use Rattle.scales.specs.declared.Scale.the-variants as S
+use Rattle.scales.specs.declared.Time.{Time}
+use Rattle.scales.specs.declared.Record.{Record}
+use Rattle.scales.specs.declared.Refusal.{Refusal}
+use Rattle.scales.specs.declared.Dated.the-variants as D
+use Rattle.scales.specs.declared.Handed.{Handed}
+use Rattle.decimal.specs.Meaning.{scaleOf, isFinite, isInSpan, Took}
+use Rattle.decimal.specs.Told.{told-nothing, told-outside, told-at, told-scale, told-moment}
+use Rattle.decimal.specs.declared.Taken.{Taken}
+use Rattle.decimal.specs.declared.Taken.the-variants as K
+use Rattle.leap.specs.Meaning.{accepted}
+use Rattle.changes.specs.Meaning.{isUtc, momentIn, ofCount, moving}
+use Rattle.text_read.specs.Meaning.{listed}
+use Rattle.text_read.specs.Stage.{takenScale, usesIn, counting, taking, recordMoment}
+
+module _ (ds : List ℤ) (os : List ℕ) (e : ℤ) where
+  -- ---- the list is judged before
+  pub list-passes : (z : Scale) → (isUtc z ≡ true → accepted ds os e ≡ true) → (not (isUtc z) || accepted ds os e) ≡ true
+  list-passes S.Tai w = refl
+  list-passes S.Utc w = w refl
+  list-passes S.Gps w = refl
+
+  -- a list that is used and not accepted is refused first of all that a time brings
+  pub list-lacks : (t : Taken) → usesIn t ≡ true → accepted ds os e ≡ false → outcome (taking t ds os e) ≡ refused 5
+  list-lacks (K.NotFinite z) u w = absurd (let k : _≡_ {A = ℕ} 0 1 = cc in omega arith)
+  list-lacks (K.Outside z) u w = rw (u, w)
+  list-lacks (K.At t) u w = rw (u, w)
+
+  pub outside-is : (z : Scale) → (isUtc z ≡ true → accepted ds os e ≡ true) → dated z (refused 7) ≡ dated z (outcome (taking (K.Outside z) ds os e))
+  outside-is z w = sym (rw (list-passes z w))
+
+  -- a change to the same scale brings what the scale brings
+  same-moving : (z : Scale) (inside : Bool) (m : Moment) → (isUtc z ≡ true → accepted ds os e ≡ true)
+      → outcome (moving z z ds os e inside m) ≡ outcome (listed z ds os e inside m (gives m))
+  same-moving S.Tai inside m w = refl
+  same-moving S.Utc inside m w = sym (rw (w refl))
+  same-moving S.Gps inside m w = refl
+
+  pub at-is : (t : Time) → (isUtc (timeScale t) ≡ true → accepted ds os e ≡ true)
+      → dated (timeScale t) (outcome (ofCount (timeScale t) (timeCount t) (moving (timeScale t) (timeScale t) ds os e)))
+      ≡ dated (timeScale t) (outcome (taking (K.At t) ds os e))
+  at-is t w =
+      let m = momentAt (timeScale t) (timeCount t) in
+      ap (dated (timeScale t)) (same-moving (timeScale t) (inSpan (timeScale t) (m .day) (m .micro)) m w)
+
+  -- ---- a handed time that was taken apart
+  abbrev pub judging : Handed → Judged Moment
+  judging h = given (isFinite h) 4 (listed (scaleOf h) ds os e (isInSpan h) (momentIn h) (gives (momentIn h)))
+
+  counting-is : (z y : Scale) (m n : Moment) → z ≡ y → m ≡ n → outcome (counting z ds os e m) ≡ outcome (counting y ds os e n)
+  counting-is z y m n p q = ap₂ (λ (x : Scale) (k : Moment). outcome (counting x ds os e k)) p q
+
+  pub took-is : (h : Handed) (t : Taken) → Took h t → outcome (taking t ds os e) ≡ outcome (judging h)
+  took-is h (K.NotFinite z) w = sym (rw (told-nothing h (K.NotFinite z) w z refl .0))
+  took-is h (K.Outside z) w = let x = told-outside h (K.Outside z) w z refl in sym (rw (x .0, x .1, x .2))
+  took-is h (K.At t) w =
+      let x = told-at h (K.At t) w t refl in
+      counting-is (timeScale t) (scaleOf h) (momentAt (timeScale t) (timeCount t)) (momentIn h) (told-scale h t x) (told-moment h t x)
+      ∙ sym (rw (x .finite, x .inside, x .kept))
+
+pub took-scale : (h : Handed) (t : Taken) → Took h t → takenScale t ≡ scaleOf h
+took-scale h (K.NotFinite z) w = told-nothing h (K.NotFinite z) w z refl .1
+took-scale h (K.Outside z) w = told-outside h (K.Outside z) w z refl .2
+took-scale h (K.At t) w = told-scale h t (told-at h (K.At t) w t refl)
+
+-- ---- what an answer tells: none of a chain's numbers is 0
+abbrev pub noZero : List ℕ → Bool
+noZero [] = true
+noZero (n ∷ ns) = not (eqb n 0) && noZero ns
+
+pub sound : {A : Type 0} (j : Judged A) → noZero (numbers j) ≡ true → outcome j ≡ refused 0 → ⊥
+sound (given true n rest) w q = sound rest (and-both (not (eqb n 0)) (noZero (numbers rest)) w .1) q
+sound (given false n rest) w q =
+    let z : n ≡ 0 = cc in
+    false≢true (sym (ap not (eq-eqb n 0 z)) ∙ and-both (not (eqb n 0)) (noZero (numbers rest)) w .0)
+sound (gives a) w q = let z : _≡_ {A = ℕ} 0 1 = cc in omega arith
+
+pub taking-sound : (t : Taken) (ds : List ℤ) (os : List ℕ) (e : ℤ) → outcome (taking t ds os e) ≡ refused 0 → ⊥
+taking-sound (K.NotFinite z) ds os e = sound (taking (K.NotFinite z) ds os e) refl
+taking-sound (K.Outside z) ds os e = sound (taking (K.Outside z) ds os e) refl
+taking-sound (K.At t) ds os e = sound (taking (K.At t) ds os e) refl
+
+-- an answer: its moment, and its scale
+pub slip-answer : (s : Scale) (o : Outcome Moment) → (o ≡ refused 0 → ⊥) → (r : Record) → slip (D.At r) ≡ dated s o → (r .scale ≡ s) × (o ≡ answer (recordMoment r))
+slip-answer s (refused n) w r q = absurd (w (ap refused (λ i. sym q i .number)))
+slip-answer s (answer m) w r q = (λ i. q i .scale, λ i. answer (record { day = sym q i .day; micro = sym q i .micro }))
+
+pub slip-refused : (s : Scale) (o : Outcome Moment) (f : Refusal) (z : Scale) → slip (D.Refused f z) ≡ dated s o → o ≡ refused (numberOf f)
+slip-refused s (refused n) f z q = ap refused (λ i. sym q i .number)
+slip-refused s (answer m) f z q = absurd (some f (λ i. q i .number))

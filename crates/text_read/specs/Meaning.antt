@@ -1,0 +1,155 @@
+-- What an Envisat text stands for, as the paper states it. A text is the list of its bytes; a leap list is its steps' days ds, its
+-- offsets os and its last day e. Assumes nothing.
+use mathlib.Core.Bool.{Bool, cond, not, _&&_, _||_}
+use mathlib.Core.List.{List, [], _∷_}
+use Prim.Native.Nat.{ℕ, zero, suc, _+_, _-_, _*_}
+use lib.Dec.{eqb, leb, ltb}
+use lib.IntN.{ℤ}
+use lib.ListN.{length, getD, drop}
+use Rattle.scales.specs.Meaning.{inSpan, Judged, given, gives, Outcome, refused, answer, outcome, Slip, Moment, dated}
+use Rattle.scales.specs.declared.Scale.{Scale}
+use Rattle.scales.specs.declared.Scale.the-variants as S
+use Rattle.calendar.specs.Meaning.{isDate, dayOfDate}
+use Rattle.leap.specs.Meaning.{accepted, hasMicro, isExpiredDay}
+use Rattle.changes.specs.Meaning.{isUtc}
+use Rattle.text_read.specs.declared.Stamp.{Stamp}
+
+-- ---- the numbers that digits write; a byte that is no digit leads over every limit
+unfoldable pub digitOf : ℕ → ℕ
+digitOf b = cond (leb 48 b && leb b 57) (b - 48) 10
+
+unfoldable pub twoOf : ℕ → ℕ → ℕ
+twoOf a b = cond (ltb (digitOf a) 10 && ltb (digitOf b) 10) (digitOf a * 10 + digitOf b) 100
+
+unfoldable pub fourOf : ℕ → ℕ → ℕ → ℕ → ℕ
+fourOf a b c d = cond (ltb (twoOf a b) 100 && ltb (twoOf c d) 100) (twoOf a b * 100 + twoOf c d) 10000
+
+unfoldable pub sixOf : ℕ → ℕ → ℕ → ℕ → ℕ → ℕ → ℕ
+sixOf a b c d e f = cond (ltb (fourOf a b c d) 10000 && ltb (twoOf e f) 100) (fourOf a b c d * 100 + twoOf e f) 1000000
+
+-- ---- "months are English, three capitals": JANFEBMARAPRMAYJUNJULAUGSEPOCTNOVDEC
+unfoldable pub names : List ℕ
+names =
+    74 ∷ 65 ∷ 78 ∷ 70 ∷ 69 ∷ 66 ∷ 77 ∷ 65 ∷ 82 ∷ 65 ∷ 80 ∷ 82 ∷ 77 ∷ 65 ∷ 89 ∷ 74 ∷ 85 ∷ 78 ∷ 74 ∷ 85 ∷ 76 ∷ 65 ∷ 85 ∷ 71 ∷ 83 ∷ 69 ∷ 80
+    ∷ 79 ∷ 67 ∷ 84 ∷ 78 ∷ 79 ∷ 86 ∷ 68 ∷ 69 ∷ 67 ∷ []
+
+-- letter j (0 to 2) of the name of month m (1 to 12)
+unfoldable pub letter : ℕ → ℕ → ℕ
+letter m j = getD names ((m - 1) * 3 + j) 0
+
+unfoldable pub isNamed : ℕ → ℕ → ℕ → ℕ → Bool
+isNamed m a b c = eqb a (letter m 0) && (eqb b (letter m 1) && eqb c (letter m 2))
+
+-- the first of the n months from m on that three letters name, and 0 where they name none
+unfoldable pub seek : ℕ → ℕ → ℕ → ℕ → ℕ → ℕ
+seek zero m a b c = 0
+seek (suc n) m a b c = cond (isNamed m a b c) m (seek n (suc m) a b c)
+
+unfoldable pub monthOf : ℕ → ℕ → ℕ → ℕ
+monthOf a b c = seek 12 1 a b c
+
+-- ---- "dd-mmm-yyyy hh:mm:ss (20 characters), with .uuuuuu (27)": the fields of a text by their places
+unfoldable pub hasMarks : List ℕ → Bool
+hasMarks s = eqb (getD s 2 0) 45 && (eqb (getD s 6 0) 45 && (eqb (getD s 11 0) 32 && (eqb (getD s 14 0) 58 && eqb (getD s 17 0) 58)))
+
+-- a text without .uuuuuu is in its second's first microsecond
+unfoldable pub microIn : List ℕ → ℕ
+microIn s =
+    cond (ltb (length s) 27) 0
+    (cond (eqb (getD s 20 0) 46) (sixOf (getD s 21 0) (getD s 22 0) (getD s 23 0) (getD s 24 0) (getD s 25 0) (getD s 26 0)) 1000000)
+
+unfoldable pub stampIn : List ℕ → Stamp
+stampIn s =
+    record {
+      date =
+          record {
+            year = fourOf (getD s 7 0) (getD s 8 0) (getD s 9 0) (getD s 10 0);
+            month = monthOf (getD s 3 0) (getD s 4 0) (getD s 5 0);
+            day = twoOf (getD s 0 0) (getD s 1 0);
+          };
+      hour = twoOf (getD s 12 0) (getD s 13 0);
+      minute = twoOf (getD s 15 0) (getD s 16 0);
+      second = twoOf (getD s 18 0) (getD s 19 0);
+      micro = microIn s;
+    }
+
+-- "Second 60 only in UTC and only after 23:59"
+unfoldable pub inLimits : Scale → Stamp → Bool
+inLimits z t =
+    leb (t .hour) 23
+    && (leb (t .minute) 59
+    && (ltb (t .micro) 1000000
+    && (leb (t .second) 59 || (eqb (t .second) 60 && (eqb (t .hour) 23 && (eqb (t .minute) 59 && isUtc z))))))
+
+-- ---- "with RRR= before either (24, 31). RRR is UTC, TAI or GPS"
+unfoldable pub prefixOf : Scale → List ℕ
+prefixOf S.Tai = 84 ∷ 65 ∷ 73 ∷ 61 ∷ []
+prefixOf S.Utc = 85 ∷ 84 ∷ 67 ∷ 61 ∷ []
+prefixOf S.Gps = 71 ∷ 80 ∷ 83 ∷ 61 ∷ []
+
+unfoldable pub hasPrefix : Scale → List ℕ → Bool
+hasPrefix z s =
+    eqb (getD s 0 0) (getD (prefixOf z) 0 0)
+    && (eqb (getD s 1 0) (getD (prefixOf z) 1 0) && (eqb (getD s 2 0) (getD (prefixOf z) 2 0) && eqb (getD s 3 0) (getD (prefixOf z) 3 0)))
+
+abbrev pub isPlain : List ℕ → Bool
+isPlain s = eqb (length s) 20 || eqb (length s) 27
+
+abbrev pub isPrefixed : List ℕ → Bool
+isPrefixed s = eqb (length s) 24 || eqb (length s) 31
+
+abbrev pub prefixScale : List ℕ → Scale
+prefixScale s = cond (hasPrefix S.Tai s) S.Tai (cond (hasPrefix S.Gps s) S.Gps S.Utc)
+
+-- "Without a prefix it is UTC."
+unfoldable pub scaleIn : List ℕ → Scale
+scaleIn s = cond (isPrefixed s) (prefixScale s) S.Utc
+
+unfoldable pub bodyIn : List ℕ → List ℕ
+bodyIn s = cond (isPrefixed s) (drop 4 s) s
+
+-- "Any other prefix is a bad character."
+unfoldable pub isPrefixRight : List ℕ → Bool
+isPrefixRight s = not (isPrefixed s) || hasPrefix (scaleIn s) s
+
+-- "A date that the Gregorian rule lacks gets 3": the characters, the fields' limits and the date
+unfoldable pub isBody : Scale → List ℕ → Bool
+isBody z s = hasMarks s && (inLimits z (stampIn s) && isDate (stampIn s .date))
+
+-- ---- the day and the microsecond of day that the fields stand for
+abbrev pub microOf : Stamp → ℕ
+microOf t = ((t .hour * 60 + t .minute) * 60 + t .second) * 1000000 + t .micro
+
+abbrev pub momentOf : Stamp → Moment
+momentOf t = record { day = dayOfDate (t .date) .day; micro = microOf t }
+
+-- "a real date outside the span gets 7": one outside the calendar's has no day
+abbrev pub spans : Scale → Stamp → Bool
+spans z t = eqb (dayOfDate (t .date) .number) 0 && inSpan z (momentOf t .day) (momentOf t .micro)
+
+-- ---- "Reading and writing UTC text both apply the leap list": what is judged of a time of scale z; `inside` says whether it lies in its span
+abbrev pub listed : {A : Type 0} → Scale → List ℤ → List ℕ → ℤ → Bool → Moment → Judged A → Judged A
+listed z ds os e inside m rest =
+    given (not (isUtc z) || accepted ds os e) 5
+    (given inside 7
+    (given (not (isUtc z) || not (isExpiredDay e (m .day))) 9
+    (given (not (isUtc z) || hasMicro ds (m .day) (m .micro)) 10
+    rest)))
+
+-- ---- reading
+abbrev pub readingBody : Scale → List ℕ → List ℤ → List ℕ → ℤ → Judged Moment
+readingBody z s ds os e = listed z ds os e (spans z (stampIn s)) (momentOf (stampIn s)) (gives (momentOf (stampIn s)))
+
+abbrev pub reading : List ℕ → List ℤ → List ℕ → ℤ → Judged Moment
+reading s ds os e =
+    given (isPrefixed s || isPlain s) 1
+    (given (isPrefixRight s && isBody (scaleIn s) (bodyIn s)) 3
+    (readingBody (scaleIn s) (bodyIn s) ds os e))
+
+-- "(TAI for every refused text reading)"
+abbrev pub datedIn : Scale → Outcome Moment → Slip
+datedIn z (refused n) = dated S.Tai (refused n)
+datedIn z (answer m) = dated z (answer m)
+
+unfoldable pub readText : List ℕ → List ℤ → List ℕ → ℤ → Slip
+readText s ds os e = datedIn (scaleIn s) (outcome (reading s ds os e))

@@ -1,0 +1,67 @@
+-- The ways out of reading and of writing: a law for each. Assumes nothing.
+use mathlib.Core.Path.{_≡_, refl, sym, ap, ap₂, subst, _∙_}
+use mathlib.Core.Bool.{Bool, true, false, not, _||_, _&&_}
+use mathlib.Core.List.{List}
+use Prim.Native.Nat.{ℕ}
+use native.Mathlib.Omega.{arith}
+use lib.IntN.{ℤ}
+use Rattle.scales.specs.Meaning.{Outcome, refused, answer, outcome, Moment, dated, numberOf, slip}
+use Rattle.scales.specs.declared.Scale.{Scale}
+use Rattle.scales.specs.declared.Scale.the-variants as S
+use Rattle.scales.specs.declared.Time.{Time}
+use Rattle.scales.specs.declared.Record.{Record}
+use Rattle.scales.specs.declared.Refusal.{Refusal}
+use Rattle.scales.specs.declared.Dated.the-variants as D
+use Rattle.decimal.specs.declared.Taken.{Taken}
+use Rattle.leap.specs.Meaning.{accepted}
+use Rattle.changes.specs.Meaning.{isUtc, usesList}
+use Rattle.text_read.specs.Meaning.{datedIn, scaleIn, readText}
+use Rattle.text_read.specs.Stage.{takenScale, usesIn, taking, ParsesText}
+use Rattle.text_read.specs.Judging.{list-lacks, slip-refused}
+use Rattle.text_read.specs.declared.Parsed.{Parsed}
+use Rattle.text_read.specs.declared.Parsed.the-variants as P
+
+-- a change to the same scale uses a list where the scale does
+pub uses-same : (z y : Scale) → y ≡ z → usesList z y ≡ true → isUtc z ≡ true
+uses-same z y p q = go (isUtc z) (ap (λ (x : Scale). isUtc z || isUtc x) (sym p) ∙ q)
+  where
+    go : (b : Bool) → (b || b) ≡ true → b ≡ true
+    go true e = refl
+    go false e = e
+
+-- a list that is used and not lacking is accepted
+pub not-lacking : (u a : Bool) → (u && not a) ≡ false → u ≡ true → a ≡ true
+not-lacking true true e h = refl
+not-lacking true false e h = sym e
+not-lacking false a e h = absurd (let z : _≡_ {A = ℕ} 0 1 = cc in omega arith)
+
+pub lacking : (u a : Bool) → (u && not a) ≡ true → (u ≡ true) × (a ≡ false)
+lacking true true e = absurd (let z : _≡_ {A = ℕ} 0 1 = cc in omega arith)
+lacking true false e = (refl, refl)
+lacking false a e = absurd (let z : _≡_ {A = ℕ} 0 1 = cc in omega arith)
+
+-- ---- reading: an answer keeps its scale, a refusal gives TAI's empty record
+module _ (z : Scale) (o : Outcome Moment) where
+  pub in-answer : (o ≡ refused 0 → ⊥) → (r : Record) → slip (D.At r) ≡ dated z o → slip (D.At r) ≡ datedIn z o
+  in-answer w r q = go o w q
+    where
+      go : (o : Outcome Moment) → (o ≡ refused 0 → ⊥) → slip (D.At r) ≡ dated z o → slip (D.At r) ≡ datedIn z o
+      go (refused n) w q = absurd (w (ap refused (λ i. sym q i .number)))
+      go (answer m) w q = q
+
+  pub in-refused : (f : Refusal) (y : Scale) → slip (D.Refused f y) ≡ dated z o → dated S.Tai (refused (numberOf f)) ≡ datedIn z o
+  in-refused f y q = ap (datedIn z) (sym (slip-refused z o f y q))
+
+module _ (s : List ℕ) (ds : List ℤ) (os : List ℕ) (e : ℤ) (r : Parsed) (w : ParsesText s r) where
+  pub read-refused : (f : Refusal) → r ≡ P.Refused f → dated S.Tai (refused (numberOf f)) ≡ readText s ds os e
+  unfolding readText
+  read-refused f q = ap (datedIn (scaleIn s)) (subst (ParsesText s) q w .is ds os e)
+
+  pub read-parsed : (t : Taken) → r ≡ P.Time t → datedIn (takenScale t) (outcome (taking t ds os e)) ≡ readText s ds os e
+  unfolding readText
+  read-parsed t q = let x = subst (ParsesText s) q w in ap₂ datedIn (x .is .0) (x .is .1 ds os e)
+
+  pub read-lacks : (t : Taken) → r ≡ P.Time t → (usesIn t && not (accepted ds os e)) ≡ true → dated S.Tai (refused 5) ≡ readText s ds os e
+  read-lacks t q l =
+      let x = lacking (usesIn t) (accepted ds os e) l in
+      ap (datedIn (takenScale t)) (sym (list-lacks ds os e t (x .0) (x .1))) ∙ read-parsed t q

@@ -1,0 +1,188 @@
+// The cores: a list that is used was accepted before, and is not tested here.
+ghost use mathlib.Core.Path.{_≡_};
+ghost use mathlib.Core.Bool.{true};
+ghost use Prim.Native.Nat.{_≤_};
+ghost use lib.ListN.{length};
+ghost use Rattle.scales.specs.Meaning.{slip, outcome, dated};
+ghost use Rattle.leap.specs.Meaning.{accepted};
+ghost use Rattle.changes.specs.Meaning.{isUtc};
+ghost use Rattle.text_read.specs.Meaning.{names, prefixOf, readText, datedIn};
+ghost use Rattle.text_read.specs.Stage.{usesIn, lacksList, takenScale, taking, ParsesBody, ParsesText};
+use super::Parsed;
+use super::fields;
+use calendar::DayAnswer;
+use decimal::Taken;
+use scales::Dated;
+use scales::Handed;
+use scales::Record;
+use scales::Refusal;
+use scales::Scale;
+
+// ---- the names, as both ways spell them
+
+const NAMES: [u8; 36] = [
+    b'J',
+    b'A',
+    b'N',
+    b'F',
+    b'E',
+    b'B',
+    b'M',
+    b'A',
+    b'R',
+    b'A',
+    b'P',
+    b'R',
+    b'M',
+    b'A',
+    b'Y',
+    b'J',
+    b'U',
+    b'N',
+    b'J',
+    b'U',
+    b'L',
+    b'A',
+    b'U',
+    b'G',
+    b'S',
+    b'E',
+    b'P',
+    b'O',
+    b'C',
+    b'T',
+    b'N',
+    b'O',
+    b'V',
+    b'D',
+    b'E',
+    b'C',
+];
+
+// Taken once in a call and lent: a constant array is made anew at each use.
+pub fn month_names() -> [u8; 36]
+    ensures { λ r. ⌜ r ≡ names ⌝ }
+{
+    NAMES
+}
+
+pub fn prefix(z: Scale) -> [u8; 4]
+    ensures { λ r. ⌜ r ≡ prefixOf z ⌝ }
+{
+    match z {
+        Scale::Tai => [b'T', b'A', b'I', b'='],
+        Scale::Utc => [b'U', b'T', b'C', b'='],
+        Scale::Gps => [b'G', b'P', b'S', b'='],
+    }
+}
+
+pub fn is_utc(z: Scale) -> bool
+    ensures { λ r. ⌜ r ≡ isUtc z ⌝ }
+{
+    let utc = Scale::Utc.code();
+    z.code() == utc
+}
+
+// ---- what a text stands for
+
+// The text without its prefix, in a scale.
+fn parse_body(z: Scale, s: &[u8]) -> Parsed
+    requires { ⌜ 20 ≤ length (now s) ⌝ }
+    ensures { λ r. ⌜ ParsesBody z (now (s .entry)) r ⌝ }
+{
+    if !fields::has_marks(s) {
+        return Parsed::Refused(Refusal::Field);
+    }
+    let t = fields::stamp_in(s);
+    if !fields::in_limits(z, t) {
+        return Parsed::Refused(Refusal::Field);
+    }
+    let date = t.date;
+    match calendar::day_of(date) {
+        DayAnswer::Day(day) => {
+            let r = Record::new(z, day, fields::micro_of(t));
+            Parsed::Time(decimal::take(Handed::Record(r)))
+        }
+        DayAnswer::Refused(f) => {
+            if f.number() == 3 {
+                return Parsed::Refused(Refusal::Field);
+            }
+            Parsed::Time(Taken::Outside(z))
+        }
+    }
+}
+
+pub(crate) fn parse(text: &[u8]) -> Parsed
+    ensures { λ r. ⌜ ParsesText (now (text .entry)) r ⌝ }
+{
+    let n = text.len();
+    if fields::is_either(n, 24, 31) {
+        let z = fields::prefix_scale(text);
+        if !fields::has_prefix(z, text) {
+            return Parsed::Refused(Refusal::Field);
+        }
+        return parse_body(z, &text[4..]);
+    }
+    if fields::is_either(n, 20, 27) {
+        return parse_body(Scale::Utc, text);
+    }
+    Parsed::Refused(Refusal::Length)
+}
+
+// ---- what both ways judge of a time
+
+// Is a leap list used for this time?
+pub fn uses_list(t: Taken) -> bool
+    ensures { λ r. ⌜ r ≡ usesIn t ⌝ }
+{
+    match t {
+        Taken::NotFinite(_) => false,
+        Taken::Outside(z) => is_utc(z),
+        Taken::At(n) => is_utc(n.scale()),
+    }
+}
+
+// The time itself, after the refusals that its scale brings.
+pub fn judge(t: Taken, days: &[i64], offsets: &[u64], last: i64) -> Dated
+    requires { ⌜ (usesIn t ≡ true → accepted (now days) (now offsets) last ≡ true) ⌝ }
+    ensures { λ r. ⌜ slip r ≡ dated (takenScale t) (outcome (taking t (now (days .entry)) (now (offsets .entry)) last)) ⌝ }
+{
+    match t {
+        Taken::NotFinite(z) => Dated::Refused(Refusal::NotFinite, z),
+        Taken::Outside(z) => Dated::Refused(Refusal::Span, z),
+        Taken::At(n) => changes::inner::change(n, n.scale(), days, offsets, last),
+    }
+}
+
+// Is a list used that is not accepted?
+pub fn lacks_list(t: Taken, days: &[i64], offsets: &[u64], last: i64) -> bool
+    ensures { λ r. ⌜ r ≡ lacksList t (now (days .entry)) (now (offsets .entry)) last ⌝ }
+{
+    if !uses_list(t) {
+        return false;
+    }
+    !leap::is_accepted(days, offsets, last)
+}
+
+// ---- reading
+
+// A refused reading gives the empty TAI record.
+pub fn read_time(t: Taken, days: &[i64], offsets: &[u64], last: i64) -> Dated
+    requires { ⌜ (usesIn t ≡ true → accepted (now days) (now offsets) last ≡ true) ⌝ }
+    ensures { λ r. ⌜ slip r ≡ datedIn (takenScale t) (outcome (taking t (now (days .entry)) (now (offsets .entry)) last)) ⌝ }
+{
+    match judge(t, days, offsets, last) {
+        Dated::At(r) => Dated::At(r),
+        Dated::Refused(f, _) => Dated::Refused(f, Scale::Tai),
+    }
+}
+
+pub fn read(text: &[u8], days: &[i64], offsets: &[u64], last: i64) -> Dated
+    requires { ⌜ accepted (now days) (now offsets) last ≡ true ⌝ }
+    ensures { λ r. ⌜ slip r ≡ readText (now (text .entry)) (now (days .entry)) (now (offsets .entry)) last ⌝ }
+{
+    match parse(text) {
+        Parsed::Refused(f) => Dated::Refused(f, Scale::Tai),
+        Parsed::Time(t) => read_time(t, days, offsets, last),
+    }
+}

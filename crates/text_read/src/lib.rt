@@ -1,0 +1,42 @@
+// Reading an Envisat text, dd-mmm-yyyy hh:mm:ss, with .uuuuuu, and with RRR= before either, from any slice.
+ghost use mathlib.Core.Path.{_≡_};
+ghost use Rattle.scales.specs.Meaning.{slip};
+ghost use Rattle.text_read.specs.Meaning.{readText};
+use calendar::Date;
+use decimal::Taken;
+use scales::Dated;
+use scales::Refusal;
+use scales::Scale;
+
+mod fields;
+pub mod inner;
+
+// The fields of a text; its microsecond is that of the second.
+pub struct Stamp {
+    pub date: Date,
+    pub hour: u64,
+    pub minute: u64,
+    pub second: u64,
+    pub micro: u64,
+}
+
+// A text that is refused for what stands in it alone, or the time that it stands for.
+pub enum Parsed {
+    Refused(Refusal),
+    Time(Taken),
+}
+
+// The time that a text stands for, in the text's scale.
+pub fn read(text: &[u8], days: &[i64], offsets: &[u64], last: i64) -> Dated
+    ensures { λ r. ⌜ slip r ≡ readText (now (text .entry)) (now (days .entry)) (now (offsets .entry)) last ⌝ }
+{
+    match inner::parse(text) {
+        Parsed::Refused(f) => Dated::Refused(f, Scale::Tai),
+        Parsed::Time(t) => {
+            if inner::lacks_list(t, days, offsets, last) {
+                return Dated::Refused(Refusal::List, Scale::Tai);
+            }
+            inner::read_time(t, days, offsets, last)
+        }
+    }
+}

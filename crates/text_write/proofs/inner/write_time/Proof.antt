@@ -1,0 +1,66 @@
+-- `text_write::inner::write_time` meets its contract: one law for each way out. Assumes nothing.
+use mathlib.Core.Path.{_≡_, sym, ap, subst, _∙_}
+use denote.Ref.{now}
+use mathlib.Core.Bool.{true}
+use mir.Facts.{toZ-ofZ}
+use lib.IntN.{ℤ}
+use Rattle.leap.specs.Meaning.{accepted}
+use Rattle.scales.specs.Meaning.{outcome, slip, dated}
+use Rattle.text_read.specs.Stage.{takenScale, taking}
+use Rattle.text_write.specs.Writes.{write-refused, write-answer, write-inside}
+use borrow.Author.Needs.{needs}
+use Rattle.text_write.proofs.inner.write_time.Statement.{statement}
+use Rattle.text_write.proofs.inner.write_time.Tie as tie
+
+-- what the callee said, of the last day itself
+said : (c : tie.After-judge) → let x = c .before .before .before .args in
+    slip (c .judge .result) ≡ dated (takenScale (x .t)) (outcome (taking (x .t) (now (x .days)) (now (x .offsets)) (x .last)))
+said c =
+    let s = c .before .before .before in
+    let x = s .args in
+    c .judge .ensures ∙ ap (λ (z : ℤ). dated (takenScale (x .t)) (outcome (taking (x .t) (now (x .days)) (now (x .offsets)) z))) (toZ-ofZ (s .fits .last))
+
+judge-requires : tie.Need-judge-requires
+judge-requires c κs = let s = c .before .before in let x = s .args in λ h. subst (λ (z : ℤ). accepted (now (x .days)) (now (x .offsets)) z ≡ true) (sym (toZ-ofZ (s .fits .last))) (s .pre h)
+
+enum-known-r : tie.Need-enum-known-r
+enum-known-r c = search needs
+
+write-record-requires : tie.Need-write-record-requires
+write-record-requires c κs =
+    let g = c .before .before .r .given in
+    let j = c .before .before .before .before in
+    let x = j .before .before .before .args in
+    write-inside (x .t) (x .form) (now (x .days)) (now (x .offsets)) (x .last) (now (x .out)) (j .judge .result) (said j) (g .0 .0) (g .1)
+
+enum-known-f : tie.Need-enum-known-f
+enum-known-f c = search needs
+
+same-length : tie.Need-same-length
+same-length c = search needs
+
+returns : tie.Need-returns
+returns c =
+    let g = c .before .before .before .before .before .r .given in
+    let j = c .before .before .before .before .before .before .before in
+    let x = j .before .before .before .args in
+    c .before .before .write-record .ensures ∙ write-answer (x .t) (x .form) (now (x .days)) (now (x .offsets)) (x .last) (now (x .out)) (j .judge .result) (said j) (g .0 .0) (g .1)
+
+returns-2 : tie.Need-returns-2
+returns-2 c =
+    let g = c .before .f .given in
+    let j = c .before .before .before in
+    let x = j .before .before .before .args in
+    write-refused (x .t) (x .form) (now (x .days)) (now (x .offsets)) (x .last) (now (x .out)) (j .judge .result) (said j) (g .0 .0) (g .0 .1 .0) (g .1)
+
+pub write-time-spec : {M : Type 1} → statement M
+write-time-spec =
+    tie.close
+    (tie.spec
+    judge-requires
+    enum-known-r
+    write-record-requires
+    enum-known-f
+    same-length
+    returns
+    returns-2)

@@ -1,0 +1,4 @@
+pub mod Meaning
+pub mod Stage
+pub mod Image
+pub mod Writes

@@ -1,0 +1,142 @@
+-- The ways out of writing a time that was taken: a law for each. Assumes nothing.
+use mathlib.Core.Path.{_≡_, refl, sym, ap, ap₂, _∙_}
+use mathlib.Core.Bool.{Bool, true, false, not, _&&_, _||_}
+use mathlib.Core.List.{List}
+use Prim.Native.Nat.{ℕ, _≤_}
+use native.Mathlib.Omega.{arith}
+use lib.Dec.{lit≤}
+use lib.IntN.{ℤ}
+use Rattle.axis.specs.Meaning.{placeOfDay}
+use Rattle.scales.specs.Meaning.{andThen, inSpan, Judged, given, gives, Outcome, refused, answer, outcome, Moment, wrote, written, slip, dated, momentAt, timeScale, timeCount}
+use Rattle.scales.specs.Place.{firstAt, apart, placed}
+use Rattle.scales.specs.Same.{some}
+use Rattle.scales.specs.declared.Scale.{Scale}
+use Rattle.scales.specs.declared.Scale.the-variants as S
+use Rattle.scales.specs.declared.Record.{Record}
+use Rattle.scales.specs.declared.Refusal.{Refusal}
+use Rattle.scales.specs.declared.Refusal.the-variants as R
+use Rattle.scales.specs.declared.Dated.{Dated}
+use Rattle.scales.specs.declared.Dated.the-variants as D
+use Rattle.scales.specs.declared.Written.the-variants as W
+use Rattle.scales.specs.declared.Handed.{Handed}
+use Rattle.calendar.specs.Meaning.{dateSlip, dateOfDay}
+use Rattle.calendar.specs.Days.{date-within}
+use Rattle.calendar.specs.Told as C
+use Rattle.calendar.specs.declared.Date.{Date}
+use Rattle.calendar.specs.declared.DateAnswer.the-variants as A
+use Rattle.decimal.specs.Meaning.{scaleOf, Took}
+use Rattle.decimal.specs.declared.Taken.{Taken}
+use Rattle.decimal.specs.declared.Taken.the-variants as K
+use Rattle.leap.specs.Meaning.{accepted, hasMicro, isExpiredDay}
+use Rattle.changes.specs.Meaning.{isUtc}
+use Rattle.text_write.specs.Meaning.{stampOf, hasImage, fullText, imaging, writeText}
+use Rattle.text_read.specs.Stage.{takenScale, usesIn, taking, recordMoment}
+use Rattle.text_write.specs.Stage.{putting, imaged, writtenOf}
+use Rattle.text_read.specs.Judging.{list-lacks, judging, took-is, took-scale, taking-sound, slip-answer, slip-refused}
+use Rattle.text_read.specs.Ways.{lacking}
+use Rattle.text_write.specs.declared.Form.{Form}
+
+-- ---- the image of a time in its span
+from : (z : Scale) → 29773 ≤ firstAt z
+from S.Tai = lit≤ tt
+from S.Utc = lit≤ tt
+from S.Gps = lit≤ tt
+
+module _ (f : Form) (z : Scale) (m : Moment) (out : List ℕ) where
+  pub image-lacks : hasImage f z (m .micro) ≡ false → wrote (W.Refused R.Image) out ≡ imaged f z m out
+  unfolding imaged
+  image-lacks e = sym (rw e)
+
+  module _ (w : inSpan z (m .day) (m .micro) ≡ true) where
+    pub has-date : (r : Refusal) → dateSlip (A.Refused r) ≡ dateOfDay (m .day) → ⊥
+    has-date r q =
+        let p = placed z (m .day) (m .micro) w in
+        let h : 29773 ≤ placeOfDay (m .day) = omega (arith, from z, p .from) in
+        let k : placeOfDay (m .day) ≤ 76524 = omega (arith, apart z .to, p .to) in
+        some r (λ i. (q ∙ sym (date-within (m .day) h k)) i .number)
+
+  pub image-put : hasImage f z (m .micro) ≡ true → (t : Date) → dateSlip (A.Date t) ≡ dateOfDay (m .day) → putting (fullText f z (stampOf t (m .micro))) out ≡ imaged f z m out
+  unfolding imaged putting
+  image-put e t q = sym (rw (e, sym q))
+
+pub month-in : (d : ℤ) (t : Date) → dateSlip (A.Date t) ≡ dateOfDay d → (1 ≤ t .month) × (t .month ≤ 12)
+month-in d t q =
+    let x = C.dated d t (sym q) .date in
+    let y : _ ≡ t .month = λ i. x i .month in
+    (omega arith, omega arith)
+
+-- ---- one chain after another
+abbrev pub onward : {A B : Type 0} → (A → Judged B) → Outcome A → Outcome B
+onward k (refused n) = refused n
+onward k (answer a) = outcome (k a)
+
+then-is : {A B : Type 0} (j : Judged A) (k : A → Judged B) → outcome (andThen j k) ≡ onward k (outcome j)
+then-is (given true n rest) k = then-is rest k
+then-is (given false n rest) k = refl
+then-is (gives a) k = refl
+
+-- writing judges the time, and then its image
+pub write-is : (h : Handed) (f : Form) (ds : List ℤ) (os : List ℕ) (e : ℤ) (out : List ℕ)
+    → writeText h f ds os e out ≡ written out (onward (λ (m : Moment). imaging f (scaleOf h) m out) (outcome (judging ds os e h)))
+unfolding writeText
+write-is h f ds os e out = ap (written out) (then-is (judging ds os e h) (λ (m : Moment). imaging f (scaleOf h) m out))
+
+module _ (t : Taken) (f : Form) (ds : List ℤ) (os : List ℕ) (e : ℤ) (out : List ℕ) where
+  abbrev next : Moment → Judged (List ℕ)
+  next m = imaging f (takenScale t) m out
+
+  written-is : writtenOf t f ds os e out ≡ written out (onward next (outcome (taking t ds os e)))
+  unfolding writtenOf
+  written-is = ap (written out) (then-is (taking t ds os e) next)
+
+  module _ (q : Dated) (w : slip q ≡ dated (takenScale t) (outcome (taking t ds os e))) where
+    pub write-refused : (r : Refusal) (z : Scale) → q ≡ D.Refused r z → wrote (W.Refused r) out ≡ writtenOf t f ds os e out
+    write-refused r z p =
+        let k = slip-refused (takenScale t) (outcome (taking t ds os e)) r z (ap slip (sym p) ∙ w) in
+        sym (written-is ∙ ap (λ (o : Outcome Moment). written out (onward next o)) k)
+
+    told : (r : Record) → q ≡ D.At r → (r .scale ≡ takenScale t) × (outcome (taking t ds os e) ≡ answer (recordMoment r))
+    told r p = slip-answer (takenScale t) (outcome (taking t ds os e)) (taking-sound t ds os e) r (ap slip (sym p) ∙ w)
+
+    pub write-answer : (r : Record) → q ≡ D.At r → imaged f (r .scale) (recordMoment r) out ≡ writtenOf t f ds os e out
+    unfolding imaged
+    write-answer r p =
+        let k = told r p in
+        ap (λ (z : Scale). written out (outcome (imaging f z (recordMoment r) out))) (k .0)
+        ∙ sym (written-is ∙ ap (λ (o : Outcome Moment). written out (onward next o)) (k .1))
+
+    -- a time that is answered lies in its span
+    pub write-inside : (r : Record) → q ≡ D.At r → inSpan (r .scale) (r .day) (r .micro) ≡ true
+    write-inside r p = let k = told r p in ap (λ (z : Scale). inSpan z (r .day) (r .micro)) (k .0) ∙ inside t (recordMoment r) (k .1)
+      where
+        counted : (z : Scale) (m n : Moment) (a b c d : Bool) → inSpan z (m .day) (m .micro) ≡ b
+            → outcome (given a 5 (given b 7 (given c 9 (given d 10 (gives m))))) ≡ answer n → inSpan z (n .day) (n .micro) ≡ true
+        counted z m n true true true true i g = let y : m ≡ n = cc in ap (λ (x : Moment). inSpan z (x .day) (x .micro)) (sym y) ∙ i
+        counted z m n false b c d i g = absurd (let y : _≡_ {A = ℕ} 0 1 = cc in omega arith)
+        counted z m n true false c d i g = absurd (let y : _≡_ {A = ℕ} 0 1 = cc in omega arith)
+        counted z m n true true false d i g = absurd (let y : _≡_ {A = ℕ} 0 1 = cc in omega arith)
+        counted z m n true true true false i g = absurd (let y : _≡_ {A = ℕ} 0 1 = cc in omega arith)
+
+        outside : (a : Bool) (n : Moment) → outcome (given a 5 (given false 7 (gives n))) ≡ answer n → ⊥
+        outside true n g = let y : _≡_ {A = ℕ} 0 1 = cc in omega arith
+        outside false n g = let y : _≡_ {A = ℕ} 0 1 = cc in omega arith
+
+        inside : (t : Taken) (n : Moment) → outcome (taking t ds os e) ≡ answer n → inSpan (takenScale t) (n .day) (n .micro) ≡ true
+        inside (K.NotFinite z) n g = absurd (let y : _≡_ {A = ℕ} 0 1 = cc in omega arith)
+        inside (K.Outside z) n g = absurd (outside (not (isUtc z) || accepted ds os e) n g)
+        inside (K.At s) n g =
+            let z = timeScale s in
+            let m = momentAt z (timeCount s) in
+            counted z m n (not (isUtc z) || accepted ds os e) (inSpan z (m .day) (m .micro)) (not (isUtc z) || not (isExpiredDay e (m .day))) (not (isUtc z) || hasMicro ds (m .day) (m .micro)) refl g
+
+  pub write-lacks : (usesIn t && not (accepted ds os e)) ≡ true → wrote (W.Refused R.List) out ≡ writtenOf t f ds os e out
+  write-lacks l =
+      let x = lacking (usesIn t) (accepted ds os e) l in
+      sym (written-is ∙ ap (λ (o : Outcome Moment). written out (onward next o)) (list-lacks ds os e t (x .0) (x .1)))
+
+  -- what was taken apart of a handed time
+  pub write-took : (h : Handed) → Took h t → writtenOf t f ds os e out ≡ writeText h f ds os e out
+  write-took h w =
+      written-is
+      ∙ ap₂ (λ (z : Scale) (o : Outcome Moment). written out (onward (λ (m : Moment). imaging f z m out) o)) (took-scale h t w) (took-is ds os e h t w)
+      ∙ sym (write-is h f ds os e out)

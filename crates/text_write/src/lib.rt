@@ -1,0 +1,36 @@
+// Writing a time as an Envisat text, in one of its four forms, onto the front of a lent slice.
+ghost use mathlib.Core.Path.{_≡_};
+ghost use Rattle.scales.specs.Meaning.{wrote};
+ghost use Rattle.text_write.specs.Meaning.{writeText};
+use scales::Handed;
+use scales::Refusal;
+use scales::Written;
+
+mod image;
+pub mod inner;
+
+// The forms of 20, 27, 24 and 31 bytes.
+pub enum Form {
+    Plain,
+    Micros,
+    Prefixed,
+    PrefixedMicros,
+}
+
+// A time onto the front of a lent slice, in one of the four forms.
+pub fn write(
+    h: Handed,
+    form: Form,
+    days: &[i64],
+    offsets: &[u64],
+    last: i64,
+    out: &mut [u8],
+) -> Written
+    ensures { λ r. ⌜ wrote r (now (out .exit)) ≡ writeText h form (now (days .entry)) (now (offsets .entry)) last (now (out .entry)) ⌝ }
+{
+    let t = decimal::take(h);
+    if text_read::inner::lacks_list(t, days, offsets, last) {
+        return Written::Refused(Refusal::List);
+    }
+    inner::write_time(t, form, days, offsets, last, out)
+}
