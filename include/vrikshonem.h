@@ -215,6 +215,18 @@ vrk_siral_fields vrk_siral_fields_read(const uint8_t *bytes, size_t count);
 vrk_written vrk_siral_fields_write(uint32_t day, uint32_t millisecond, uint32_t microsecond, uint32_t extra, uint8_t *out,
                                    size_t count);
 
+/* ---- Envisat text, with or without a prefix and microseconds: "30-JUN-1997 23:59:60.123456", "TAI=01-JUL-1997 00:00:30"
+ *
+ * A text of 20, 24, 27 or 31 bytes, without a zero byte at its end; without a prefix it is UTC. The leap list is looked at only
+ * for UTC.
+ * Read: 1; 3; 5; 7; 9; 10. The empty record is of TAI, whatever the text's scale.
+ * Written in the form of that length, exactly: 3 (a form other than 20, 24, 27, 31 too); 4; 5; 7; 9; 10; 12 for a scale other
+ * than UTC without a prefix or a microsecond that the form cannot show; 13. */
+vrk_time vrk_text_read(const uint8_t *text, size_t count, const int64_t *days, size_t day_count, const uint64_t *offsets,
+                       size_t offset_count, int64_t last);
+vrk_written vrk_text_write(vrk_handed time, const int64_t *days, size_t day_count, const uint64_t *offsets, size_t offset_count,
+                           int64_t last, uint32_t form, uint8_t *out, size_t count);
+
 #ifdef __cplusplus
 }
 #endif

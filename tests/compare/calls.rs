@@ -5,6 +5,7 @@ mod decimal;
 mod handed;
 mod layouts;
 mod leap;
+mod text;
 
 /// As in serve.c.
 pub const ANSWER: usize = 6;
@@ -60,6 +61,8 @@ pub const FUNCTIONS: &[Function] = &[
     Function { name: "cryosat_fields_write", number: 25, make: layouts::make_cryosat_fields, model: layouts::model_cryosat_fields },
     Function { name: "siral_fields_read", number: 26, make: layouts::make_siral_read, model: layouts::model_siral_split },
     Function { name: "siral_fields_write", number: 27, make: layouts::make_siral_fields, model: layouts::model_siral_fields },
+    Function { name: "text_read", number: 28, make: text::make_read, model: text::model_read },
+    Function { name: "text_write", number: 29, make: text::make_write, model: text::model_write },
 ];
 
 impl Call {

@@ -17,7 +17,7 @@ enum {
     CUC_READ, CUC_WRITE, GOCE_READ, GOCE_WRITE, OBET_READ, OBET_WRITE, PROTEUS_READ, PROTEUS_WRITE,
     CRYOSAT_READ, CRYOSAT_WRITE, SIRAL_READ, SIRAL_WRITE, SBT_READ, SBT_WRITE,
     CUC_FIELDS_READ, CUC_FIELDS_WRITE, PROTEUS_FIELDS_READ, PROTEUS_FIELDS_WRITE, 
-    CRYOSAT_FIELDS_READ, CRYOSAT_FIELDS_WRITE, SIRAL_FIELDS_READ, SIRAL_FIELDS_WRITE,
+    CRYOSAT_FIELDS_READ, CRYOSAT_FIELDS_WRITE, SIRAL_FIELDS_READ, SIRAL_FIELDS_WRITE, TEXT_READ, TEXT_WRITE,
 };
 
 static uint64_t w[MOST / 8], answer[ANSWER];
@@ -84,6 +84,8 @@ static int call(uint32_t function, const unsigned char *in, size_t in_len, unsig
     case CRYOSAT_FIELDS_WRITE: written_is(vrk_cryosat_fields_write((uint32_t)w[0], (uint32_t)w[1], (uint32_t)w[2], out, out_len)); return 1;
     case SIRAL_FIELDS_READ: { vrk_siral_fields f = vrk_siral_fields_read(in, in_len); FIELDS(f.refusal, f.day, f.millisecond, f.microsecond, f.extra); return 1; }
     case SIRAL_FIELDS_WRITE: written_is(vrk_siral_fields_write((uint32_t)w[0], (uint32_t)w[1], (uint32_t)w[2], (uint32_t)w[3], out, out_len)); return 1;
+    case TEXT_READ: time_is(vrk_text_read(in, in_len, LIST(w))); return 1;
+    case TEXT_WRITE: written_is(vrk_text_write(handed_at(w), LIST(w + 6), (uint32_t)w[5], out, out_len)); return 1;
     }
     return 0;
 }

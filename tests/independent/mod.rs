@@ -6,6 +6,7 @@ pub mod correlation;
 pub mod decimal;
 pub mod layouts;
 pub mod leap;
+pub mod text;
 pub mod time;
 
 /// A refusal's number, 1 to 13.

@@ -1,14 +1,18 @@
 -- What the functions on bytes of the C interface share: the cases of a library's answer, and 3 before what a library judges.
 -- Assumes nothing.
 use mathlib.Core.Path.{_≡_, refl, sym, ap, subst, _∙_}
-use mathlib.Core.Bool.{Bool, true}
+use mathlib.Core.Bool.{Bool, true, false, cond}
 use mathlib.Core.List.{List}
 use Prim.Native.Nat.{ℕ}
+use native.Mathlib.Omega.{arith}
 use Rattle.scales.specs.Meaning.{Judged, given, outcome, written}
 use Rattle.scales.specs.Order.{Refuses, here, later, refuses-is}
 use Rattle.scales.specs.declared.Handed.{Handed}
 use Rattle.rack.specs.declared.VrkHanded.{VrkHanded}
 use Rattle.rack.specs.declared.Given.the-variants as G
+use Rattle.text_write.specs.declared.Form.{Form}
+use Rattle.rack.specs.declared.texts.Named.the-variants as N
+use Rattle.rack.specs.Texts.{knownForm, formAt, namedForm}
 use Rattle.rack.specs.Meaning.{givenOf}
 use Rattle.rack.specs.Bytes.{wroteOf, writes, handedWriting}
 use Rattle.rack.proofs.Ways.{given-bad, given-good}
@@ -51,3 +55,21 @@ module _ (m : Handed → List ℕ → Judged (List ℕ)) (h : VrkHanded) (out : 
     pub handed-past : {j : Judged (List ℕ)} → Passes j (m t out) → written out (outcome j) ≡ writes (handedWriting m h) out
     handed-past {j} p = let k = given-good h t e in
         past (handedWriting m h) out (on (k .0) (subst (λ (x : Handed). Passes j (m x out)) (k .1) p))
+
+-- ---- a form by its length
+unformed : (f : Form) → N.Form f ≡ N.Unknown → ⊥
+unformed f e = let z : _≡_ {A = ℕ} 0 1 = cc in omega arith
+
+pub form-good : (n : ℕ) (f : Form) → namedForm n ≡ N.Form f → (knownForm n ≡ true) × (f ≡ formAt n)
+form-good n f e = go (knownForm n) e
+  where
+    go : (b : Bool) → cond b (N.Form (formAt n)) N.Unknown ≡ N.Form f → (b ≡ true) × (f ≡ formAt n)
+    go true e = (refl, cc)
+    go false e = absurd (unformed f (sym e))
+
+pub form-bad : (n : ℕ) → namedForm n ≡ N.Unknown → knownForm n ≡ false
+form-bad n e = go (knownForm n) e
+  where
+    go : (b : Bool) → cond b (N.Form (formAt n)) N.Unknown ≡ N.Unknown → b ≡ false
+    go true e = absurd (unformed (formAt n) e)
+    go false e = refl

@@ -2,3 +2,4 @@ pub mod Meaning
 pub mod Bytes
 pub mod Parts
 pub mod Same
+pub mod Texts

@@ -16,6 +16,7 @@ use scales::Tick;
 
 pub mod bytes;
 pub mod parts;
+pub mod texts;
 
 #[repr(C)]
 pub struct VrkHanded {

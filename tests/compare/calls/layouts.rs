@@ -185,7 +185,7 @@ pub fn model_siral_split(call: &Call) -> Answer {
 
 // ---- writing into a lent slice
 
-fn lent(random: &mut Random, image: u64) -> Vec<u8> {
+pub fn lent(random: &mut Random, image: u64) -> Vec<u8> {
     let length = match random.below(6) {
         0 => random.below(image),
         1 => image,
@@ -195,7 +195,7 @@ fn lent(random: &mut Random, image: u64) -> Vec<u8> {
 }
 
 /// The image on the front of the lent bytes, or 13 where it has no room; every byte stays on a refusal.
-fn written(call: &Call, image: Result<Vec<u8>, Number>) -> Answer {
+pub fn written(call: &Call, image: Result<Vec<u8>, Number>) -> Answer {
     let fits = image.and_then(|image| if image.len() <= call.lent.len() { Ok(image) } else { Err(13) });
     match fits {
         Ok(image) => {

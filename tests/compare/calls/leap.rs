@@ -27,7 +27,7 @@ fn made_up(random: &mut Random, steps: u64) -> Vec<i64> {
     days
 }
 
-struct Made {
+pub struct Made {
     days: Vec<i64>,
     offsets: Vec<u64>,
     last: i64,
@@ -55,7 +55,7 @@ fn good(random: &mut Random) -> Made {
 }
 
 /// A list that is accepted, or one with a fault.
-fn made(random: &mut Random, faulty: u64) -> Made {
+pub fn made(random: &mut Random, faulty: u64) -> Made {
     let mut list = good(random);
     if !random.one_in(faulty) {
         return list;
@@ -88,14 +88,14 @@ fn made(random: &mut Random, faulty: u64) -> Made {
     list
 }
 
-fn push(words: &mut Vec<u64>, list: &Made) {
+pub fn push(words: &mut Vec<u64>, list: &Made) {
     words.extend([list.last as u64, list.days.len() as u64, list.offsets.len() as u64]);
     words.extend(list.days.iter().map(|&day| day as u64));
     words.extend(&list.offsets);
 }
 
 /// Reads back what push wrote.
-fn with<T>(words: &[u64], use_it: impl FnOnce(&List) -> T) -> T {
+pub fn with<T>(words: &[u64], use_it: impl FnOnce(&List) -> T) -> T {
     let (days, offsets) = (words[1] as usize, words[2] as usize);
     let signed: Vec<i64> = words[3..3 + days].iter().map(|&day| day as i64).collect();
     use_it(&List { days: &signed, offsets: &words[3 + days..3 + days + offsets], last: words[0] as i64 })
@@ -113,7 +113,7 @@ pub fn model_accepted(call: &Call) -> Answer {
 }
 
 /// A time near a step or near the list's end, as a record.
-fn near_step(random: &mut Random, list: &Made) -> (i64, u64) {
+pub fn near_step(random: &mut Random, list: &Made) -> (i64, u64) {
     let step = match random.below(4) {
         0 => list.last.clamp(-20_000, 40_000) + 1,
         _ if list.days.is_empty() => 0,
