@@ -8,3 +8,4 @@ pub mod Force
 pub mod Back
 pub mod Whole
 pub mod Same
+pub mod Published

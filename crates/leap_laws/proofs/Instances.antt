@@ -11,7 +11,7 @@ use Rattle.leap.specs.Meaning.{accepted, through, isStep, publishedDays, publis
 use Rattle.changes.specs.Meaning.{utcInTai, utcInGps, taiInUtc, gpsInUtc, taiToGps, gpsToTai, utcToTai, utcToGps, taiToUtc, gpsToUtc}
 use Rattle.changes.specs.Ways.{list-in}
 use Rattle.leap_laws.proofs.Changes.{changed, round, only, later, UtcOf, the-one}
-use Rattle.leap_laws.proofs.Marked.{published}
+use Rattle.leap.specs.Published.{published}
 
 -- ---- the six changes under an accepted list are `changed`, of which the theorems speak
 pub record Six (ds : List ℤ) (os : List ℕ) (e : ℤ) (n : ℕ) : Type 0 where

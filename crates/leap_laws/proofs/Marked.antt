@@ -1,4 +1,4 @@
--- The published list is accepted, with E = 9131 and with E = 6209, and marked cases 1 to 3 are computed. Assumes nothing.
+-- The published list is accepted with E = 6209 too, and marked cases 1 to 3 are computed. Assumes nothing.
 use mathlib.Core.Path.{_≡_, refl}
 use mathlib.Core.Bool.{true}
 use mathlib.Core.List.{List, [], _∷_}
@@ -12,12 +12,7 @@ use Rattle.calendar.specs.Meaning.{leap, monthLength, lengthOf, firstDay, dayAf
 use Rattle.leap.specs.Meaning.{begins, risesFrom, rises, countsFrom, countsUp, noneLater, accepted, allLater, Extends, through, isStep, publishedDays, publishedOffsets, publishedLast}
 use Rattle.changes.specs.Meaning.{changeOf}
 
--- ---- the published list
-pub published : accepted publishedDays publishedOffsets publishedLast ≡ true
-unfolding leap monthLength lengthOf firstDay dayAfter daysTo walk isFirst begins risesFrom rises countsFrom countsUp noneLater accepted
-published = refl
-
--- the 28th step is on E+1, and it counts
+-- ---- the 28th step is on E+1, and it counts
 pub published-6209 : accepted publishedDays publishedOffsets (pos 6209) ≡ true
 unfolding leap monthLength lengthOf firstDay dayAfter daysTo walk isFirst begins risesFrom rises countsFrom countsUp noneLater accepted
 published-6209 = refl

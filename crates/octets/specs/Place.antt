@@ -4,9 +4,11 @@ use mathlib.Core.Bool.{Bool, true, false}
 use mathlib.Core.List.{List, [], _++_, append-nil, append-assoc}
 use Prim.Native.Nat.{ℕ, _+_, _-_, _≤_, _<_}
 use native.Mathlib.Omega.{arith}
+use native.Mathlib.Numerals.{add-one}
+use native.Mathlib.Nat.{zero-add}
 use lib.Dec.{leb}
-use lib.ListN.{length, take, drop, length-append, length-drop, take-append-drop, drop-of-length-le}
-use lib.Seq.{take-all, length-take-le, take-at, drop-at, drop-drop}
+use lib.ListN.{length, take, drop, getD, set, length-append, length-drop, take-append-drop, drop-of-length-le}
+use lib.Seq.{take-all, length-take-le, take-at, drop-at, drop-drop, paste-suc}
 use borrow.Author.Tests.{leb-true, leb-false, le-leb, lt-leb}
 use Rattle.octets.specs.Meaning.{hasRoom, onto}
 
@@ -19,6 +21,11 @@ module _ {A : Type 0} where
   pub onto-none : (image out : List A) → length out < length image → onto image out ≡ out
   unfolding onto
   onto-none image out h = rw (lt-leb (length image) (length out) h)
+
+  -- one more byte of an image is put on
+  pub onto-next : (out image : List A) (d : A) (j : ℕ) → j < length image → length image ≤ length out
+      → set (take j image ++ drop j out) j (getD image j d) ≡ take (j + 1) image ++ drop (j + 1) out
+  onto-next out image d j h room = rw (add-one j) (simp zero-add at (paste-suc out 0 image j d (omega arith) h))
 
   pub length-onto : (image out : List A) → length (onto image out) ≡ length out
   length-onto image out = go (hasRoom image out) refl

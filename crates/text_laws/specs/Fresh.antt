@@ -16,7 +16,8 @@ use Rattle.decimal.specs.Meaning.{scaleOf, isFinite, isInSpan}
 use Rattle.leap.specs.Meaning.{accepted, Extends, publishedDays, publishedOffsets, publishedLast}
 use Rattle.changes.specs.Meaning.{usesList, moving, momentIn, changing, changeOf}
 use Rattle.leap_laws.proofs.Promises.{Fresh, fresh}
-use Rattle.leap_laws.proofs.Marked.{published, published-6209, extended}
+use Rattle.leap.specs.Published.{published}
+use Rattle.leap_laws.proofs.Marked.{published-6209, extended}
 use Rattle.text_read.specs.Meaning.{isPlain, isPrefixed, isPrefixRight, isBody, scaleIn, bodyIn, stampIn, momentOf, listed, readingBody, datedIn, readText}
 use Rattle.text_read.specs.Judging.{judging, list-passes, sound}
 use Rattle.text_write.specs.Meaning.{imaging, writeText}

@@ -14,7 +14,7 @@ use Rattle.scales.specs.declared.Handed.the-variants as H
 use Rattle.calendar.specs.Meaning.{leap, monthLength, lengthOf, firstDay, isDate, dayAfter, daysTo, walk, dayOfDate, dateOfDay}
 use Rattle.decimal.specs.Meaning.{scaleOf, dayOf, microOf}
 use Rattle.leap.specs.Meaning.{accepted, publishedDays, publishedOffsets, publishedLast}
-use Rattle.leap_laws.proofs.Marked.{published}
+use Rattle.leap.specs.Published.{published}
 use Rattle.text_read.specs.Meaning.{digitOf, twoOf, fourOf, names, letter, isNamed, seek, monthOf, hasMarks, microIn, stampIn, inLimits, prefixOf, hasPrefix, scaleIn, bodyIn, isPrefixRight, isBody, reading, readText}
 use Rattle.text_write.specs.Meaning.{textOf, hasImage, writing, writeText}
 use Rattle.text_write.specs.declared.Form.{Form}

@@ -112,7 +112,7 @@ fn parse_body(z: Scale, s: &[u8]) -> Parsed
     }
 }
 
-pub(crate) fn parse(text: &[u8]) -> Parsed
+pub fn parse(text: &[u8]) -> Parsed
     ensures { λ r. ⌜ ParsesText (now (text .entry)) r ⌝ }
 {
     let n = text.len();

@@ -41,7 +41,7 @@ fn has_image(form: Form, z: Scale, micro: u64) -> bool
     micro % 1_000_000 == 0
 }
 
-fn write_record(r: Record, form: Form, out: &mut [u8]) -> Written
+pub fn write_record(r: Record, form: Form, out: &mut [u8]) -> Written
     requires { ⌜ inSpan (r .scale) (r .day) (r .micro) ≡ true ⌝ }
     ensures { λ w. ⌜ wrote w (now (out .exit)) ≡ imaged form (r .scale) (recordMoment r) (now (out .entry)) ⌝ }
 {

@@ -1,21 +1,15 @@
 -- `octets::put` meets its contract: after i turns the first i bytes are the image's and the rest is as it was. Assumes nothing.
-use Prim.Native.Nat.{ℕ, _+_, _-_, _≤_, _<_}
+use Prim.Native.Nat.{_-_, _≤_}
 use mathlib.Core.Path.{_≡_, refl, sym, _∙_}
-use mathlib.Core.List.{List, _++_}
+use mathlib.Core.List.{_++_}
 use native.Mathlib.Omega.{arith}
-use native.Mathlib.Numerals.{add-one}
-use native.Mathlib.Nat.{zero-add}
-use lib.ListN.{length, take, drop, getD, set, length-set}
-use lib.Seq.{take-length, paste-suc}
+use lib.ListN.{length, take, drop, length-set}
+use lib.Seq.{take-length}
 use borrow.Author.Tests.{le-leb, lt-leb}
 use denote.Ref.{now}
-use Rattle.octets.specs.Place.{onto-room, onto-none}
+use Rattle.octets.specs.Place.{onto-room, onto-next, onto-none}
 use Rattle.octets.proofs.put.Statement.{statement}
 use Rattle.octets.proofs.put.Tie as tie
-
-put-step : (d s : List ℕ) (j : ℕ) → j < length s → length s ≤ length d
-    → set (take j s ++ drop j d) j (getD s j 0) ≡ take (j + 1) s ++ drop (j + 1) d
-put-step d s j h room = rw (add-one j) (simp zero-add at (paste-suc d 0 s j 0 (omega arith) h))
 
 abbrev Inv-loop : tie.InvT-loop
 Inv-loop image out₀ i₀ out i = (i ≤ length image) × (length out ≡ length out₀) × (out ≡ take i image ++ drop i out₀)
@@ -51,7 +45,7 @@ loop-again c =
     let i = c .before .before .loop .i in (
       omega arith,
       simp length-set (c .before .before .loop .inv .1),
-      rw (c .before .before .loop .inv .2) (put-step o a i (omega arith) (omega arith)),
+      rw (c .before .before .loop .inv .2) (onto-next o a 0 i (omega arith) (omega arith)),
     )
 
 same-length : tie.Need-same-length Inv-loop μ-loop

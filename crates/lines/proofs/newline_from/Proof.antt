@@ -1,0 +1,60 @@
+-- `lines::newline_from` meets its contract: no newline stands before place i. Assumes nothing.
+use Prim.Native.Nat.{_+_, _-_, _≤_}
+use mathlib.Core.Path.{_≡_, refl, sym, ap, _∙_}
+use native.Mathlib.Omega.{arith}
+use denote.Ref.{now}
+use lib.ListN.{length, drop}
+use lib.Seq.{drop-length}
+use Rattle.lines.specs.Stage.{beforeNewline}
+use Rattle.lines.specs.Lines.{newline-here, newline-later, newline-none}
+use Rattle.lines.proofs.newline_from.Statement.{statement}
+use Rattle.lines.proofs.newline_from.Tie as tie
+
+abbrev Inv-loop : tie.InvT-loop
+Inv-loop s from i₀ i = (i ≤ length s) × (i + beforeNewline (drop i s) ≡ from + beforeNewline (drop from s))
+
+abbrev μ-loop : tie.MeasureT-loop
+μ-loop s from i₀ i = length s - i
+
+loop-holds : tie.Need-loop-holds Inv-loop μ-loop
+loop-holds c = (omega arith, refl)
+
+shared-slice-read-if1 : tie.Need-shared-slice-read-if1 Inv-loop μ-loop
+shared-slice-read-if1 c = omega arith
+
+returns : tie.Need-returns Inv-loop μ-loop
+returns c =
+    let l = c .before .before .before in
+    newline-here (now (l .before .args .s)) (l .loop .i) (omega arith) (c .if1 .taken) ∙ l .loop .inv .1
+
+add-i : tie.Need-add-i Inv-loop μ-loop
+add-i c = omega arith
+
+loop-less : tie.Need-loop-less Inv-loop μ-loop
+loop-less c = omega arith
+
+loop-again : tie.Need-loop-again Inv-loop μ-loop
+loop-again c =
+    let l = c .before .before .before in
+    (omega arith, newline-later (now (l .before .args .s)) (l .loop .i) (omega arith) (c .if1 .left) ∙ l .loop .inv .1)
+
+returns-2 : tie.Need-returns-2 Inv-loop μ-loop
+returns-2 c =
+    let l = c .before in
+    let s = now (l .before .args .s) in
+    let e : l .loop .i ≡ length s = omega arith in
+    rw e (newline-none s ∙ rw (sym e) (l .loop .inv .1))
+
+pub newline-from-spec : {M : Type 1} → statement M
+newline-from-spec =
+    tie.close
+    (tie.spec
+    Inv-loop
+    μ-loop
+    loop-holds
+    shared-slice-read-if1
+    returns
+    add-i
+    loop-less
+    loop-again
+    returns-2)

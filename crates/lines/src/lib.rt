@@ -1,0 +1,166 @@
+// Text lines in, dated lines out: each as TAI with prefix and microseconds, or as its refusal, under the published list.
+ghost use mathlib.Core.Path.{_≡_};
+ghost use mathlib.Core.Bool.{true};
+ghost use mathlib.Core.List.{[], _∷_, _++_};
+ghost use Prim.Native.Nat.{_+_, _≤_, min};
+ghost use lib.ListN.{length, drop};
+ghost use Rattle.scales.specs.Meaning.{inSpan, outcome, dated, slip, numberOf};
+ghost use Rattle.leap.specs.Meaning.{accepted};
+ghost use Rattle.text_read.specs.Stage.{recordMoment};
+ghost use Rattle.text_write.specs.Meaning.{imageOf};
+ghost use Rattle.lines.specs.Meaning.{digit as digitOf, dating, answerTo, done, doneUnder, dateLines, kept};
+ghost use Rattle.lines.specs.Stage.{beforeNewline, refusedLine, Put};
+ghost use Rattle.lines.specs.Dates.{datingTime};
+use decimal::Taken;
+use scales::Dated;
+use scales::Record;
+use scales::Refusal;
+use scales::Scale;
+use text_read::Parsed;
+use text_write::Form;
+
+// How many bytes of the input were dated, and how many bytes of answers were written.
+pub struct Progress {
+    pub consumed: usize,
+    pub written: usize,
+}
+
+// ---- one line
+
+fn date_time(t: Taken, days: &[i64], offsets: &[u64], last: i64) -> Dated
+    requires { ⌜ accepted (now days) (now offsets) last ≡ true ⌝ }
+    ensures { λ r. ⌜ slip r ≡ dated Scale.Tai (outcome (datingTime (now (days .entry)) (now (offsets .entry)) last t)) ⌝ }
+{
+    match t {
+        Taken::NotFinite(_) => Dated::Refused(Refusal::NotFinite, Scale::Tai),
+        Taken::Outside(_) => Dated::Refused(Refusal::Span, Scale::Tai),
+        Taken::At(n) => changes::inner::change(n, Scale::Tai, days, offsets, last),
+    }
+}
+
+// The time of a text in TAI.
+fn date(line: &[u8], days: &[i64], offsets: &[u64], last: i64) -> Dated
+    requires { ⌜ accepted (now days) (now offsets) last ≡ true ⌝ }
+    ensures { λ r. ⌜ slip r ≡ dated Scale.Tai (outcome (dating (now (days .entry)) (now (offsets .entry)) last (now (line .entry)))) ⌝ }
+{
+    match text_read::inner::parse(line) {
+        Parsed::Refused(f) => Dated::Refused(f, Scale::Tai),
+        Parsed::Time(t) => date_time(t, days, offsets, last),
+    }
+}
+
+fn digit(n: u32) -> u8
+    ensures { λ r. ⌜ r ≡ digitOf n ⌝ }
+{
+    (48 + n % 10) as u8
+}
+
+fn refuse(f: Refusal, out: &mut [u8]) -> usize
+    ensures { λ r. ⌜ Put (refusedLine (numberOf f)) (now (out .entry)) (now (out .exit)) r ⌝ }
+{
+    let n = f.number();
+    let unit = digit(n);
+    if n < 10 {
+        octets::put(&[b'r', b'e', b'f', b'u', b's', b'e', b'd', b' ', unit, b'\n'], out);
+        return 10;
+    }
+    let ten = digit(n / 10);
+    octets::put(&[b'r', b'e', b'f', b'u', b's', b'e', b'd', b' ', ten, unit, b'\n'], out);
+    11
+}
+
+// A TAI time with prefix and microseconds: 31 bytes.
+fn print(t: Record, out: &mut [u8]) -> usize
+    requires { ⌜ inSpan (t .scale) (t .day) (t .micro) ≡ true ⌝ }
+    requires { ⌜ 32 ≤ length (now out) ⌝ }
+    ensures { λ r. ⌜ Put (imageOf Form.PrefixedMicros (t .scale) (recordMoment t) ++ (10 ∷ [])) (now (out .entry)) (now (out .exit)) r ⌝ }
+{
+    text_write::inner::write_record(t, Form::PrefixedMicros, out);
+    out[31] = b'\n';
+    32
+}
+
+fn answer(line: &[u8], days: &[i64], offsets: &[u64], last: i64, out: &mut [u8]) -> usize
+    requires { ⌜ accepted (now days) (now offsets) last ≡ true ⌝ }
+    requires { ⌜ 32 ≤ length (now out) ⌝ }
+    ensures { λ r. ⌜ Put (answerTo (now (days .entry)) (now (offsets .entry)) last (now (line .entry))) (now (out .entry)) (now (out .exit)) r ⌝ }
+{
+    match date(line, days, offsets, last) {
+        Dated::At(t) => print(t, out),
+        Dated::Refused(f, _) => refuse(f, out),
+    }
+}
+
+// ---- a block
+
+// The place of the next newline from a place on, or the end.
+fn newline_from(s: &[u8], from: usize) -> usize
+    requires { ⌜ from ≤ length (now s) ⌝ }
+    ensures { λ r. ⌜ r ≡ from + beforeNewline (drop from (now (s .entry))) ⌝ }
+{
+    let mut i = from;
+    while i < s.len() {
+        if s[i] == b'\n' {
+            return i;
+        }
+        i += 1;
+    }
+    i
+}
+
+fn date_under(input: &[u8], days: &[i64], offsets: &[u64], last: i64, out: &mut [u8]) -> Progress
+    requires { ⌜ accepted (now days) (now offsets) last ≡ true ⌝ }
+    ensures { λ r. ⌜ done r (now (out .exit)) ≡ doneUnder (now (days .entry)) (now (offsets .entry)) last (now (input .entry)) (now (out .entry)) ⌝ }
+    ensures { λ r. ⌜ (r .consumed ≤ length (now (input .entry))) × (r .written ≤ length (now (out .entry))) ⌝ }
+{
+    let mut at = 0;
+    let mut written = 0;
+    while 32 <= out.len() - written {
+        let end = newline_from(input, at);
+        if end == input.len() {
+            break;
+        }
+        written += answer(&input[at..end], days, offsets, last, &mut out[written..]);
+        at = end + 1;
+    }
+    Progress {
+        consumed: at,
+        written,
+    }
+}
+
+// The whole lines of a block, as many as find room for the longest answer, and their answers onto the front of a lent slice. That
+// the published list is accepted is a theorem: it is not tested here.
+pub fn date_lines(input: &[u8], out: &mut [u8]) -> Progress
+    ensures { λ r. ⌜ done r (now (out .exit)) ≡ dateLines (now (input .entry)) (now (out .entry)) ⌝ }
+    ensures { λ r. ⌜ (r .consumed ≤ length (now (input .entry))) × (r .written ≤ length (now (out .entry))) ⌝ }
+{
+    let days = leap::published_days();
+    let offsets = leap::published_offsets();
+    date_under(input, &days, &offsets, leap::PUBLISHED_LAST, out)
+}
+
+// ---- between two blocks
+
+fn least(a: usize, b: usize) -> usize
+    ensures { λ r. ⌜ r ≡ min a b ⌝ }
+{
+    if a < b { a } else { b }
+}
+
+// The line that has begun between two places, to the front: 32 bytes of it are enough, since no form has as many.
+pub fn keep(buf: &mut [u8], from: usize, to: usize) -> usize
+    ensures { λ r. ⌜ Put (kept (now (buf .entry)) from to) (now (buf .entry)) (now (buf .exit)) r ⌝ }
+{
+    let end = least(to, buf.len());
+    if end <= from {
+        return 0;
+    }
+    let n = least(end - from, 32);
+    let mut i = 0;
+    while i < n {
+        buf[i] = buf[from + i];
+        i += 1;
+    }
+    n
+}
