@@ -52,7 +52,6 @@ module _ (l : List ℕ) (from to : ℕ) where
         let g : getD (take i d ++ drop i l) (from + i) 0 ≡ getD d i 0 =
         ap (λ (j : ℕ). getD (take i d ++ drop i l) j 0) (moved t) ∙ getD-append-add (take i d) (drop i l) from 0 ∙ getD-drop i l from 0 ∙ ap (λ (j : ℕ). getD l j 0) (swap i) ∙ sym (getD-drop from l i 0) in
         ap (λ (b : ℕ). set (take i d ++ drop i l) i b) g ∙ onto-next l d 0 i (omega (arith, length-drop from l)) (omega (arith, length-drop from l))
-
       where
         moved : {t : ℕ} → t ≡ i → from + i ≡ t + from
         moved e = omega arith

@@ -61,11 +61,29 @@ fn refuse(f: Refusal, out: &mut [u8]) -> usize
     let n = f.number();
     let unit = digit(n);
     if n < 10 {
-        octets::put(&[b'r', b'e', b'f', b'u', b's', b'e', b'd', b' ', unit, b'\n'], out);
+        octets::put(
+            &[b'r', b'e', b'f', b'u', b's', b'e', b'd', b' ', unit, b'\n'],
+            out,
+        );
         return 10;
     }
     let ten = digit(n / 10);
-    octets::put(&[b'r', b'e', b'f', b'u', b's', b'e', b'd', b' ', ten, unit, b'\n'], out);
+    octets::put(
+        &[
+            b'r',
+            b'e',
+            b'f',
+            b'u',
+            b's',
+            b'e',
+            b'd',
+            b' ',
+            ten,
+            unit,
+            b'\n',
+        ],
+        out,
+    );
     11
 }
 
@@ -151,6 +169,7 @@ fn least(a: usize, b: usize) -> usize
 // The line that has begun between two places, to the front: 32 bytes of it are enough, since no form has as many.
 pub fn keep(buf: &mut [u8], from: usize, to: usize) -> usize
     ensures { λ r. ⌜ Put (kept (now (buf .entry)) from to) (now (buf .entry)) (now (buf .exit)) r ⌝ }
+    ensures { λ r. ⌜ r ≤ 32 ⌝ }
 {
     let end = least(to, buf.len());
     if end <= from {

@@ -38,7 +38,7 @@ returns c =
     let o = u .before .before .before .before in
     let x = o .before .before .before .before .args in (
       u .date-under .ensures .0
-      ∙ ap₂ (λ (ds : List ℤ) (os : List ℕ). doneUnder ds os publishedLast (now (x .input)) (now (x .out))) (o .before .published-days .ensures) (o .published-offsets .ensures),
+          ∙ ap₂ (λ (ds : List ℤ) (os : List ℕ). doneUnder ds os publishedLast (now (x .input)) (now (x .out))) (o .before .published-days .ensures) (o .published-offsets .ensures),
       u .date-under .ensures .1,
     )
 

@@ -143,7 +143,7 @@ returns c =
     let x = s .args in
     let u = l .loop .inv in (
       full (now (x .days)) (now (x .offsets)) (seen (x .last)) (now (x .input)) (now (x .out)) (l .loop .at) (l .loop .written) (l .loop .out) u (omega (arith, u .same)) _ refl refl
-      ∙ ap (λ (z : ℤ). doneUnder (now (x .days)) (now (x .offsets)) z (now (x .input)) (now (x .out))) (toZ-ofZ (s .fits .last)),
+          ∙ ap (λ (z : ℤ). doneUnder (now (x .days)) (now (x .offsets)) z (now (x .input)) (now (x .out))) (toZ-ofZ (s .fits .last)),
       (u .from, u .to),
     )
 
@@ -158,8 +158,8 @@ returns-2 c =
     let x = s .args in
     let u = l .loop .inv in (
       ended (now (x .days)) (now (x .offsets)) (seen (x .last)) (now (x .input)) (now (x .out)) (l .loop .at) (l .loop .written) (l .loop .out) u
-      (omega (arith, f .newline-from .ensures, length-drop (l .loop .at) (now (x .input)))) _ refl refl
-      ∙ ap (λ (z : ℤ). doneUnder (now (x .days)) (now (x .offsets)) z (now (x .input)) (now (x .out))) (toZ-ofZ (s .fits .last)),
+          (omega (arith, f .newline-from .ensures, length-drop (l .loop .at) (now (x .input)))) _ refl refl
+          ∙ ap (λ (z : ℤ). doneUnder (now (x .days)) (now (x .offsets)) z (now (x .input)) (now (x .out))) (toZ-ofZ (s .fits .last)),
       (u .from, u .to),
     )
 
