@@ -1,7 +1,6 @@
 -- What a count that was taken is in each layout: whether it has an image, and the microseconds of the image. Assumes nothing.
 use mathlib.Core.Path.{_≡_, sym, ap, ap₂, _∙_}
 use mathlib.Core.Bool.{Bool, true, false, _&&_}
-use mathlib.Core.List.{List}
 use Prim.Native.Nat.{ℕ, _+_, _-_, _*_, _/_, _%_, _≤_, _<_}
 use native.Mathlib.Omega.{arith}
 use lib.Dec.{leb, ltb, lit<, lit≤}
@@ -10,7 +9,7 @@ use lib.Signed.{leZ}
 use borrow.Author.Tests.{lt-ltb, le-ltb, le-leb, lt-leb, ltb-true, leb-true}
 use Rattle.axis.specs.Meaning.{placeOfDay}
 use Rattle.axis.specs.Axis.{day-from, day-to}
-use Rattle.scales.specs.Meaning.{sameScale, Judged, given, outcome, written}
+use Rattle.scales.specs.Meaning.{sameScale, outcome}
 use Rattle.scales.specs.Place.{apart, day-part, micro-part, and-false, and-both}
 use Rattle.scales.specs.declared.Scale.the-variants as S
 use Rattle.scales.specs.declared.Refusal.{Refusal}
@@ -25,10 +24,6 @@ use Rattle.layouts.specs.Due.{dueIn, since2000, since1980, held, HeldIn,
 use Rattle.layouts.specs.Cuc as Cuc
 use Rattle.layouts.specs.Proteus as Proteus
 use Rattle.layouts.specs.Cryosat as Cryosat
-
--- the limits of fields that were reckoned from a time always hold
-pub in-limits : (out : List ℕ) (t : Bool) (j : Judged (List ℕ)) → t ≡ true → written out (outcome (given t 3 j)) ≡ written out (outcome j)
-in-limits out t j e = rw e
 
 -- ---- CUC
 module _ (h : Handed) (n : ℕ) (d : HeldIn S.Gps h n) where

@@ -1,5 +1,5 @@
 -- Chains of tests one after the other, and what the answer of a reader of fields tells of its chain. Assumes nothing.
-use mathlib.Core.Path.{_≡_, sym, ap}
+use mathlib.Core.Path.{_≡_, sym, ap, _∙_}
 use mathlib.Core.Bool.{Bool, true, false, _&&_}
 use mathlib.Core.List.{List}
 use Prim.Native.Nat.{ℕ}
@@ -7,7 +7,7 @@ use native.Mathlib.Omega.{arith}
 use lib.Dec.{ltb}
 use lib.IntN.{ℤ}
 use borrow.Author.Tests.{ltb-true}
-use Rattle.scales.specs.Meaning.{andThen, Judged, given, gives, refused, answer, outcome, Moment, dated, slip, spanned, numberOf, wrote, written}
+use Rattle.scales.specs.Meaning.{andThen, Judged, given, gives, refused, answer, outcome, Moment, dated, slip, spanned, numberOf, Wrote, wrote, written}
 use Rattle.scales.specs.Place.{and-both}
 use Rattle.scales.specs.Same.{some as is-some}
 use Rattle.scales.specs.declared.Scale.{Scale}
@@ -59,11 +59,15 @@ module _ {A : Type 0} (s : Scale) (epoch : ℤ) (micros : A → ℕ) (z : A) (j 
   unfolding spanned
   read-at p a e n q = rw q (ap (dated s) (sym (then-answer dating j a (told-answer z j p a e))))
 
--- ---- the ways out of a writer of times, over the chain of what it takes of a handed time and the image of that
+-- ---- the ways out of a writer of times, over the chain of what it takes of a handed time and the image of that;
+-- the limits t of fields that were reckoned from a time always hold
 module _ (image : ℕ → List ℕ) (out : List ℕ) (j : Judged ℕ) where
-  pub write-no : (f : Refusal) → slipOf 0 (no f) ≡ valued 0 (outcome j) → wrote (W.Refused f) out ≡ written out (outcome (andThen j (λ (n : ℕ). placing (image n) out)))
-  write-no f e = ap (written out) (sym (then-refused (λ (n : ℕ). placing (image n) out) j (numberOf f) (told-refused 0 j f e)))
+  abbrev laying : ℕ → Judged (List ℕ)
+  laying n = placing (image n) out
 
-  pub write-at : numbered j ≡ true → (n : ℕ) → slipOf 0 (some n) ≡ valued 0 (outcome j) →
-      written out (outcome (placing (image n) out)) ≡ written out (outcome (andThen j (λ (n : ℕ). placing (image n) out)))
-  write-at p n e = ap (written out) (sym (then-answer (λ (n : ℕ). placing (image n) out) j n (told-answer 0 j p n e)))
+  pub write-no : (f : Refusal) → slipOf 0 (no f) ≡ valued 0 (outcome j) → wrote (W.Refused f) out ≡ written out (outcome (andThen j laying))
+  write-no f e = ap (written out) (sym (then-refused laying j (numberOf f) (told-refused 0 j f e)))
+
+  pub write-at : numbered j ≡ true → (n : ℕ) → slipOf 0 (some n) ≡ valued 0 (outcome j) → (t : Bool) → t ≡ true →
+      {v : Wrote} → v ≡ written out (outcome (given t 3 (laying n))) → v ≡ written out (outcome (andThen j laying))
+  write-at p n e t q r = r ∙ rw q (ap (written out) (sym (then-answer laying j n (told-answer 0 j p n e))))

@@ -3,13 +3,13 @@ use denote.Ref.{now}
 use mathlib.Core.Path.{_≡_, refl, sym, ap, _∙_}
 use Prim.Native.Nat.{ℕ}
 use Rattle.scales.specs.Meaning.{outcome}
-use Rattle.fields.specs.Meaning.{placing, some, valued, slipOf, countSlip}
+use Rattle.fields.specs.Meaning.{some, valued, slipOf, countSlip}
 use Rattle.fields.specs.Cryosat.{inLimits, imageOf, write as fieldsWrite}
 use Rattle.fields.specs.declared.cryosat.Fields.{Fields}
 use Rattle.layouts.specs.Chain.{write-no, write-at}
 use Rattle.layouts.specs.Due.{since2000}
 use Rattle.layouts.specs.Cryosat.{fieldsAt, write}
-use Rattle.layouts.proofs.Ways.{in-limits, cryosat-below, cryosat-limits}
+use Rattle.layouts.proofs.Ways.{cryosat-below, cryosat-limits}
 use borrow.Author.Needs.{needs}
 use Rattle.layouts.proofs.cryosat.write.Statement.{statement}
 use Rattle.layouts.proofs.cryosat.write.Tie as tie
@@ -43,14 +43,11 @@ returns c =
     let g = w .before .before in
     let k = g .before .before in
     let a = k .before .before .before .before .args in
-    let h = a .h in
     let o = now (a .out) in
     let n = k .n .given .0 .0 in
-    let e = known k in
-    w .write .ensures
-    ∙ ap (λ (f : Fields). fieldsWrite f o) (g .fields-at .ensures)
-    ∙ in-limits o (inLimits (fieldsAt n .millisecond) (fieldsAt n .microsecond)) (placing (imageOf (fieldsAt n)) o) (cryosat-limits n)
-    ∙ write-at (λ (n : ℕ). imageOf (fieldsAt n)) o (since2000 h) refl n e
+    write-at (λ (n : ℕ). imageOf (fieldsAt n)) o (since2000 (a .h)) refl n (known k)
+    (inLimits (fieldsAt n .millisecond) (fieldsAt n .microsecond)) (cryosat-limits n)
+    (w .write .ensures ∙ ap (λ (f : Fields). fieldsWrite f o) (g .fields-at .ensures))
 
 returns-2 : tie.Need-returns-2
 unfolding write

@@ -1,6 +1,7 @@
 -- `layouts::cuc::write` meets its contract. Assumes nothing.
 use denote.Ref.{now}
 use mathlib.Core.Path.{_≡_, refl, sym, ap, _∙_}
+use mathlib.Core.Bool.{true}
 use Prim.Native.Nat.{ℕ}
 use Rattle.scales.specs.Meaning.{outcome}
 use Rattle.scales.specs.declared.Scale.the-variants as S
@@ -54,9 +55,8 @@ returns c =
     let h = a .h in
     let o = now (a .out) in
     let n = k .n .given .0 .0 in
-    w .write .ensures
-    ∙ ap (λ (f : Fields). fieldsWrite f o) (g .fields-at .ensures ∙ ap fieldsAt (cuc-micros h n (known k)))
-    ∙ write-at (λ (n : ℕ). imageAt (dayOf h) (microOf h)) o (dueIn S.Gps h) refl n (taken k)
+    write-at (λ (n : ℕ). imageAt (dayOf h) (microOf h)) o (dueIn S.Gps h) refl n (taken k) true refl
+    (w .write .ensures ∙ ap (λ (f : Fields). fieldsWrite f o) (g .fields-at .ensures ∙ ap fieldsAt (cuc-micros h n (known k))))
 
 returns-2 : tie.Need-returns-2
 unfolding write

@@ -3,13 +3,13 @@ use denote.Ref.{now}
 use mathlib.Core.Path.{_≡_, refl, sym, ap, _∙_}
 use Prim.Native.Nat.{ℕ}
 use Rattle.scales.specs.Meaning.{outcome}
-use Rattle.fields.specs.Meaning.{placing, some, valued, slipOf, countSlip}
+use Rattle.fields.specs.Meaning.{some, valued, slipOf, countSlip}
 use Rattle.fields.specs.Proteus.{inLimits, imageOf, write as fieldsWrite}
 use Rattle.fields.specs.declared.proteus.Fields.{Fields}
 use Rattle.layouts.specs.Chain.{write-no, write-at}
 use Rattle.layouts.specs.Due.{since1980}
 use Rattle.layouts.specs.Proteus.{fieldsAt, write}
-use Rattle.layouts.proofs.Ways.{in-limits, proteus-below, proteus-limits}
+use Rattle.layouts.proofs.Ways.{proteus-below, proteus-limits}
 use borrow.Author.Needs.{needs}
 use Rattle.layouts.proofs.proteus.write.Statement.{statement}
 use Rattle.layouts.proofs.proteus.write.Tie as tie
@@ -43,14 +43,11 @@ returns c =
     let g = w .before .before in
     let k = g .before .before in
     let a = k .before .before .before .before .args in
-    let h = a .h in
     let o = now (a .out) in
     let n = k .n .given .0 .0 in
-    let e = known k in
-    w .write .ensures
-    ∙ ap (λ (f : Fields). fieldsWrite f o) (g .fields-at .ensures)
-    ∙ in-limits o (inLimits (fieldsAt (a .h3) n)) (placing (imageOf (fieldsAt (a .h3) n)) o) (proteus-limits (a .h3) n (proteus-below h n e))
-    ∙ write-at (λ (n : ℕ). imageOf (fieldsAt (a .h3) n)) o (since1980 h) refl n e
+    write-at (λ (n : ℕ). imageOf (fieldsAt (a .h3) n)) o (since1980 (a .h)) refl n (known k)
+    (inLimits (fieldsAt (a .h3) n)) (proteus-limits (a .h3) n (proteus-below (a .h) n (known k)))
+    (w .write .ensures ∙ ap (λ (f : Fields). fieldsWrite f o) (g .fields-at .ensures))
 
 returns-2 : tie.Need-returns-2
 unfolding write
