@@ -34,7 +34,7 @@ writing f out =
     given (inLimits (f .millisecond) (f .microsecond)) 3
     (placing (imageOf f) out)
 
--- the fields that bytes begin with, or 3: what SIRAL has in common
+-- the fields that bytes begin with, or 3: SIRAL's begin so too
 abbrev pub frontOf : List ℕ → Parted
 frontOf s = cond (inLimits (part s 2 4) (part s 6 2)) (P.Fields (fieldsOf s)) (P.Refused R.Field)
 

@@ -29,7 +29,7 @@ pub(crate) fn in_limits(millisecond: u32, microsecond: u16) -> bool
     }
 }
 
-// The three fields that bytes begin with, or 3.
+// The three fields that bytes begin with, or 3: SIRAL's begin so too.
 pub(crate) fn front(b: &[u8]) -> Parted
     requires { ⌜ 8 ≤ length (now b) ⌝ }
     ensures { λ r. ⌜ r ≡ frontOf (now (b .entry)) ⌝ }

@@ -1,4 +1,5 @@
--- Chains of tests one after the other, and what the answer of a reader of fields tells of its chain. Assumes nothing.
+-- Chains of tests one after the other, what an answer tells of its chain, and the ways out of readers and writers of times.
+-- Assumes nothing.
 use mathlib.Core.Path.{_≡_, sym, ap, _∙_}
 use mathlib.Core.Bool.{Bool, true, false, _&&_}
 use mathlib.Core.List.{List}

@@ -34,6 +34,7 @@ taking h has m =
 abbrev pub dueIn : Scale → Handed → Judged ℕ
 dueIn s h = taking h (sameScale s (scaleOf h)) (countOf s (dayOf h) (microOf h))
 
+-- the microseconds since day 0 that CryoSat and SIRAL write, and those since day -7300 that Proteus writes
 abbrev pub since2000 : Handed → Judged ℕ
 since2000 h = taking h (Cryosat.hasImage (scaleOf h) (dayOf h)) (microsFrom Cryosat.epoch (dayOf h) (microOf h))
 

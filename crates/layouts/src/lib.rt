@@ -44,6 +44,7 @@ fn fraction_at(micros: u64) -> u16
     ((micros * 65536 + 65535) / 1_000_000) as u16
 }
 
+// The count of a time in its own scale.
 fn count(t: Time) -> u64
     ensures { λ r. ⌜ r ≡ timeCount t ⌝ }
 {
