@@ -1,15 +1,20 @@
 -- The ways out of a reader and of a writer of fields, over the chain that it judges. Assumes nothing.
-use mathlib.Core.Path.{_≡_, sym, ap, _∙_}
-use mathlib.Core.Bool.{Bool, true, false, _&&_}
+use mathlib.Core.Path.{_≡_, refl, sym, ap, _∙_}
+use mathlib.Core.Bool.{Bool, true, false, cond, _&&_}
 use mathlib.Core.List.{List, _++_, append-assoc}
 use Prim.Native.Nat.{ℕ, _+_, _*_, _<_}
+use native.Mathlib.Omega.{arith}
 use Rattle.octets.specs.Meaning.{field}
-use Rattle.scales.specs.Meaning.{Judged, given, outcome, numberOf, Wrote, wrote, written}
+use Rattle.scales.specs.Meaning.{Judged, given, gives, outcome, numberOf, Wrote, wrote, written}
 use Rattle.scales.specs.Order.{Refuses, Answers, refuses-is, answers-is}
 use Rattle.scales.specs.declared.Refusal.{Refusal}
+use Rattle.scales.specs.declared.Refusal.the-variants as R
 use Rattle.scales.specs.declared.Written.the-variants as W
 use Rattle.fields.specs.Meaning.{placing, some, no, valued, slipOf}
 use Rattle.fields.specs.Parts.{field-two}
+use Rattle.fields.specs.Cryosat.{fieldsOf, empty, slip}
+use Rattle.fields.specs.declared.cryosat.Fields.{Fields}
+use Rattle.fields.specs.declared.cryosat.Parted.the-variants as P
 
 -- ---- a reader refuses, or answers
 module _ {A : Type 0} (z : A) (j : Judged A) where
@@ -18,6 +23,20 @@ module _ {A : Type 0} (z : A) (j : Judged A) where
 
   pub answers : (a : A) → Answers j a → slipOf z (some a) ≡ valued z (outcome j)
   answers a r = ap (valued z) (sym (answers-is r))
+
+-- ---- CryoSat's fields as its reader answers them, and what SIRAL's learns of them
+module _ (s : List ℕ) where
+  pub front-is : (t : Bool) → slip (cond t (P.Fields (fieldsOf s)) (P.Refused R.Field)) ≡ valued empty (outcome (given t 3 (gives (fieldsOf s))))
+  front-is true = refl
+  front-is false = refl
+
+  pub front-some : (t : Bool) (f : Fields) → P.Fields f ≡ cond t (P.Fields (fieldsOf s)) (P.Refused R.Field) → (t ≡ true) × (f ≡ fieldsOf s)
+  front-some true f e = (refl, cc)
+  front-some false f e = absurd (let z : _≡_ {A = ℕ} 0 1 = cc in omega arith)
+
+  pub front-no : (t : Bool) (f : Refusal) → P.Refused f ≡ cond t (P.Fields (fieldsOf s)) (P.Refused R.Field) → (t ≡ false) × (f ≡ R.Field)
+  front-no true f e = absurd (let z : _≡_ {A = ℕ} 0 1 = cc in omega arith)
+  front-no false f e = (refl, cc)
 
 -- ---- a writer refuses and keeps all bytes, or goes on where a test holds
 module _ (out : List ℕ) (j : Judged (List ℕ)) where

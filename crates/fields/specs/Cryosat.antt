@@ -1,12 +1,13 @@
 -- "CryoSat general (8 bytes): day 16 bits, millisecond 32 bits (below 86,400,000), microsecond 16 bits (below 1,000)".
 -- Assumes nothing.
-use mathlib.Core.Bool.{Bool, _&&_}
+use mathlib.Core.Bool.{Bool, cond, _&&_}
 use mathlib.Core.List.{List, _++_}
 use Prim.Native.Nat.{ℕ}
 use lib.Dec.{ltb, eqb}
 use lib.ListN.{length}
 use Rattle.octets.specs.Meaning.{field}
 use Rattle.scales.specs.Meaning.{Judged, given, gives, outcome, Wrote, written}
+use Rattle.scales.specs.declared.Refusal.the-variants as R
 use Rattle.fields.specs.Meaning.{part, placing, Valued, valued, Reply, some, no, slipOf}
 use Rattle.fields.specs.declared.cryosat.Fields.{Fields}
 use Rattle.fields.specs.declared.cryosat.Parted.{Parted}
@@ -32,6 +33,10 @@ abbrev pub writing : Fields → List ℕ → Judged (List ℕ)
 writing f out =
     given (inLimits (f .millisecond) (f .microsecond)) 3
     (placing (imageOf f) out)
+
+-- the fields that bytes begin with, or 3: SIRAL's begin so too
+abbrev pub frontOf : List ℕ → Parted
+frontOf s = cond (inLimits (part s 2 4) (part s 6 2)) (P.Fields (fieldsOf s)) (P.Refused R.Field)
 
 -- ---- what is handed back
 abbrev pub empty : Fields

@@ -1,7 +1,9 @@
 // CryoSat general: day 16 bits, millisecond 32 bits, microsecond 16 bits.
 ghost use mathlib.Core.Path.{_≡_};
+ghost use Prim.Native.Nat.{_≤_};
+ghost use lib.ListN.{length};
 ghost use Rattle.scales.specs.Meaning.{wrote};
-ghost use Rattle.fields.specs.Cryosat.{slip, read, write};
+ghost use Rattle.fields.specs.Cryosat.{inLimits, frontOf, slip, read, write};
 use scales::Refusal;
 use scales::Written;
 
@@ -16,34 +18,47 @@ pub enum Parted {
     Refused(Refusal),
 }
 
+// Are the two fields that have a limit below it?
+pub(crate) fn in_limits(millisecond: u32, microsecond: u16) -> bool
+    ensures { λ r. ⌜ r ≡ inLimits millisecond microsecond ⌝ }
+{
+    if millisecond < 86_400_000 {
+        microsecond < 1000
+    } else {
+        false
+    }
+}
+
+// The three fields that bytes begin with, or 3: SIRAL's begin so too.
+pub(crate) fn front(b: &[u8]) -> Parted
+    requires { ⌜ 8 ≤ length (now b) ⌝ }
+    ensures { λ r. ⌜ r ≡ frontOf (now (b .entry)) ⌝ }
+{
+    let millisecond = crate::part(b, 2, 4) as u32;
+    let microsecond = crate::part(b, 6, 2) as u16;
+    if !in_limits(millisecond, microsecond) {
+        return Parted::Refused(Refusal::Field);
+    }
+    Parted::Fields(Fields {
+        day: crate::part(b, 0, 2) as u16,
+        millisecond,
+        microsecond,
+    })
+}
+
 pub fn read(b: &[u8]) -> Parted
     ensures { λ r. ⌜ slip r ≡ read (now (b .entry)) ⌝ }
 {
     if b.len() != 8 {
         return Parted::Refused(Refusal::Length);
     }
-    let millisecond = crate::part(b, 2, 4);
-    if 86_400_000 <= millisecond {
-        return Parted::Refused(Refusal::Field);
-    }
-    let microsecond = crate::part(b, 6, 2);
-    if 1000 <= microsecond {
-        return Parted::Refused(Refusal::Field);
-    }
-    Parted::Fields(Fields {
-        day: crate::part(b, 0, 2) as u16,
-        millisecond: millisecond as u32,
-        microsecond: microsecond as u16,
-    })
+    front(b)
 }
 
 pub fn write(f: Fields, out: &mut [u8]) -> Written
     ensures { λ r. ⌜ wrote r (now (out .exit)) ≡ write f (now (out .entry)) ⌝ }
 {
-    if 86_400_000 <= f.millisecond {
-        return Written::Refused(Refusal::Field);
-    }
-    if 1000 <= f.microsecond {
+    if !in_limits(f.millisecond, f.microsecond) {
         return Written::Refused(Refusal::Field);
     }
     crate::place_two(

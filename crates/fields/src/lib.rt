@@ -17,7 +17,7 @@ pub mod proteus;
 pub mod sbt;
 pub mod siral;
 
-// A count as the bytes have it, or a refusal.
+// A count, or a refusal.
 pub enum Counting {
     Count(u64),
     Refused(Refusal),

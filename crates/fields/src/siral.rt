@@ -2,6 +2,7 @@
 ghost use mathlib.Core.Path.{_≡_};
 ghost use Rattle.scales.specs.Meaning.{wrote};
 ghost use Rattle.fields.specs.Siral.{slip, read, write};
+use crate::cryosat::Parted as Front;
 use scales::Refusal;
 use scales::Written;
 
@@ -23,29 +24,21 @@ pub fn read(b: &[u8]) -> Parted
     if b.len() != 10 {
         return Parted::Refused(Refusal::Length);
     }
-    let millisecond = crate::part(b, 2, 4);
-    if 86_400_000 <= millisecond {
-        return Parted::Refused(Refusal::Field);
+    match crate::cryosat::front(b) {
+        Front::Fields(f) => Parted::Fields(Fields {
+            day: f.day,
+            millisecond: f.millisecond,
+            microsecond: f.microsecond,
+            extra: crate::part(b, 8, 2) as u16,
+        }),
+        Front::Refused(r) => Parted::Refused(r),
     }
-    let microsecond = crate::part(b, 6, 2);
-    if 1000 <= microsecond {
-        return Parted::Refused(Refusal::Field);
-    }
-    Parted::Fields(Fields {
-        day: crate::part(b, 0, 2) as u16,
-        millisecond: millisecond as u32,
-        microsecond: microsecond as u16,
-        extra: crate::part(b, 8, 2) as u16,
-    })
 }
 
 pub fn write(f: Fields, out: &mut [u8]) -> Written
     ensures { λ r. ⌜ wrote r (now (out .exit)) ≡ write f (now (out .entry)) ⌝ }
 {
-    if 86_400_000 <= f.millisecond {
-        return Written::Refused(Refusal::Field);
-    }
-    if 1000 <= f.microsecond {
+    if !crate::cryosat::in_limits(f.millisecond, f.microsecond) {
         return Written::Refused(Refusal::Field);
     }
     let front = (f.day as u64) * 4_294_967_296 + (f.millisecond as u64);

@@ -5,7 +5,7 @@ use Prim.Native.Nat.{ℕ, zero, suc, _+_, _-_, _*_, _/_, _%_, _^_}
 use lib.Dec.{leb}
 use lib.IntN.{ℤ, pos, _+ℤ_}
 use Rattle.axis.specs.Meaning.{placeOfDay}
-use Rattle.scales.specs.Meaning.{Moment, Judged, given, gives, spanning}
+use Rattle.scales.specs.Meaning.{Moment, Judged, spanning}
 use Rattle.scales.specs.declared.Scale.{Scale}
 
 -- ---- a fraction of n bits: f stands for f / 2 ^ n seconds, as a whole microsecond

@@ -1,34 +1,58 @@
 // CryoSat general: TAI days, milliseconds and microseconds from 1 January 2000.
 ghost use mathlib.Core.Path.{_≡_};
-ghost use Prim.Native.Nat.{_<_};
-ghost use Rattle.scales.specs.Meaning.{slip, wrote};
+ghost use Prim.Native.Nat.{_+_, _*_, _<_};
+ghost use Rattle.scales.specs.Meaning.{outcome, slip, wrote};
+ghost use Rattle.fields.specs.Meaning.{valued, countSlip};
+ghost use Rattle.layouts.specs.Due.{since2000};
 ghost use Rattle.layouts.specs.Cryosat.{fieldsAt, read, write};
+use fields::Counting;
 use fields::cryosat::Fields;
 use fields::cryosat::Parted;
 use scales::Dated;
-use scales::DatedTai;
 use scales::Handed;
 use scales::Refusal;
 use scales::Scale;
 use scales::Written;
 
+// The microseconds of the three fields.
+pub(crate) fn micros(day: u16, millisecond: u32, microsecond: u16) -> u64
+    ensures { λ r. ⌜ r ≡ day * 86400000000 + millisecond * 1000 + microsecond ⌝ }
+{
+    (day as u64) * 86_400_000_000 + (millisecond as u64) * 1000 + (microsecond as u64)
+}
+
 pub fn read(b: &[u8]) -> Dated
     ensures { λ r. ⌜ slip r ≡ read (now (b .entry)) ⌝ }
 {
     match fields::cryosat::read(b) {
-        Parted::Fields(f) => {
-            let n = (f.day as u64) * 86_400_000_000
-                + (f.millisecond as u64) * 1000
-                + (f.microsecond as u64);
-            // day 0
-            crate::since(Scale::Tai, 40000, n)
-        }
+        // day 0
+        Parted::Fields(f) => crate::since(
+            Scale::Tai,
+            40000,
+            micros(f.day, f.millisecond, f.microsecond),
+        ),
         Parted::Refused(r) => Dated::Refused(r, Scale::Tai),
     }
 }
 
+// The microseconds since day 0 of a handed TAI time, or 4, 7, 12.
+pub(crate) fn since_2000(h: Handed) -> Counting
+    ensures { λ r. ⌜ countSlip r ≡ valued 0 (outcome (since2000 h)) ⌝ }
+{
+    match crate::due(h, Scale::Tai) {
+        Counting::Count(n) => {
+            // 40,000 days: from day -40000 to day 0
+            if n < 3_456_000_000_000_000 {
+                return Counting::Refused(Refusal::Image);
+            }
+            Counting::Count(n - 3_456_000_000_000_000)
+        }
+        Counting::Refused(r) => Counting::Refused(r),
+    }
+}
+
 // The fields of n microseconds since day 0.
-fn fields_at(n: u64) -> Fields
+pub(crate) fn fields_at(n: u64) -> Fields
     requires { ⌜ n < 5662310400000000 ⌝ }
     ensures { λ r. ⌜ r ≡ fieldsAt n ⌝ }
 {
@@ -42,14 +66,8 @@ fn fields_at(n: u64) -> Fields
 pub fn write(h: Handed, out: &mut [u8]) -> Written
     ensures { λ r. ⌜ wrote r (now (out .exit)) ≡ write h (now (out .entry)) ⌝ }
 {
-    match crate::due_tai(h) {
-        DatedTai::At(t) => {
-            // 40,000 days: from day -40000 to day 0
-            if t.0 < 3_456_000_000_000_000 {
-                return Written::Refused(Refusal::Image);
-            }
-            fields::cryosat::write(fields_at(t.0 - 3_456_000_000_000_000), out)
-        }
-        DatedTai::Refused(r) => Written::Refused(r),
+    match since_2000(h) {
+        Counting::Count(n) => fields::cryosat::write(fields_at(n), out),
+        Counting::Refused(r) => Written::Refused(r),
     }
 }

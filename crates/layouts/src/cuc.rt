@@ -3,10 +3,10 @@ ghost use mathlib.Core.Path.{_≡_};
 ghost use Prim.Native.Nat.{_<_};
 ghost use Rattle.scales.specs.Meaning.{slip, wrote};
 ghost use Rattle.layouts.specs.Cuc.{fieldsAt, read, write};
+use fields::Counting;
 use fields::cuc::Fields;
 use fields::cuc::Parted;
 use scales::Dated;
-use scales::DatedGps;
 use scales::Handed;
 use scales::Scale;
 use scales::Written;
@@ -38,9 +38,9 @@ fn fields_at(n: u64) -> Fields
 pub fn write(h: Handed, out: &mut [u8]) -> Written
     ensures { λ r. ⌜ wrote r (now (out .exit)) ≡ write h (now (out .entry)) ⌝ }
 {
-    match crate::due_gps(h) {
+    match crate::due(h, Scale::Gps) {
         // 32,700 days: from day -40000 to day -7300
-        DatedGps::At(t) => fields::cuc::write(fields_at(t.0 - 2_825_280_000_000_000), out),
-        DatedGps::Refused(r) => Written::Refused(r),
+        Counting::Count(n) => fields::cuc::write(fields_at(n - 2_825_280_000_000_000), out),
+        Counting::Refused(r) => Written::Refused(r),
     }
 }

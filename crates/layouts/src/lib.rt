@@ -2,14 +2,13 @@
 ghost use mathlib.Core.Path.{_≡_};
 ghost use Prim.Native.Nat.{_≤_, _<_};
 ghost use Rattle.axis.specs.Meaning.{dayAt};
-ghost use Rattle.scales.specs.Meaning.{slip, spanned, typedTai, typedUtc, typedGps};
+ghost use Rattle.scales.specs.Meaning.{outcome, slip, spanned, timeCount};
+ghost use Rattle.fields.specs.Meaning.{valued, countSlip};
 ghost use Rattle.layouts.specs.Meaning.{momentFrom, fractionMicros, fractionAt};
-ghost use Rattle.layouts.specs.Due.{Due};
+ghost use Rattle.layouts.specs.Due.{dueIn};
 use decimal::Taken;
+use fields::Counting;
 use scales::Dated;
-use scales::DatedGps;
-use scales::DatedTai;
-use scales::DatedUtc;
 use scales::Handed;
 use scales::Record;
 use scales::Refusal;
@@ -45,45 +44,29 @@ fn fraction_at(micros: u64) -> u16
     ((micros * 65536 + 65535) / 1_000_000) as u16
 }
 
-// A handed time where a TAI time is due: 4, 7, 12, or its count. So the next two, for UTC and GPS.
-fn due_tai(h: Handed) -> DatedTai
-    ensures { λ r. ⌜ Due Scale.Tai h (typedTai r) ⌝ }
+// The count of a time in its own scale.
+fn count(t: Time) -> u64
+    ensures { λ r. ⌜ r ≡ timeCount t ⌝ }
 {
-    match decimal::take(h) {
-        Taken::NotFinite(_) => DatedTai::Refused(Refusal::NotFinite),
-        Taken::Outside(_) => DatedTai::Refused(Refusal::Span),
-        Taken::At(t) => match t {
-            Time::Tai(x) => DatedTai::At(x),
-            Time::Utc(_) => DatedTai::Refused(Refusal::Image),
-            Time::Gps(_) => DatedTai::Refused(Refusal::Image),
-        },
+    match t {
+        Time::Tai(x) => x.0,
+        Time::Utc(x) => x.0,
+        Time::Gps(x) => x.0,
     }
 }
 
-fn due_utc(h: Handed) -> DatedUtc
-    ensures { λ r. ⌜ Due Scale.Utc h (typedUtc r) ⌝ }
+// The count of a handed time where a time of a scale is due, or 4, 7, 12.
+fn due(h: Handed, scale: Scale) -> Counting
+    ensures { λ r. ⌜ countSlip r ≡ valued 0 (outcome (dueIn scale h)) ⌝ }
 {
     match decimal::take(h) {
-        Taken::NotFinite(_) => DatedUtc::Refused(Refusal::NotFinite),
-        Taken::Outside(_) => DatedUtc::Refused(Refusal::Span),
-        Taken::At(t) => match t {
-            Time::Tai(_) => DatedUtc::Refused(Refusal::Image),
-            Time::Utc(x) => DatedUtc::At(x),
-            Time::Gps(_) => DatedUtc::Refused(Refusal::Image),
-        },
-    }
-}
-
-fn due_gps(h: Handed) -> DatedGps
-    ensures { λ r. ⌜ Due Scale.Gps h (typedGps r) ⌝ }
-{
-    match decimal::take(h) {
-        Taken::NotFinite(_) => DatedGps::Refused(Refusal::NotFinite),
-        Taken::Outside(_) => DatedGps::Refused(Refusal::Span),
-        Taken::At(t) => match t {
-            Time::Tai(_) => DatedGps::Refused(Refusal::Image),
-            Time::Utc(_) => DatedGps::Refused(Refusal::Image),
-            Time::Gps(x) => DatedGps::At(x),
-        },
+        Taken::NotFinite(_) => Counting::Refused(Refusal::NotFinite),
+        Taken::Outside(_) => Counting::Refused(Refusal::Span),
+        Taken::At(t) => {
+            if t.scale().code() == scale.code() {
+                return Counting::Count(count(t));
+            }
+            Counting::Refused(Refusal::Image)
+        }
     }
 }

@@ -1,12 +1,14 @@
 // Proteus, SMOS: UTC in weeks of 604,800 s from day -7300, with the bit H3. Neither way uses a leap list.
 ghost use mathlib.Core.Path.{_≡_};
 ghost use Prim.Native.Nat.{_<_};
-ghost use Rattle.scales.specs.Meaning.{wrote};
+ghost use Rattle.scales.specs.Meaning.{outcome, wrote};
+ghost use Rattle.fields.specs.Meaning.{valued, countSlip};
+ghost use Rattle.layouts.specs.Due.{since1980};
 ghost use Rattle.layouts.specs.Proteus.{slip, fieldsAt, read, write};
+use fields::Counting;
 use fields::proteus::Fields;
 use fields::proteus::Parted;
 use scales::Dated;
-use scales::DatedUtc;
 use scales::Handed;
 use scales::Record;
 use scales::Refusal;
@@ -38,6 +40,30 @@ pub fn read(b: &[u8]) -> ProteusDated
     }
 }
 
+// The microseconds since day -7300 of a handed UTC time that has an image, days of 86,400 s; or 4, 7, 12.
+fn since_1980(h: Handed) -> Counting
+    ensures { λ r. ⌜ countSlip r ≡ valued 0 (outcome (since1980 h)) ⌝ }
+{
+    match crate::due(h, Scale::Utc) {
+        Counting::Count(n) => {
+            // The day by its place on the axis: -7300 stands at 32700, 21371 at 61371.
+            let day = n / Utc::BOUND;
+            let micro = n % Utc::BOUND;
+            if day < 32700 {
+                return Counting::Refused(Refusal::Image);
+            }
+            if 61371 < day {
+                return Counting::Refused(Refusal::Image);
+            }
+            if 86_400_000_000 <= micro {
+                return Counting::Refused(Refusal::Image);
+            }
+            Counting::Count((day - 32700) * 86_400_000_000 + micro)
+        }
+        Counting::Refused(r) => Counting::Refused(r),
+    }
+}
+
 // The last fields that are not later than n microseconds since day -7300.
 fn fields_at(h3: bool, n: u64) -> Fields
     requires { ⌜ n < 2477260800000000 ⌝ }
@@ -54,22 +80,8 @@ fn fields_at(h3: bool, n: u64) -> Fields
 pub fn write(h: Handed, h3: bool, out: &mut [u8]) -> Written
     ensures { λ r. ⌜ wrote r (now (out .exit)) ≡ write h h3 (now (out .entry)) ⌝ }
 {
-    match crate::due_utc(h) {
-        DatedUtc::At(t) => {
-            // The day by its place on the axis: -7300 stands at 32700, 21371 at 61371.
-            let day = t.0 / Utc::BOUND;
-            let micro = t.0 % Utc::BOUND;
-            if day < 32700 {
-                return Written::Refused(Refusal::Image);
-            }
-            if 61371 < day {
-                return Written::Refused(Refusal::Image);
-            }
-            if 86_400_000_000 <= micro {
-                return Written::Refused(Refusal::Image);
-            }
-            fields::proteus::write(fields_at(h3, (day - 32700) * 86_400_000_000 + micro), out)
-        }
-        DatedUtc::Refused(r) => Written::Refused(r),
+    match since_1980(h) {
+        Counting::Count(n) => fields::proteus::write(fields_at(h3, n), out),
+        Counting::Refused(r) => Written::Refused(r),
     }
 }

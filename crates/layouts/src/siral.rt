@@ -3,12 +3,11 @@ ghost use mathlib.Core.Path.{_≡_};
 ghost use Prim.Native.Nat.{_<_};
 ghost use Rattle.scales.specs.Meaning.{slip, wrote};
 ghost use Rattle.layouts.specs.Siral.{fieldsAt, read, write};
+use fields::Counting;
 use fields::siral::Fields;
 use fields::siral::Parted;
 use scales::Dated;
-use scales::DatedTai;
 use scales::Handed;
-use scales::Refusal;
 use scales::Scale;
 use scales::Written;
 
@@ -17,9 +16,7 @@ pub fn read(b: &[u8]) -> Dated
 {
     match fields::siral::read(b) {
         Parted::Fields(f) => {
-            let n = (f.day as u64) * 86_400_000_000
-                + (f.millisecond as u64) * 1000
-                + (f.microsecond as u64);
+            let n = crate::cryosat::micros(f.day, f.millisecond, f.microsecond);
             // day 0
             crate::since(Scale::Tai, 40000, n + (f.extra as u64) * 33 / 16)
         }
@@ -27,15 +24,16 @@ pub fn read(b: &[u8]) -> Dated
     }
 }
 
-// The fields of n microseconds since day 0.
+// The fields of n microseconds since day 0: CryoSat's, and no extra units.
 fn fields_at(n: u64) -> Fields
     requires { ⌜ n < 5662310400000000 ⌝ }
     ensures { λ r. ⌜ r ≡ fieldsAt n ⌝ }
 {
+    let f = crate::cryosat::fields_at(n);
     Fields {
-        day: (n / 86_400_000_000) as u16,
-        millisecond: (n % 86_400_000_000 / 1000) as u32,
-        microsecond: (n % 1000) as u16,
+        day: f.day,
+        millisecond: f.millisecond,
+        microsecond: f.microsecond,
         extra: 0,
     }
 }
@@ -43,14 +41,8 @@ fn fields_at(n: u64) -> Fields
 pub fn write(h: Handed, out: &mut [u8]) -> Written
     ensures { λ r. ⌜ wrote r (now (out .exit)) ≡ write h (now (out .entry)) ⌝ }
 {
-    match crate::due_tai(h) {
-        DatedTai::At(t) => {
-            // 40,000 days: from day -40000 to day 0
-            if t.0 < 3_456_000_000_000_000 {
-                return Written::Refused(Refusal::Image);
-            }
-            fields::siral::write(fields_at(t.0 - 3_456_000_000_000_000), out)
-        }
-        DatedTai::Refused(r) => Written::Refused(r),
+    match crate::cryosat::since_2000(h) {
+        Counting::Count(n) => fields::siral::write(fields_at(n), out),
+        Counting::Refused(r) => Written::Refused(r),
     }
 }

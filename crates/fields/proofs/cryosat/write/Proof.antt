@@ -1,30 +1,24 @@
 -- `fields::cryosat::write` meets its contract. Assumes nothing.
 use denote.Ref.{now}
-use mathlib.Core.Path.{refl}
+use mathlib.Core.Path.{refl, sym, _∙_}
 use native.Mathlib.Omega.{arith}
-use borrow.Author.Tests.{lt-ltb, le-ltb}
+use borrow.Author.Tests.{not-true, not-false}
 use Rattle.scales.specs.Order.{here}
 use Rattle.scales.specs.declared.Refusal.the-variants as R
-use Rattle.fields.specs.Cryosat.{inLimits}
-use Rattle.fields.specs.Cryosat.{writing, write}
-use Rattle.fields.proofs.Ways.{keeps, over-first, over-second, within, three}
+use Rattle.fields.specs.Cryosat.{inLimits, writing, write}
+use Rattle.fields.proofs.Ways.{keeps, three}
 use borrow.Author.Needs.{needs}
 use Rattle.fields.proofs.cryosat.write.Statement.{statement}
 use Rattle.fields.proofs.cryosat.write.Tie as tie
+
+in-limits-requires : tie.Need-in-limits-requires
+in-limits-requires c κs = search needs
 
 returns : tie.Need-returns
 unfolding write
 returns c =
     let a = c .before .before .before .args in
-    keeps (now (a .out)) (writing (a .f) (now (a .out))) R.Field (here (over-first _ _ (le-ltb (a .f .millisecond) 86400000 (c .if1 .taken))))
-
-returns-2 : tie.Need-returns-2
-unfolding write
-returns-2 c =
-    let l = c .before .before in
-    let a = l .before .before .before .args in
-    keeps (now (a .out)) (writing (a .f) (now (a .out))) R.Field
-    (here (over-second _ _ (lt-ltb (a .f .millisecond) 86400000 (l .if1 .left)) (le-ltb (a .f .microsecond) 1000 (c .if2 .taken))))
+    keeps (now (a .out)) (writing (a .f) (now (a .out))) R.Field (here (sym (c .before .in-limits .ensures) ∙ not-true _ (c .if1 .taken)))
 
 cast-place-two : tie.Need-cast-place-two
 cast-place-two c = search needs
@@ -47,26 +41,24 @@ place-two-requires c κs = search needs
 same-length : tie.Need-same-length
 same-length c = search needs
 
-returns-3 : tie.Need-returns-3
+returns-2 : tie.Need-returns-2
 unfolding write
-returns-3 c =
+returns-2 c =
     let p = c .before .before in
     let k = p .before .before in
     let e = k .before .before .before in
-    let l = e .before .before in
-    let a = l .before .before .before .args in
-    let o = now (a .out) in
-    let g = k .struct-known5 .given in
-    three o (inLimits (a .f .millisecond) (a .f .microsecond))
-    (within _ _ (lt-ltb (a .f .millisecond) 86400000 (l .if1 .left)) (lt-ltb (a .f .microsecond) 1000 (e .if2 .left)))
+    let t = e .before in
+    let a = t .before .before .args in
+    let g = k .struct-known3 .given in
+    three (now (a .out)) (inLimits (a .f .millisecond) (a .f .microsecond)) (sym (t .in-limits .ensures) ∙ not-false _ (e .if1 .left))
     (a .f .day) (a .f .day) (a .f .millisecond) (a .f .microsecond) refl (omega (arith, g .1 .0)) (omega (arith, g .1 .1 .0)) (p .place-two .ensures)
 
 pub write-spec : {M : Type 1} → statement M
 write-spec =
     tie.close
     (tie.spec
+    in-limits-requires
     returns
-    returns-2
     cast-place-two
     cast-place-two-2
     mul-place-two
@@ -74,4 +66,4 @@ write-spec =
     add-place-two
     place-two-requires
     same-length
-    returns-3)
+    returns-2)

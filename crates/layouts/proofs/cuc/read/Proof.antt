@@ -2,11 +2,8 @@
 use denote.Ref.{now}
 use mathlib.Core.Path.{refl, sym, ap, _∙_}
 use Prim.Native.Nat.{ℕ, _+_, _*_}
-use Rattle.scales.specs.Meaning.{spanned}
 use Rattle.scales.specs.declared.Scale.the-variants as S
 use Rattle.fields.specs.Cuc.{reading as fieldsReading, empty, slip as fieldsSlip, read as fieldsRead}
-use Rattle.fields.specs.declared.cuc.Fields.{Fields}
-use Rattle.layouts.specs.Meaning.{momentFrom}
 use Rattle.layouts.specs.Chain.{read-no, read-at}
 use Rattle.layouts.specs.Cuc.{epoch, microsOf, read}
 use borrow.Author.Needs.{needs}
@@ -45,16 +42,15 @@ returns c =
     let b = k .before .before in
     let s = now (b .before .before .args .b) in
     c .since .ensures
-    ∙ ap (λ (n : ℕ). spanned S.Gps (momentFrom epoch n .day) (momentFrom epoch n .micro)) (ap (λ (x : ℕ). f .seconds * 1000000 + x) (c .before .fraction-micros .ensures))
-    ∙ read-at S.Gps empty (λ (f : Fields). momentFrom epoch (microsOf f)) (fieldsReading s) refl f (sym (ap fieldsSlip (k .f .given .1)) ∙ b .read .ensures)
+    ∙ read-at S.Gps epoch microsOf empty (fieldsReading s) refl f (sym (ap fieldsSlip (k .f .given .1)) ∙ b .read .ensures) _
+    (ap (λ (x : ℕ). f .seconds * 1000000 + x) (c .before .fraction-micros .ensures))
 
 returns-2 : tie.Need-returns-2
 unfolding read fieldsRead
 returns-2 c =
     let k = c .before in
     let b = k .before .before in
-    let s = now (b .before .before .args .b) in
-    read-no S.Gps empty (λ (f : Fields). momentFrom epoch (microsOf f)) (fieldsReading s) (k .r .given .0 .0) (sym (ap fieldsSlip (k .r .given .1)) ∙ b .read .ensures)
+    read-no S.Gps epoch microsOf empty (fieldsReading (now (b .before .before .args .b))) (k .r .given .0 .0) (sym (ap fieldsSlip (k .r .given .1)) ∙ b .read .ensures)
 
 pub read-spec : {M : Type 1} → statement M
 read-spec =

@@ -1,38 +1,40 @@
 -- `layouts::cuc::write` meets its contract. Assumes nothing.
 use denote.Ref.{now}
-use mathlib.Core.Path.{ap, _∙_}
-use Rattle.scales.specs.Meaning.{sameScale, outcome, written, typedGps}
+use mathlib.Core.Path.{_≡_, refl, sym, ap, _∙_}
+use mathlib.Core.Bool.{true}
+use Prim.Native.Nat.{ℕ}
+use Rattle.scales.specs.Meaning.{outcome}
 use Rattle.scales.specs.declared.Scale.the-variants as S
-use Rattle.fields.specs.Meaning.{placing}
-use Rattle.fields.specs.Cuc.{imageOf, write as fieldsWrite}
+use Rattle.decimal.specs.Meaning.{dayOf, microOf}
+use Rattle.fields.specs.Meaning.{some, valued, slipOf, countSlip}
+use Rattle.fields.specs.Cuc.{write as fieldsWrite}
 use Rattle.fields.specs.declared.cuc.Fields.{Fields}
-use Rattle.decimal.specs.Meaning.{scaleOf, dayOf, microOf}
-use Rattle.layouts.specs.Due.{write-no, write-at}
+use Rattle.layouts.specs.Chain.{write-no, write-at}
+use Rattle.layouts.specs.Due.{dueIn, HeldIn, held-in}
 use Rattle.layouts.specs.Cuc.{fieldsAt, imageAt, write}
-use Rattle.layouts.proofs.Ways.{held-at, not-held, cuc-from, cuc-below, cuc-micros}
+use Rattle.layouts.proofs.Ways.{cuc-from, cuc-below, cuc-micros}
 use borrow.Author.Needs.{needs}
 use Rattle.layouts.proofs.cuc.write.Statement.{statement}
 use Rattle.layouts.proofs.cuc.write.Tie as tie
 
-due-gps-requires : tie.Need-due-gps-requires
-due-gps-requires c κs = search needs
+due-requires : tie.Need-due-requires
+due-requires c κs = search needs
 
-enum-known-t : tie.Need-enum-known-t
-enum-known-t c = search needs
+enum-known-n : tie.Need-enum-known-n
+enum-known-n c = search needs
+
+-- the count that was taken
+taken : (c : tie.After-n) → slipOf 0 (some (c .n .given .0 .0)) ≡ valued 0 (outcome (dueIn S.Gps (c .before .before .before .before .args .h)))
+taken c = sym (ap countSlip (c .n .given .1)) ∙ c .before .before .due .ensures
+
+known : (c : tie.After-n) → HeldIn S.Gps (c .before .before .before .before .args .h) (c .n .given .0 .0)
+known c = held-in S.Gps (c .before .before .before .before .args .h) (c .n .given .0 .0) (taken c)
 
 sub-fields-at : tie.Need-sub-fields-at
-sub-fields-at c =
-    let k = c .before .before in
-    let b = k .before .before in
-    let h = b .before .before .args .h in
-    cuc-from h (k .t .given .0 .0 .0) (held-at S.Gps h _ (b .due-gps .ensures) (k .t .given .0 .0 .0) (ap typedGps (k .t .given .1)))
+sub-fields-at c = let k = c .before in cuc-from (k .before .before .before .before .args .h) (k .n .given .0 .0) (known k)
 
 fields-at-requires : tie.Need-fields-at-requires
-fields-at-requires c κs =
-    let k = c .before .before in
-    let b = k .before .before in
-    let h = b .before .before .args .h in
-    cuc-below h (k .t .given .0 .0 .0) (held-at S.Gps h _ (b .due-gps .ensures) (k .t .given .0 .0 .0) (ap typedGps (k .t .given .1)))
+fields-at-requires c κs = let k = c .before in cuc-below (k .before .before .before .before .args .h) (k .n .given .0 .0) (known k)
 
 write-requires : tie.Need-write-requires
 write-requires c κs = search needs
@@ -48,16 +50,13 @@ unfolding write fieldsWrite
 returns c =
     let w = c .before .before in
     let g = w .before .before in
-    let k = g .before .before .before in
-    let b = k .before .before in
-    let a = b .before .before .args in
+    let k = g .before .before in
+    let a = k .before .before .before .before .args in
     let h = a .h in
     let o = now (a .out) in
-    let n = k .t .given .0 .0 .0 in
-    let d = held-at S.Gps h _ (b .due-gps .ensures) n (ap typedGps (k .t .given .1)) in
-    w .write .ensures
-    ∙ ap (λ (f : Fields). written o (outcome (placing (imageOf f) o))) (g .fields-at .ensures ∙ ap fieldsAt (cuc-micros h n d))
-    ∙ write-at S.Gps h (sameScale S.Gps (scaleOf h)) (λ e. e) (imageAt (dayOf h) (microOf h)) o n d (d .scale)
+    let n = k .n .given .0 .0 in
+    write-at (λ (n : ℕ). imageAt (dayOf h) (microOf h)) o (dueIn S.Gps h) refl n (taken k) true refl
+    (w .write .ensures ∙ ap (λ (f : Fields). fieldsWrite f o) (g .fields-at .ensures ∙ ap fieldsAt (cuc-micros h n (known k))))
 
 returns-2 : tie.Need-returns-2
 unfolding write
@@ -66,15 +65,14 @@ returns-2 c =
     let b = k .before .before in
     let a = b .before .before .args in
     let h = a .h in
-    write-no S.Gps h (sameScale S.Gps (scaleOf h)) (λ e. e) (imageAt (dayOf h) (microOf h)) (now (a .out)) (k .r .given .0 .0)
-    (not-held S.Gps h _ (b .due-gps .ensures) (k .r .given .0 .0) (ap typedGps (k .r .given .1)))
+    write-no (λ (n : ℕ). imageAt (dayOf h) (microOf h)) (now (a .out)) (dueIn S.Gps h) (k .r .given .0 .0) (sym (ap countSlip (k .r .given .1)) ∙ b .due .ensures)
 
 pub write-spec : {M : Type 1} → statement M
 write-spec =
     tie.close
     (tie.spec
-    due-gps-requires
-    enum-known-t
+    due-requires
+    enum-known-n
     sub-fields-at
     fields-at-requires
     write-requires

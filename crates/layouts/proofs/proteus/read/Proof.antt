@@ -1,12 +1,13 @@
 -- `layouts::proteus::read` meets its contract. Assumes nothing.
 use denote.Ref.{now}
-use mathlib.Core.Path.{sym, ap, _∙_}
+use mathlib.Core.Path.{_≡_, sym, ap, _∙_}
 use Prim.Native.Nat.{ℕ, _+_, _*_}
-use Rattle.scales.specs.Meaning.{slip as datedSlip, spanned}
+use Rattle.scales.specs.Meaning.{outcome, slip, spanned}
 use Rattle.scales.specs.declared.Scale.the-variants as S
-use Rattle.fields.specs.Proteus.{slip as fieldsSlip, read as fieldsRead}
+use Rattle.fields.specs.Meaning.{some, valued, slipOf}
+use Rattle.fields.specs.Proteus.{reading, empty, slip as fieldsSlip, read as fieldsRead}
 use Rattle.layouts.specs.Meaning.{momentFrom}
-use Rattle.layouts.specs.Proteus.{epoch, read}
+use Rattle.layouts.specs.Proteus.{epoch, momentOf}
 use Rattle.layouts.specs.Stamps.{stamp-at, stamp-no, stamp-refused}
 use borrow.Author.Needs.{needs}
 use Rattle.layouts.proofs.proteus.read.Statement.{statement}
@@ -51,41 +52,38 @@ enum-known-r-2 c = search needs
 enum-known-r-3 : tie.Need-enum-known-r-3
 enum-known-r-3 c = search needs
 
-returns : tie.Need-returns
+-- the fields that were read, and their time
+known : (c : tie.After-f) → slipOf empty (some (c .f .given .0 .0)) ≡ valued empty (outcome (reading (now (c .before .before .before .before .args .b))))
 unfolding fieldsRead
+known c = sym (ap fieldsSlip (c .f .given .1)) ∙ c .before .before .read .ensures
+
+dated : (c : tie.After-since) → let f = c .before .before .before .before .before .f .given .0 .0 in
+    slip (c .since .result) ≡ spanned S.Utc (momentOf f .day) (momentOf f .micro)
+dated c =
+    let f = c .before .before .before .before .before .f .given .0 .0 in
+    c .since .ensures
+    ∙ ap (λ (x : ℕ). let m = momentFrom epoch ((f .week * 604800 + f .second) * 1000000 + x) in spanned S.Utc (m .day) (m .micro)) (c .before .fraction-micros .ensures)
+
+returns : tie.Need-returns
 returns c =
     let i = c .before .before .before in
     let k = i .before .before .before .before .before in
-    let f = k .f .given .0 .0 in
-    let b = k .before .before in
-    let s = now (b .before .before .args .b) in
-    stamp-at s f (sym (ap fieldsSlip (k .f .given .1)) ∙ b .read .ensures) (c .before .r .given .0 .0)
-    (sym (ap datedSlip (c .before .r .given .1)) ∙ i .since .ensures
-    ∙ ap (λ (x : ℕ). spanned S.Utc (momentFrom epoch ((f .week * 604800 + f .second) * 1000000 + x) .day)
-    (momentFrom epoch ((f .week * 604800 + f .second) * 1000000 + x) .micro))
-    (i .before .fraction-micros .ensures))
+    stamp-at (now (k .before .before .before .before .args .b)) (k .f .given .0 .0) (known k) (c .before .r .given .0 .0)
+    (sym (ap slip (c .before .r .given .1)) ∙ dated i)
 
 returns-2 : tie.Need-returns-2
-unfolding fieldsRead
 returns-2 c =
     let i = c .before .before .before in
     let k = i .before .before .before .before .before in
-    let f = k .f .given .0 .0 in
-    let b = k .before .before in
-    let s = now (b .before .before .args .b) in
-    stamp-no s f (sym (ap fieldsSlip (k .f .given .1)) ∙ b .read .ensures) (c .before .r2 .given .0 .0) (c .before .r2 .given .0 .1 .0)
-    (sym (ap datedSlip (c .before .r2 .given .1)) ∙ i .since .ensures
-    ∙ ap (λ (x : ℕ). spanned S.Utc (momentFrom epoch ((f .week * 604800 + f .second) * 1000000 + x) .day)
-    (momentFrom epoch ((f .week * 604800 + f .second) * 1000000 + x) .micro))
-    (i .before .fraction-micros .ensures))
+    stamp-no (now (k .before .before .before .before .args .b)) (k .f .given .0 .0) (known k) (c .before .r2 .given .0 .0) (c .before .r2 .given .0 .1 .0)
+    (sym (ap slip (c .before .r2 .given .1)) ∙ dated i)
 
 returns-3 : tie.Need-returns-3
 unfolding fieldsRead
 returns-3 c =
     let k = c .before in
     let b = k .before .before in
-    let s = now (b .before .before .args .b) in
-    stamp-refused s (k .r3 .given .0 .0) (sym (ap fieldsSlip (k .r3 .given .1)) ∙ b .read .ensures)
+    stamp-refused (now (b .before .before .args .b)) (k .r3 .given .0 .0) (sym (ap fieldsSlip (k .r3 .given .1)) ∙ b .read .ensures)
 
 pub read-spec : {M : Type 1} → statement M
 read-spec =

@@ -1,16 +1,12 @@
 -- `layouts::siral::read` meets its contract. Assumes nothing.
 use denote.Ref.{now}
 use mathlib.Core.Path.{refl, sym, ap, _∙_}
-use Prim.Native.Nat.{ℕ, _+_, _*_}
-use Rattle.layouts.proofs.Ways.{siral-micros}
-use Rattle.scales.specs.Meaning.{spanned}
 use Rattle.scales.specs.declared.Scale.the-variants as S
 use Rattle.fields.specs.Siral.{reading as fieldsReading, empty, slip as fieldsSlip, read as fieldsRead}
-use Rattle.fields.specs.declared.siral.Fields.{Fields}
-use Rattle.layouts.specs.Meaning.{momentFrom}
 use Rattle.layouts.specs.Chain.{read-no, read-at}
 use Rattle.layouts.specs.Cryosat.{epoch}
 use Rattle.layouts.specs.Siral.{microsOf, read}
+use Rattle.layouts.proofs.Ways.{siral-micros}
 use borrow.Author.Needs.{needs}
 use Rattle.layouts.proofs.siral.read.Statement.{statement}
 use Rattle.layouts.proofs.siral.read.Tie as tie
@@ -21,26 +17,8 @@ read-requires c κs = search needs
 enum-known-f : tie.Need-enum-known-f
 enum-known-f c = search needs
 
-cast-n : tie.Need-cast-n
-cast-n c = search needs
-
-mul-n : tie.Need-mul-n
-mul-n c = search needs
-
-cast-n-2 : tie.Need-cast-n-2
-cast-n-2 c = search needs
-
-mul-n-2 : tie.Need-mul-n-2
-mul-n-2 c = search needs
-
-add-n : tie.Need-add-n
-add-n c = search needs
-
-cast-n-3 : tie.Need-cast-n-3
-cast-n-3 c = search needs
-
-add-n-2 : tie.Need-add-n-2
-add-n-2 c = search needs
+micros-requires : tie.Need-micros-requires
+micros-requires c κs = search needs
 
 cast-since : tie.Need-cast-since
 cast-since c = search needs
@@ -60,22 +38,20 @@ enum-known-r c = search needs
 returns : tie.Need-returns
 unfolding read fieldsRead
 returns c =
-    let k = c .before .before .before .before .before .before in
+    let m = c .before .before in
+    let k = m .before .before in
     let f = k .f .given .0 .0 in
     let b = k .before .before in
     let s = now (b .before .before .args .b) in
     c .since .ensures
-    ∙ ap (λ (n : ℕ). spanned S.Tai (momentFrom epoch n .day) (momentFrom epoch n .micro))
-    (siral-micros (f .day * 86400000000 + f .millisecond * 1000 + f .microsecond) (f .extra))
-    ∙ read-at S.Tai empty (λ (f : Fields). momentFrom epoch (microsOf f)) (fieldsReading s) refl f (sym (ap fieldsSlip (k .f .given .1)) ∙ b .read .ensures)
+    ∙ read-at S.Tai epoch microsOf empty (fieldsReading s) refl f (sym (ap fieldsSlip (k .f .given .1)) ∙ b .read .ensures) _ (siral-micros (m .micros .result) _ (f .extra) (m .micros .ensures))
 
 returns-2 : tie.Need-returns-2
 unfolding read fieldsRead
 returns-2 c =
     let k = c .before in
     let b = k .before .before in
-    let s = now (b .before .before .args .b) in
-    read-no S.Tai empty (λ (f : Fields). momentFrom epoch (microsOf f)) (fieldsReading s) (k .r .given .0 .0) (sym (ap fieldsSlip (k .r .given .1)) ∙ b .read .ensures)
+    read-no S.Tai epoch microsOf empty (fieldsReading (now (b .before .before .args .b))) (k .r .given .0 .0) (sym (ap fieldsSlip (k .r .given .1)) ∙ b .read .ensures)
 
 pub read-spec : {M : Type 1} → statement M
 read-spec =
@@ -83,13 +59,7 @@ read-spec =
     (tie.spec
     read-requires
     enum-known-f
-    cast-n
-    mul-n
-    cast-n-2
-    mul-n-2
-    add-n
-    cast-n-3
-    add-n-2
+    micros-requires
     cast-since
     mul-since
     add-since
