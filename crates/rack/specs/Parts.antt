@@ -48,7 +48,7 @@ siralFields v =
     }
 
 -- ---- writers
--- a field of 16 bits
+-- what a field of 16 bits holds
 abbrev narrow : ℕ → Bool
 narrow n = ltb n 65536
 

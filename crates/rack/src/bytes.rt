@@ -31,7 +31,7 @@ pub struct VrkWritten {
     pub length: u64,
 }
 
-// A number that stands for nothing.
+// The answer where a number stands for nothing.
 pub(crate) const REFUSED: VrkWritten = VrkWritten {
     refusal: 3,
     length: 0,

@@ -7,15 +7,16 @@ use lib.IntN.{pos}
 use lib.ListN.{getD}
 use Rattle.evidence.specs.ShutOut.{ShutOut, differ}
 use Rattle.octets.specs.Meaning.{number, field}
-use Rattle.scales.specs.Meaning.{Judged, outcome, dated, Wrote}
+use Rattle.scales.specs.Meaning.{Judged, Wrote}
 use Rattle.scales.specs.declared.Handed.{Handed}
 use Rattle.calendar.specs.Meaning.{leap, monthLength, lengthOf, firstDay, isDate, dayAfter, daysTo, walk, dayOfDate, dateOfDay}
 use Rattle.decimal.specs.Meaning.{plusZero}
 use Rattle.fields.specs.Sbt as Sbt
 use Rattle.layouts.specs.Cuc as Cuc
-use Rattle.text_read.specs.Meaning.{digitOf, twoOf, fourOf, names, letter, isNamed, seek, monthOf, hasMarks, microIn, stampIn, inLimits, prefixOf, hasPrefix, scaleIn, bodyIn, isPrefixRight, isBody, reading, readText}
+use Rattle.text_read.specs.Meaning.{digitOf, twoOf, fourOf, names, letter, isNamed, seek, monthOf, hasMarks, microIn, stampIn, inLimits, prefixOf, hasPrefix, scaleIn, bodyIn, isPrefixRight, isBody, readText}
 use Rattle.text_write.specs.Meaning.{textOf, writing}
-use Rattle.text_laws.specs.Wrong.{capitals, beforeGps}
+use Rattle.text_laws.specs.Computed.{reads}
+use Rattle.text_laws.specs.Wrong.{capitals, ownScale, beforeGps}
 use Rattle.rack.specs.Meaning.{timeOut}
 use Rattle.rack.specs.Bytes.{sbtOut, writes, handedWriting, proteusWriting}
 use Rattle.rack.specs.Parts.{cucFieldsWriting}
@@ -47,7 +48,10 @@ unfolding writes
 write-clears = (refl, refl, differ (λ (w : Wrote). getD (w .bytes) 0 0) (λ e. omega arith))
 
 -- ---- Proteus: H3 taken as its last bit
-pub h3-last-bit : ShutOut (writes (handedWriting (proteusWriting 2) strange) []) (untouched 3 []) (writes (handedWriting (proteusWriting (2 % 2)) (record { kind = 0; scale = 1; day = pos 0; micro = 0; decimal = plusZero })) []) (untouched 13 [])
+abbrev utc : VrkHanded
+utc = record { kind = 0; scale = 1; day = pos 0; micro = 0; decimal = plusZero }
+
+pub h3-last-bit : ShutOut (writes (handedWriting (proteusWriting 2) utc) []) (untouched 3 []) (writes (handedWriting (proteusWriting (2 % 2)) utc) []) (untouched 13 [])
 unfolding writes field
 h3-last-bit = (refl, refl, differ (λ (w : Wrote). w .number) (λ e. omega arith))
 
@@ -62,10 +66,7 @@ unfolding Sbt.read number
 tick-reversed = (refl, refl, differ (λ (c : VrkCount). c .count) (λ e. omega arith))
 
 -- ---- texts read: a refused text in the scale of its prefix, GPS=01-JAN-1972 00:00:00
-abbrev ownScale : List ℕ → VrkTime
-ownScale s = timeOut (dated (scaleIn s) (outcome (reading s [] [] (pos 0))))
-
-pub read-own-scale : ShutOut (timeOut (readText beforeGps [] [] (pos 0))) (record { refusal = 7; scale = 0; day = pos 0; micro = 0 }) (ownScale beforeGps) (record { refusal = 7; scale = 2; day = pos 0; micro = 0 })
+pub read-own-scale : ShutOut (timeOut (reads beforeGps)) (record { refusal = 7; scale = 0; day = pos 0; micro = 0 }) (timeOut (ownScale beforeGps)) (record { refusal = 7; scale = 2; day = pos 0; micro = 0 })
 unfolding readText isPrefixRight isBody scaleIn bodyIn hasPrefix prefixOf hasMarks stampIn microIn inLimits digitOf twoOf fourOf monthOf seek isNamed letter names isDate dayOfDate dayAfter firstDay lengthOf monthLength leap
 read-own-scale = (refl, refl, differ (λ (t : VrkTime). t .scale) (λ e. omega arith))
 
