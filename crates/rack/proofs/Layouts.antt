@@ -32,6 +32,11 @@ passes-is : {A : Type 0} {j k : Judged A} → Passes j k → outcome j ≡ outco
 passes-is done = refl
 passes-is (on e p) = rw e (passes-is p)
 
+-- a refusal stays, whatever a test before it says that has the same number
+pub either : {A : Type 0} (t : Bool) {n : ℕ} {rest : Judged A} → Refuses rest n → Refuses (given t n rest) n
+either true r = later refl r
+either false r = here refl
+
 -- of numbers
 module _ (m : List ℕ → Judged (List ℕ)) (out : List ℕ) where
   pub three : Refuses (m out) 3 → wroteOf (record { refusal = 3; length = 0 }) out ≡ writes m out
@@ -47,14 +52,9 @@ module _ (m : Handed → List ℕ → Judged (List ℕ)) (h : VrkHanded) (out : 
   pub handed-three : givenOf h ≡ G.Unknown → wroteOf (record { refusal = 3; length = 0 }) out ≡ writes (handedWriting m h) out
   handed-three e = three (handedWriting m h) out (here (given-bad h e))
 
-  module _ (t : Handed) (e : givenOf h ≡ G.Handed t) where
-    pub handed-later : Refuses (m t out) 3 → wroteOf (record { refusal = 3; length = 0 }) out ≡ writes (handedWriting m h) out
-    handed-later r = let k = given-good h t e in
-        three (handedWriting m h) out (later (k .0) (subst (λ (x : Handed). Refuses (m x out) 3) (k .1) r))
-
-    pub handed-past : {j : Judged (List ℕ)} → Passes j (m t out) → written out (outcome j) ≡ writes (handedWriting m h) out
-    handed-past {j} p = let k = given-good h t e in
-        past (handedWriting m h) out (on (k .0) (subst (λ (x : Handed). Passes j (m x out)) (k .1) p))
+  pub handed-past : (t : Handed) → givenOf h ≡ G.Handed t → {j : Judged (List ℕ)} → Passes j (m t out) → written out (outcome j) ≡ writes (handedWriting m h) out
+  handed-past t e {j} p = let k = given-good h t e in
+      past (handedWriting m h) out (on (k .0) (subst (λ (x : Handed). Passes j (m x out)) (k .1) p))
 
 -- ---- a form by its length
 unformed : (f : Form) → N.Form f ≡ N.Unknown → ⊥

@@ -7,12 +7,17 @@ use Rattle.scales.specs.Meaning.{codeOf, Judged, given, outcome, Wrote, written
 use Rattle.scales.specs.declared.Tick.{Tick}
 use Rattle.scales.specs.declared.Handed.{Handed}
 use Rattle.fields.specs.Meaning.{Valued}
-use Rattle.layouts.specs.Proteus as P
+use Rattle.layouts.specs.Cuc as Cuc
+use Rattle.layouts.specs.Cryosat as Cryosat
+use Rattle.layouts.specs.Siral as Siral
+use Rattle.layouts.specs.Proteus as Proteus
 use Rattle.rack.specs.Meaning.{known, handedOf}
 use Rattle.rack.specs.declared.VrkHanded.{VrkHanded}
 use Rattle.rack.specs.declared.VrkCount.{VrkCount}
 use Rattle.rack.specs.declared.bytes.VrkWritten.{VrkWritten}
 use Rattle.rack.specs.declared.bytes.VrkProteus.{VrkProteus}
+use Rattle.rack.specs.declared.bytes.Layout.{Layout}
+use Rattle.rack.specs.declared.bytes.Layout.the-variants as L
 
 -- ---- what is handed out
 abbrev pub countOut : Valued ℕ → VrkCount
@@ -24,7 +29,7 @@ sbtOut v = record { refusal = v .number; count = v .value .0 }
 abbrev pub bitOf : Bool → ℕ
 bitOf b = cond b 1 0
 
-abbrev pub proteusOut : P.Stamped → VrkProteus
+abbrev pub proteusOut : Proteus.Stamped → VrkProteus
 proteusOut s =
     record {
       refusal = s .slip .number;
@@ -50,4 +55,11 @@ handedWriting m h out =
 abbrev pub proteusWriting : ℕ → Handed → List ℕ → Judged (List ℕ)
 proteusWriting h3 t out =
     given (leb h3 1) 3
-    (P.writing t (eqb h3 1) out)
+    (Proteus.writing t (eqb h3 1) out)
+
+-- ---- the inner answers
+abbrev pub writingOf : Layout → Handed → List ℕ → Judged (List ℕ)
+writingOf L.Cuc t = Cuc.writing t
+writingOf L.Cryosat t = Cryosat.writing t
+writingOf L.Siral t = Siral.writing t
+writingOf (L.Proteus h3) t = Proteus.writing t h3

@@ -1,5 +1,6 @@
 -- What the functions on fields of the C interface mean: a field that is too wide for the library is refused 3, before what it
 -- judges. Assumes nothing.
+use mathlib.Core.Bool.{Bool, _&&_}
 use mathlib.Core.List.{List}
 use Prim.Native.Nat.{ℕ}
 use lib.Dec.{eqb, leb, ltb}
@@ -47,27 +48,26 @@ siralFields v =
     }
 
 -- ---- writers
+-- what a field of 16 bits holds
+abbrev narrow : ℕ → Bool
+narrow n = ltb n 65536
+
 abbrev pub cucFieldsWriting : ℕ → ℕ → List ℕ → Judged (List ℕ)
 cucFieldsWriting seconds fraction out =
-    given (ltb fraction 65536) 3
+    given (narrow fraction) 3
     (Cuc.writing (record { seconds = seconds; fraction = fraction }) out)
 
 abbrev pub proteusFieldsWriting : ℕ → ℕ → ℕ → ℕ → List ℕ → Judged (List ℕ)
 proteusFieldsWriting week h3 second fraction out =
-    given (ltb week 65536) 3
-    (given (leb h3 1) 3
-    (given (ltb fraction 65536) 3
-    (Proteus.writing (record { week = week; h3 = eqb h3 1; second = second; fraction = fraction }) out)))
+    given (narrow week && (leb h3 1 && narrow fraction)) 3
+    (Proteus.writing (record { week = week; h3 = eqb h3 1; second = second; fraction = fraction }) out)
 
 abbrev pub cryosatFieldsWriting : ℕ → ℕ → ℕ → List ℕ → Judged (List ℕ)
 cryosatFieldsWriting day millisecond microsecond out =
-    given (ltb day 65536) 3
-    (given (ltb microsecond 65536) 3
-    (Cryosat.writing (record { day = day; millisecond = millisecond; microsecond = microsecond }) out))
+    given (narrow day && narrow microsecond) 3
+    (Cryosat.writing (record { day = day; millisecond = millisecond; microsecond = microsecond }) out)
 
 abbrev pub siralFieldsWriting : ℕ → ℕ → ℕ → ℕ → List ℕ → Judged (List ℕ)
 siralFieldsWriting day millisecond microsecond extra out =
-    given (ltb day 65536) 3
-    (given (ltb microsecond 65536) 3
-    (given (ltb extra 65536) 3
-    (Siral.writing (record { day = day; millisecond = millisecond; microsecond = microsecond; extra = extra }) out)))
+    given (narrow day && (narrow microsecond && narrow extra)) 3
+    (Siral.writing (record { day = day; millisecond = millisecond; microsecond = microsecond; extra = extra }) out)

@@ -12,7 +12,7 @@ ghost use Rattle.layouts.specs.Cryosat.{read as cryosatRead, writing as cryosat
 ghost use Rattle.layouts.specs.Siral.{read as siralRead, writing as siralWriting};
 ghost use Rattle.layouts.specs.Proteus.{read as proteusRead};
 ghost use Rattle.rack.specs.Meaning.{timeOut};
-ghost use Rattle.rack.specs.Bytes.{countOut, sbtOut, bitOf, proteusOut, wroteOf, writes, handedWriting, proteusWriting};
+ghost use Rattle.rack.specs.Bytes.{countOut, sbtOut, bitOf, proteusOut, wroteOf, writes, handedWriting, proteusWriting, writingOf};
 use crate::Given;
 use crate::VrkCount;
 use crate::VrkHanded;
@@ -30,6 +30,12 @@ pub struct VrkWritten {
     pub refusal: u32,
     pub length: u64,
 }
+
+// The answer where a number stands for nothing.
+pub(crate) const REFUSED: VrkWritten = VrkWritten {
+    refusal: 3,
+    length: 0,
+};
 
 #[repr(C)]
 pub struct VrkProteus {
@@ -124,43 +130,50 @@ pub extern "C" fn vrk_sbt_read(bytes: &[u8]) -> VrkCount
     }
 }
 
+// The layouts of a time, Proteus with its H3.
+enum Layout {
+    Cuc,
+    Cryosat,
+    Siral,
+    Proteus(bool),
+}
+
+fn write_as(layout: Layout, time: VrkHanded, out: &mut [u8]) -> VrkWritten
+    ensures { λ r. ⌜ wroteOf r (now (out .exit)) ≡ writes (handedWriting (writingOf layout) time) (now (out .entry)) ⌝ }
+{
+    match hand(time) {
+        Given::Handed(h) => {
+            let w = match layout {
+                Layout::Cuc => layouts::cuc::write(h, out),
+                Layout::Cryosat => layouts::cryosat::write(h, out),
+                Layout::Siral => layouts::siral::write(h, out),
+                Layout::Proteus(h3) => layouts::proteus::write(h, h3, out),
+            };
+            written_out(w)
+        }
+        Given::Unknown => REFUSED,
+    }
+}
+
 #[no_mangle]
 pub extern "C" fn vrk_cuc_write(time: VrkHanded, out: &mut [u8]) -> VrkWritten
     ensures { λ r. ⌜ wroteOf r (now (out .exit)) ≡ writes (handedWriting cucWriting time) (now (out .entry)) ⌝ }
 {
-    match hand(time) {
-        Given::Handed(h) => written_out(layouts::cuc::write(h, out)),
-        Given::Unknown => VrkWritten {
-            refusal: 3,
-            length: 0,
-        },
-    }
+    write_as(Layout::Cuc, time, out)
 }
 
 #[no_mangle]
 pub extern "C" fn vrk_cryosat_write(time: VrkHanded, out: &mut [u8]) -> VrkWritten
     ensures { λ r. ⌜ wroteOf r (now (out .exit)) ≡ writes (handedWriting cryosatWriting time) (now (out .entry)) ⌝ }
 {
-    match hand(time) {
-        Given::Handed(h) => written_out(layouts::cryosat::write(h, out)),
-        Given::Unknown => VrkWritten {
-            refusal: 3,
-            length: 0,
-        },
-    }
+    write_as(Layout::Cryosat, time, out)
 }
 
 #[no_mangle]
 pub extern "C" fn vrk_siral_write(time: VrkHanded, out: &mut [u8]) -> VrkWritten
     ensures { λ r. ⌜ wroteOf r (now (out .exit)) ≡ writes (handedWriting siralWriting time) (now (out .entry)) ⌝ }
 {
-    match hand(time) {
-        Given::Handed(h) => written_out(layouts::siral::write(h, out)),
-        Given::Unknown => VrkWritten {
-            refusal: 3,
-            length: 0,
-        },
-    }
+    write_as(Layout::Siral, time, out)
 }
 
 #[no_mangle]
@@ -213,19 +226,8 @@ pub extern "C" fn vrk_proteus_read(bytes: &[u8]) -> VrkProteus
 pub extern "C" fn vrk_proteus_write(time: VrkHanded, h3: u32, out: &mut [u8]) -> VrkWritten
     ensures { λ r. ⌜ wroteOf r (now (out .exit)) ≡ writes (handedWriting (proteusWriting h3) time) (now (out .entry)) ⌝ }
 {
-    match hand(time) {
-        Given::Handed(h) => {
-            if 1 < h3 {
-                return VrkWritten {
-                    refusal: 3,
-                    length: 0,
-                };
-            }
-            written_out(layouts::proteus::write(h, h3 == 1, out))
-        }
-        Given::Unknown => VrkWritten {
-            refusal: 3,
-            length: 0,
-        },
+    if 1 < h3 {
+        return REFUSED;
     }
+    write_as(Layout::Proteus(h3 == 1), time, out)
 }

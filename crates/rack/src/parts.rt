@@ -6,6 +6,7 @@ ghost use Rattle.fields.specs.Cryosat.{read as cryosatRead};
 ghost use Rattle.fields.specs.Siral.{read as siralRead};
 ghost use Rattle.rack.specs.Bytes.{wroteOf, writes};
 ghost use Rattle.rack.specs.Parts.{cucFields, proteusFields, cryosatFields, siralFields, cucFieldsWriting, proteusFieldsWriting, cryosatFieldsWriting, siralFieldsWriting};
+use crate::bytes::REFUSED;
 use crate::bytes::VrkWritten;
 use crate::bytes::bit;
 use crate::bytes::written_out;
@@ -66,10 +67,7 @@ pub extern "C" fn vrk_cuc_fields_write(seconds: u32, fraction: u32, out: &mut [u
     ensures { λ r. ⌜ wroteOf r (now (out .exit)) ≡ writes (cucFieldsWriting seconds fraction) (now (out .entry)) ⌝ }
 {
     if 65536 <= fraction {
-        return VrkWritten {
-            refusal: 3,
-            length: 0,
-        };
+        return REFUSED;
     }
     written_out(fields::cuc::write(
         fields::cuc::Fields {
@@ -112,23 +110,8 @@ pub extern "C" fn vrk_proteus_fields_write(
 ) -> VrkWritten
     ensures { λ r. ⌜ wroteOf r (now (out .exit)) ≡ writes (proteusFieldsWriting week h3 second fraction) (now (out .entry)) ⌝ }
 {
-    if 65536 <= week {
-        return VrkWritten {
-            refusal: 3,
-            length: 0,
-        };
-    }
-    if 1 < h3 {
-        return VrkWritten {
-            refusal: 3,
-            length: 0,
-        };
-    }
-    if 65536 <= fraction {
-        return VrkWritten {
-            refusal: 3,
-            length: 0,
-        };
+    if 65536 <= week || 1 < h3 || 65536 <= fraction {
+        return REFUSED;
     }
     written_out(fields::proteus::write(
         fields::proteus::Fields {
@@ -170,17 +153,8 @@ pub extern "C" fn vrk_cryosat_fields_write(
 ) -> VrkWritten
     ensures { λ r. ⌜ wroteOf r (now (out .exit)) ≡ writes (cryosatFieldsWriting day millisecond microsecond) (now (out .entry)) ⌝ }
 {
-    if 65536 <= day {
-        return VrkWritten {
-            refusal: 3,
-            length: 0,
-        };
-    }
-    if 65536 <= microsecond {
-        return VrkWritten {
-            refusal: 3,
-            length: 0,
-        };
+    if 65536 <= day || 65536 <= microsecond {
+        return REFUSED;
     }
     written_out(fields::cryosat::write(
         fields::cryosat::Fields {
@@ -224,23 +198,8 @@ pub extern "C" fn vrk_siral_fields_write(
 ) -> VrkWritten
     ensures { λ r. ⌜ wroteOf r (now (out .exit)) ≡ writes (siralFieldsWriting day millisecond microsecond extra) (now (out .entry)) ⌝ }
 {
-    if 65536 <= day {
-        return VrkWritten {
-            refusal: 3,
-            length: 0,
-        };
-    }
-    if 65536 <= microsecond {
-        return VrkWritten {
-            refusal: 3,
-            length: 0,
-        };
-    }
-    if 65536 <= extra {
-        return VrkWritten {
-            refusal: 3,
-            length: 0,
-        };
+    if 65536 <= day || 65536 <= microsecond || 65536 <= extra {
+        return REFUSED;
     }
     written_out(fields::siral::write(
         fields::siral::Fields {

@@ -7,6 +7,7 @@ ghost use Rattle.rack.specs.Texts.{namedForm, textWriting};
 use crate::Given;
 use crate::VrkHanded;
 use crate::VrkTime;
+use crate::bytes::REFUSED;
 use crate::bytes::VrkWritten;
 use crate::bytes::written_out;
 use crate::hand;
@@ -49,19 +50,11 @@ pub extern "C" fn vrk_text_write(
 ) -> VrkWritten
     ensures { λ r. ⌜ wroteOf r (now (out .exit)) ≡ writes (handedWriting (textWriting form (now (days .entry)) (now (offsets .entry)) last) time) (now (out .entry)) ⌝ }
 {
+    let Named::Form(f) = form_named(form) else {
+        return REFUSED;
+    };
     match hand(time) {
-        Given::Handed(h) => {
-            let Named::Form(f) = form_named(form) else {
-                return VrkWritten {
-                    refusal: 3,
-                    length: 0,
-                };
-            };
-            written_out(text_write::write(h, f, days, offsets, last, out))
-        }
-        Given::Unknown => VrkWritten {
-            refusal: 3,
-            length: 0,
-        },
+        Given::Handed(h) => written_out(text_write::write(h, f, days, offsets, last, out)),
+        Given::Unknown => REFUSED,
     }
 }

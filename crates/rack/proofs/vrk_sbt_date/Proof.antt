@@ -1,5 +1,5 @@
 -- `rack::vrk_sbt_date` meets its contract. Assumes nothing.
-use mathlib.Core.Path.{ap, ap₂, sym, _∙_}
+use mathlib.Core.Path.{ap, ap₂, _∙_}
 use lib.IntN.{ℤ}
 use mir.Facts.{toZ-ofZ}
 use Rattle.correlation.specs.Meaning.{dateOf}

@@ -1,9 +1,11 @@
 -- `rack::parts::vrk_cryosat_fields_write` meets its contract. Assumes nothing.
 use mathlib.Core.Path.{_∙_}
+use mathlib.Core.Logic.{⊎-elim}
 use native.Mathlib.Omega.{arith}
-use borrow.Author.Tests.{lt-ltb, le-ltb}
+use borrow.Author.Tests.{le-ltb, lt-ltb, leb-true, leb-false}
 use denote.Ref.{now}
-use Rattle.scales.specs.Order.{here, later}
+use Rattle.scales.specs.Order.{here}
+use Rattle.scales.specs.Place.{and-false}
 use Rattle.fields.specs.Cryosat.{write}
 use Rattle.rack.specs.Parts.{cryosatFieldsWriting}
 use Rattle.rack.proofs.Layouts.{done, on, three, past}
@@ -15,19 +17,15 @@ returns : tie.Need-returns
 returns c =
     let a = c .before .before .args in
     three (cryosatFieldsWriting (a .day) (a .millisecond) (a .microsecond)) (now (a .out))
-    (here (le-ltb (a .day) 65536 (omega arith)))
-
-returns-2 : tie.Need-returns-2
-returns-2 c =
-    let a = c .before .before .before .args in
-    three (cryosatFieldsWriting (a .day) (a .millisecond) (a .microsecond)) (now (a .out))
-    (later (lt-ltb (a .day) 65536 (omega arith)) (here (le-ltb (a .microsecond) 65536 (omega arith))))
-
-cast-t7 : tie.Need-cast-t7
-cast-t7 c = search needs
+    (here (⊎-elim (λ w. rw (le-ltb (a .day) 65536 (w .taken)))
+    (λ w. rw (le-ltb (a .microsecond) 65536 (leb-true 65536 (a .microsecond) (w .1 .taken)), and-false))
+    (c .if1 .came)))
 
 cast-t8 : tie.Need-cast-t8
 cast-t8 c = search needs
+
+cast-t9 : tie.Need-cast-t9
+cast-t9 c = search needs
 
 write-requires : tie.Need-write-requires
 write-requires c κs = search needs
@@ -38,24 +36,23 @@ written-out-requires c κs = search needs
 same-length : tie.Need-same-length
 same-length c = search needs
 
-returns-3 : tie.Need-returns-3
+returns-2 : tie.Need-returns-2
 unfolding write
-returns-3 c =
+returns-2 c =
     let w = c .before .before .before in
     let a = w .before .before .before .before .before .args in
     c .written-out .ensures (w .write .last .1 .0) ∙ w .write .ensures
     ∙ past (cryosatFieldsWriting (a .day) (a .millisecond) (a .microsecond)) (now (a .out))
-    (on (lt-ltb (a .day) 65536 (omega arith)) (on (lt-ltb (a .microsecond) 65536 (omega arith)) done))
+    (on (rw (lt-ltb (a .day) 65536 (omega arith), lt-ltb (a .microsecond) 65536 (omega (arith, leb-false)))) done)
 
 pub vrk-cryosat-fields-write-spec : {M : Type 1} → statement M
 vrk-cryosat-fields-write-spec =
     tie.close
     (tie.spec
     returns
-    returns-2
-    cast-t7
     cast-t8
+    cast-t9
     write-requires
     written-out-requires
     same-length
-    returns-3)
+    returns-2)

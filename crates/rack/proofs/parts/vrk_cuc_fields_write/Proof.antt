@@ -1,7 +1,7 @@
 -- `rack::parts::vrk_cuc_fields_write` meets its contract. Assumes nothing.
 use mathlib.Core.Path.{_∙_}
 use native.Mathlib.Omega.{arith}
-use borrow.Author.Tests.{lt-ltb, le-ltb}
+use borrow.Author.Tests.{le-ltb, lt-ltb}
 use denote.Ref.{now}
 use Rattle.scales.specs.Order.{here}
 use Rattle.fields.specs.Cuc.{write}

@@ -1,22 +1,18 @@
 -- `rack::texts::vrk_text_write` meets its contract. Assumes nothing.
-use mathlib.Core.Path.{sym, ap, ap₂, _∙_}
+use mathlib.Core.Path.{sym, ap₂, _∙_}
 use lib.IntN.{ℤ}
 use denote.Ref.{now}
 use mir.Facts.{toZ-ofZ}
 use Rattle.scales.specs.Order.{here}
 use Rattle.text_write.specs.Meaning.{writeText}
 use Rattle.text_write.specs.declared.Form.{Form}
+use Rattle.rack.specs.Meaning.{known}
+use Rattle.rack.specs.Bytes.{handedWriting}
 use Rattle.rack.specs.Texts.{textWriting}
-use Rattle.rack.proofs.Layouts.{done, on, handed-three, handed-later, handed-past, form-good, form-bad}
+use Rattle.rack.proofs.Layouts.{done, on, either, three, handed-three, handed-past, form-good, form-bad}
 use borrow.Author.Needs.{needs}
 use Rattle.rack.proofs.texts.vrk_text_write.Statement.{statement}
 use Rattle.rack.proofs.texts.vrk_text_write.Tie as tie
-
-hand-requires : tie.Need-hand-requires
-hand-requires c κs = search needs
-
-enum-known-h : tie.Need-enum-known-h
-enum-known-h c = search needs
 
 form-named-requires : tie.Need-form-named-requires
 form-named-requires c κs = search needs
@@ -30,11 +26,15 @@ enum-told c = search needs
 returns : tie.Need-returns
 returns c =
     let n = c .before .before in
-    let k = n .before .before in
-    let b = k .before .before in
-    let a = b .before .before .before .args in
-    handed-later (textWriting (a .form) (now (a .days)) (now (a .offsets)) (a .last)) (a .time) (now (a .out)) (k .h .given .0 .0)
-    (sym (b .hand .ensures) ∙ k .h .given .1) (here (form-bad (a .form) (sym (n .form-named .ensures) ∙ c .enum-told .given .1)))
+    let a = n .before .before .before .args in
+    three (handedWriting (textWriting (a .form) (now (a .days)) (now (a .offsets)) (a .last)) (a .time)) (now (a .out))
+    (either (known (a .time)) (here (form-bad (a .form) (sym (n .form-named .ensures) ∙ c .enum-told .given .1))))
+
+hand-requires : tie.Need-hand-requires
+hand-requires c κs = search needs
+
+enum-known-h : tie.Need-enum-known-h
+enum-known-h c = search needs
 
 write-requires : tie.Need-write-requires
 write-requires c κs = search needs
@@ -52,11 +52,11 @@ returns-2 : tie.Need-returns-2
 unfolding writeText
 returns-2 c =
     let w = c .before .before .before in
-    let f = w .before .before .before in
-    let n = f .before .before in
-    let k = n .before .before in
+    let k = w .before .before .before in
     let b = k .before .before in
-    let s = b .before .before .before in
+    let f = b .before .before in
+    let n = f .before .before in
+    let s = n .before .before .before in
     let a = s .args in
     let g = form-good (a .form) (f .f .given .0 .0) (sym (n .form-named .ensures) ∙ f .f .given .1) in
     c .written-out .ensures (w .write .last .1 .1 .1 .1 .1 .0) ∙ w .write .ensures
@@ -67,7 +67,7 @@ returns-2 c =
 returns-3 : tie.Need-returns-3
 returns-3 c =
     let b = c .before .before in
-    let a = b .before .before .before .args in
+    let a = b .before .before .before .before .before .before .before .args in
     handed-three (textWriting (a .form) (now (a .days)) (now (a .offsets)) (a .last)) (a .time) (now (a .out))
     (sym (b .hand .ensures) ∙ c .enum-told2 .given .1)
 
@@ -75,12 +75,12 @@ pub vrk-text-write-spec : {M : Type 1} → statement M
 vrk-text-write-spec =
     tie.close
     (tie.spec
-    hand-requires
-    enum-known-h
     form-named-requires
     enum-known-f
     enum-told
     returns
+    hand-requires
+    enum-known-h
     write-requires
     written-out-requires
     enum-told-2
