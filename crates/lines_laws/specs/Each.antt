@@ -1,0 +1,84 @@
+-- Any line of any bytes gets exactly one line of output. Assumes nothing.
+use mathlib.Core.Path.{_≡_, refl, sym, ap, _∙_}
+use mathlib.Core.Bool.{Bool, true, false, cond, not, _&&_}
+use mathlib.Core.List.{List, [], _∷_, _++_, append-nil, append-assoc}
+use Prim.Native.Nat.{ℕ, zero, suc, _+_, _-_, _*_, _/_, _%_}
+use native.Mathlib.Omega.{arith}
+use lib.Dec.{eqb, ltb}
+use lib.ListN.{length, getD}
+use borrow.Author.Tests.{ne-eqb}
+use Rattle.scales.specs.Meaning.{Outcome, refused, answer, outcome, Moment}
+use Rattle.scales.specs.Place.{and-both}
+use Rattle.leap.specs.Meaning.{publishedDays, publishedOffsets, publishedLast}
+use Rattle.text_read.specs.Meaning.{names, letter, prefixOf}
+use Rattle.text_write.specs.Meaning.{textOf}
+use Rattle.lines.specs.Meaning.{onFirst, linesOf, digit, refusedText, told, answerTo, answers, desk, onBegun, wholeIn}
+use Rattle.lines_laws.specs.Lines.{Begun, before, begun-lines, before-first}
+use Rattle.lines_laws.specs.Run.{printed}
+use Rattle.lines_laws.specs.Computed.{dates}
+
+-- ---- no newline stands in what is printed for a line
+abbrev clean : List ℕ → Bool
+clean [] = true
+clean (b ∷ s) = not (eqb b 10) && clean s
+
+not-newline : (b : ℕ) → not (eqb b 10) ≡ true → eqb b 10 ≡ false
+not-newline b e = go (eqb b 10) e
+  where
+    go : (x : Bool) → not x ≡ true → x ≡ false
+    go true e = sym e
+    go false e = refl
+
+begun : (s : List ℕ) → clean s ≡ true → Begun s
+unfolding wholeIn
+begun [] e = refl
+begun (b ∷ s) e = let k = and-both (not (eqb b 10)) (clean s) e in rw (not-newline b (k .0)) (ap (onBegun b) (begun s (k .1)))
+
+-- a digit, and a letter of a month
+from-48 : (n : ℕ) → eqb (48 + n) 10 ≡ false
+from-48 n = ne-eqb (48 + n) 10 (λ q. omega arith)
+
+no-newline : (s : List ℕ) (i : ℕ) → clean s ≡ true → eqb (getD s i 0) 10 ≡ false
+no-newline [] i e = refl
+no-newline (b ∷ s) zero e = not-newline b (and-both (not (eqb b 10)) (clean s) e .0)
+no-newline (b ∷ s) (suc i) e = no-newline s i (and-both (not (eqb b 10)) (clean s) e .1)
+
+letters : (m j : ℕ) → eqb (letter m j) 10 ≡ false
+unfolding letter names
+letters m j = no-newline names ((m - 1) * 3 + j) refl
+
+told-clean : (o : Outcome Moment) → clean (told o) ≡ true
+unfolding refusedText prefixOf textOf
+told-clean (refused n) = go (ltb n 10)
+  where
+    go : (x : Bool) → clean (cond x (digit n ∷ []) (digit (n / 10) ∷ digit n ∷ [])) ≡ true
+    go true = rw (from-48 (n % 10))
+    go false = rw (from-48 (n / 10 % 10), from-48 (n % 10))
+told-clean (answer m) = simp (from-48, letters)
+
+-- ---- the lines of the output are what is printed for the lines of the input, in order
+abbrev pub texts : List (List ℕ) → List (List ℕ)
+texts [] = []
+texts (l ∷ ls) = told (dates l) ∷ texts ls
+
+each : (ls : List (List ℕ)) → linesOf (printed ls) ≡ texts ls
+unfolding linesOf answers answerTo
+each [] = refl
+each (l ∷ ls) =
+    let t = told (dates l) in
+    ap linesOf (append-assoc t (10 ∷ []) (printed ls))
+    ∙ begun-lines t (10 ∷ printed ls) (begun t (told-clean (dates l)))
+    ∙ before-first t [] (linesOf (printed ls))
+    ∙ ap (λ (x : List ℕ). x ∷ linesOf (printed ls)) (append-nil t)
+    ∙ ap (λ (x : List (List ℕ)). t ∷ x) (each ls)
+
+pub one-each : (input : List ℕ) → linesOf (desk input) ≡ texts (linesOf input)
+unfolding desk
+one-each input = each (linesOf input)
+
+pub as-many : (input : List ℕ) → length (linesOf (desk input)) ≡ length (linesOf input)
+as-many input = ap length (one-each input) ∙ same (linesOf input)
+  where
+    same : (ls : List (List ℕ)) → length (texts ls) ≡ length ls
+    same [] = refl
+    same (l ∷ ls) = ap suc (same ls)

@@ -1,0 +1,1 @@
+// The theorems of the Envisat texts stand in specs/.
