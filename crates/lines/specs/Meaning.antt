@@ -8,11 +8,10 @@ use lib.IntN.{ℤ}
 use lib.ListN.{length, take}
 use lib.Seq.{slice}
 use Rattle.octets.specs.Meaning.{onto}
-use Rattle.scales.specs.Meaning.{andThen, inSpan, Judged, Outcome, refused, answer, outcome, Moment}
+use Rattle.scales.specs.Meaning.{Judged, Outcome, refused, answer, outcome, Moment}
 use Rattle.scales.specs.declared.Scale.the-variants as S
 use Rattle.leap.specs.Meaning.{publishedDays, publishedOffsets, publishedLast}
-use Rattle.changes.specs.Meaning.{moving}
-use Rattle.text_read.specs.Meaning.{scaleIn, reading}
+use Rattle.text_read.specs.Meaning.{readingIn}
 use Rattle.text_write.specs.Meaning.{imageOf}
 use Rattle.text_write.specs.declared.Form.the-variants as F
 use Rattle.lines.specs.declared.Progress.{Progress}
@@ -44,7 +43,7 @@ told (answer m) = imageOf F.PrefixedMicros S.Tai m
 module _ (ds : List ℤ) (os : List ℕ) (e : ℤ) where
   -- the time that the text stands for, changed to TAI
   abbrev pub dating : List ℕ → Judged Moment
-  dating s = andThen (reading s ds os e) (λ (m : Moment). moving (scaleIn s) S.Tai ds os e (inSpan (scaleIn s) (m .day) (m .micro)) m)
+  dating s = readingIn S.Tai s ds os e
 
   unfoldable pub answerTo : List ℕ → List ℕ
   answerTo s = told (outcome (dating s)) ++ (10 ∷ [])

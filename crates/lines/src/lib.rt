@@ -4,19 +4,16 @@ ghost use mathlib.Core.Bool.{true};
 ghost use mathlib.Core.List.{[], _∷_, _++_};
 ghost use Prim.Native.Nat.{_+_, _≤_, min};
 ghost use lib.ListN.{length, drop};
-ghost use Rattle.scales.specs.Meaning.{inSpan, outcome, dated, slip, numberOf};
+ghost use Rattle.scales.specs.Meaning.{inSpan, numberOf};
 ghost use Rattle.leap.specs.Meaning.{accepted};
 ghost use Rattle.text_read.specs.Stage.{recordMoment};
 ghost use Rattle.text_write.specs.Meaning.{imageOf};
-ghost use Rattle.lines.specs.Meaning.{digit as digitOf, dating, answerTo, done, doneUnder, dateLines, kept};
+ghost use Rattle.lines.specs.Meaning.{digit as digitOf, answerTo, done, doneUnder, dateLines, kept};
 ghost use Rattle.lines.specs.Stage.{beforeNewline, refusedLine, Put};
-ghost use Rattle.lines.specs.Dates.{datingTime};
-use decimal::Taken;
 use scales::Dated;
 use scales::Record;
 use scales::Refusal;
 use scales::Scale;
-use text_read::Parsed;
 use text_write::Form;
 
 // How many bytes of the input were dated, and how many bytes of answers were written.
@@ -26,28 +23,6 @@ pub struct Progress {
 }
 
 // ---- one line
-
-fn date_time(t: Taken, days: &[i64], offsets: &[u64], last: i64) -> Dated
-    requires { ⌜ accepted (now days) (now offsets) last ≡ true ⌝ }
-    ensures { λ r. ⌜ slip r ≡ dated Scale.Tai (outcome (datingTime (now (days .entry)) (now (offsets .entry)) last t)) ⌝ }
-{
-    match t {
-        Taken::NotFinite(_) => Dated::Refused(Refusal::NotFinite, Scale::Tai),
-        Taken::Outside(_) => Dated::Refused(Refusal::Span, Scale::Tai),
-        Taken::At(n) => changes::inner::change(n, Scale::Tai, days, offsets, last),
-    }
-}
-
-// The time of a text in TAI.
-fn date(line: &[u8], days: &[i64], offsets: &[u64], last: i64) -> Dated
-    requires { ⌜ accepted (now days) (now offsets) last ≡ true ⌝ }
-    ensures { λ r. ⌜ slip r ≡ dated Scale.Tai (outcome (dating (now (days .entry)) (now (offsets .entry)) last (now (line .entry)))) ⌝ }
-{
-    match text_read::inner::parse(line) {
-        Parsed::Refused(f) => Dated::Refused(f, Scale::Tai),
-        Parsed::Time(t) => date_time(t, days, offsets, last),
-    }
-}
 
 fn digit(n: u32) -> u8
     ensures { λ r. ⌜ r ≡ digitOf n ⌝ }
@@ -103,7 +78,7 @@ fn answer(line: &[u8], days: &[i64], offsets: &[u64], last: i64, out: &mut [u8])
     requires { ⌜ 32 ≤ length (now out) ⌝ }
     ensures { λ r. ⌜ Put (answerTo (now (days .entry)) (now (offsets .entry)) last (now (line .entry))) (now (out .entry)) (now (out .exit)) r ⌝ }
 {
-    match date(line, days, offsets, last) {
+    match text_read::inner::read_in(line, Scale::Tai, days, offsets, last) {
         Dated::At(t) => print(t, out),
         Dated::Refused(f, _) => refuse(f, out),
     }

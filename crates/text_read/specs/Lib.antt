@@ -4,3 +4,4 @@ pub mod Months
 pub mod Judging
 pub mod Parse
 pub mod Ways
+pub mod In

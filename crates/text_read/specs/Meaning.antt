@@ -6,12 +6,12 @@ use Prim.Native.Nat.{ℕ, zero, suc, _+_, _-_, _*_}
 use lib.Dec.{eqb, leb, ltb}
 use lib.IntN.{ℤ}
 use lib.ListN.{length, getD, drop}
-use Rattle.scales.specs.Meaning.{inSpan, Judged, given, gives, Outcome, refused, answer, outcome, Slip, Moment, dated}
+use Rattle.scales.specs.Meaning.{andThen, inSpan, Judged, given, gives, Outcome, refused, answer, outcome, Slip, Moment, dated}
 use Rattle.scales.specs.declared.Scale.{Scale}
 use Rattle.scales.specs.declared.Scale.the-variants as S
 use Rattle.calendar.specs.Meaning.{isDate, dayOfDate}
 use Rattle.leap.specs.Meaning.{accepted, hasMicro, isExpiredDay}
-use Rattle.changes.specs.Meaning.{isUtc}
+use Rattle.changes.specs.Meaning.{isUtc, moving}
 use Rattle.text_read.specs.declared.Stamp.{Stamp}
 
 -- ---- the numbers that digits write; a byte that is no digit leads over every limit
@@ -145,6 +145,10 @@ reading s ds os e =
     given (isPrefixed s || isPlain s) 1
     (given (isPrefixRight s && isBody (scaleIn s) (bodyIn s)) 3
     (readingBody (scaleIn s) (bodyIn s) ds os e))
+
+-- the time that a text stands for, in a scale that is wanted
+abbrev pub readingIn : Scale → List ℕ → List ℤ → List ℕ → ℤ → Judged Moment
+readingIn to s ds os e = andThen (reading s ds os e) (λ (m : Moment). moving (scaleIn s) to ds os e (inSpan (scaleIn s) (m .day) (m .micro)) m)
 
 -- "(TAI for every refused text reading)"
 abbrev pub datedIn : Scale → Outcome Moment → Slip

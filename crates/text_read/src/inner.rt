@@ -6,7 +6,8 @@ ghost use lib.ListN.{length};
 ghost use Rattle.scales.specs.Meaning.{slip, outcome, dated};
 ghost use Rattle.leap.specs.Meaning.{accepted};
 ghost use Rattle.changes.specs.Meaning.{isUtc};
-ghost use Rattle.text_read.specs.Meaning.{names, prefixOf, readText, datedIn};
+ghost use Rattle.text_read.specs.Meaning.{names, prefixOf, readText, readingIn, datedIn};
+ghost use Rattle.text_read.specs.In.{timeIn};
 ghost use Rattle.text_read.specs.Stage.{usesIn, lacksList, takenScale, taking, ParsesBody, ParsesText};
 use super::Parsed;
 use super::fields;
@@ -112,7 +113,7 @@ fn parse_body(z: Scale, s: &[u8]) -> Parsed
     }
 }
 
-pub fn parse(text: &[u8]) -> Parsed
+pub(crate) fn parse(text: &[u8]) -> Parsed
     ensures { λ r. ⌜ ParsesText (now (text .entry)) r ⌝ }
 {
     let n = text.len();
@@ -184,5 +185,28 @@ pub fn read(text: &[u8], days: &[i64], offsets: &[u64], last: i64) -> Dated
     match parse(text) {
         Parsed::Refused(f) => Dated::Refused(f, Scale::Tai),
         Parsed::Time(t) => read_time(t, days, offsets, last),
+    }
+}
+
+// ---- reading in a scale that is wanted
+
+fn time_in(t: Taken, to: Scale, days: &[i64], offsets: &[u64], last: i64) -> Dated
+    requires { ⌜ accepted (now days) (now offsets) last ≡ true ⌝ }
+    ensures { λ r. ⌜ slip r ≡ dated to (outcome (timeIn to (now (days .entry)) (now (offsets .entry)) last t)) ⌝ }
+{
+    match t {
+        Taken::NotFinite(_) => Dated::Refused(Refusal::NotFinite, to),
+        Taken::Outside(_) => Dated::Refused(Refusal::Span, to),
+        Taken::At(n) => changes::inner::change(n, to, days, offsets, last),
+    }
+}
+
+pub fn read_in(text: &[u8], to: Scale, days: &[i64], offsets: &[u64], last: i64) -> Dated
+    requires { ⌜ accepted (now days) (now offsets) last ≡ true ⌝ }
+    ensures { λ r. ⌜ slip r ≡ dated to (outcome (readingIn to (now (text .entry)) (now (days .entry)) (now (offsets .entry)) last)) ⌝ }
+{
+    match parse(text) {
+        Parsed::Refused(f) => Dated::Refused(f, to),
+        Parsed::Time(t) => time_in(t, to, days, offsets, last),
     }
 }

@@ -22,22 +22,22 @@ use Rattle.lines.proofs.answer.Statement.{statement}
 use Rattle.lines.proofs.answer.Tie as tie
 
 -- what the callee said, of the last day itself
-said : (c : tie.After-date) → let x = c .before .before .before .before .args in
-    slip (c .date .result) ≡ dated S.Tai (outcome (dating (now (x .days)) (now (x .offsets)) (x .last) (now (x .line))))
+said : (c : tie.After-read-in) → let x = c .before .before .before .before .args in
+    slip (c .read-in .result) ≡ dated S.Tai (outcome (dating (now (x .days)) (now (x .offsets)) (x .last) (now (x .line))))
 said c =
     let s = c .before .before .before .before in
     let x = s .args in
-    c .date .ensures ∙ ap (λ (z : ℤ). dated S.Tai (outcome (dating (now (x .days)) (now (x .offsets)) z (now (x .line))))) (toZ-ofZ (s .fits .last))
+    c .read-in .ensures ∙ ap (λ (z : ℤ). dated S.Tai (outcome (dating (now (x .days)) (now (x .offsets)) z (now (x .line))))) (toZ-ofZ (s .fits .last))
 
 -- an answer: a TAI record, and the moment that the line stands for
-told : (c : tie.After-date) (t : Record) → c .date .result ≡ D.At t → let x = c .before .before .before .before .args in
+told : (c : tie.After-read-in) (t : Record) → c .read-in .result ≡ D.At t → let x = c .before .before .before .before .args in
     (t .scale ≡ S.Tai) × (outcome (dating (now (x .days)) (now (x .offsets)) (x .last) (now (x .line))) ≡ answer (recordMoment t))
 told c t q =
     let x = c .before .before .before .before .args in
     line-answer (now (x .days)) (now (x .offsets)) (x .last) (now (x .line)) t (ap slip (sym q) ∙ said c)
 
-date-requires : tie.Need-date-requires
-date-requires c κs = search needs
+read-in-requires : tie.Need-read-in-requires
+read-in-requires c κs = search needs
 
 enum-known-t : tie.Need-enum-known-t
 enum-known-t c = search needs
@@ -89,7 +89,7 @@ pub answer-spec : {M : Type 1} → statement M
 answer-spec =
     tie.close
     (tie.spec
-    date-requires
+    read-in-requires
     enum-known-t
     print-requires
     enum-known-f

@@ -1,18 +1,17 @@
--- `lines::date_time` meets its contract: one law for each way out. Assumes nothing.
+-- `text_read::inner::time_in` meets its contract: one law for each way out. Assumes nothing.
 use mathlib.Core.Path.{_≡_, sym, ap, subst, _∙_}
 use mathlib.Core.Bool.{true}
 use denote.Ref.{now}
 use lib.IntN.{ℤ}
 use mir.Facts.{toZ-ofZ}
 use Rattle.scales.specs.Meaning.{outcome, dated, timeScale, timeCount}
-use Rattle.scales.specs.declared.Scale.the-variants as S
 use Rattle.decimal.specs.declared.Taken.{Taken}
 use Rattle.leap.specs.Meaning.{accepted}
 use Rattle.changes.specs.Meaning.{ofCount, moving}
-use Rattle.lines.specs.Dates.{datingTime, time-outside, time-at}
+use Rattle.text_read.specs.In.{timeIn, in-outside, in-at}
 use borrow.Author.Needs.{needs}
-use Rattle.lines.proofs.date_time.Statement.{statement}
-use Rattle.lines.proofs.date_time.Tie as tie
+use Rattle.text_read.proofs.inner.time_in.Statement.{statement}
+use Rattle.text_read.proofs.inner.time_in.Tie as tie
 
 enum-told : tie.Need-enum-told
 enum-told c = search needs
@@ -32,15 +31,15 @@ change-requires c κs =
 returns : tie.Need-returns
 returns c =
     let x = c .before .before .before .args in
-    sym (ap (λ (t : Taken). dated S.Tai (outcome (datingTime (now (x .days)) (now (x .offsets)) (x .last) t))) (c .enum-told .given .1))
+    sym (ap (λ (t : Taken). dated (x .to) (outcome (timeIn (x .to) (now (x .days)) (now (x .offsets)) (x .last) t))) (c .enum-told .given .1))
 
 returns-2 : tie.Need-returns-2
 returns-2 c =
     let g = c .enum-told2 .given in
     let s = c .before .before .before in
     let x = s .args in
-    time-outside (now (x .days)) (now (x .offsets)) (x .last) (s .pre) (g .0 .0)
-    ∙ sym (ap (λ (t : Taken). dated S.Tai (outcome (datingTime (now (x .days)) (now (x .offsets)) (x .last) t))) (g .1))
+    in-outside (x .to) (now (x .days)) (now (x .offsets)) (x .last) (s .pre) (g .0 .0)
+    ∙ sym (ap (λ (t : Taken). dated (x .to) (outcome (timeIn (x .to) (now (x .days)) (now (x .offsets)) (x .last) t))) (g .1))
 
 returns-3 : tie.Need-returns-3
 returns-3 c =
@@ -49,11 +48,11 @@ returns-3 c =
     let x = s .args in
     let n = g .0 .0 in
     c .change .ensures
-    ∙ ap (λ (z : ℤ). dated S.Tai (outcome (ofCount (timeScale n) (timeCount n) (moving (timeScale n) S.Tai (now (x .days)) (now (x .offsets)) z)))) (toZ-ofZ (s .fits .last))
-    ∙ time-at (now (x .days)) (now (x .offsets)) (x .last) (s .pre) n
-    ∙ sym (ap (λ (t : Taken). dated S.Tai (outcome (datingTime (now (x .days)) (now (x .offsets)) (x .last) t))) (g .1))
+    ∙ ap (λ (z : ℤ). dated (x .to) (outcome (ofCount (timeScale n) (timeCount n) (moving (timeScale n) (x .to) (now (x .days)) (now (x .offsets)) z)))) (toZ-ofZ (s .fits .last))
+    ∙ in-at (x .to) (now (x .days)) (now (x .offsets)) (x .last) (s .pre) n
+    ∙ sym (ap (λ (t : Taken). dated (x .to) (outcome (timeIn (x .to) (now (x .days)) (now (x .offsets)) (x .last) t))) (g .1))
 
-pub date-time-spec : {M : Type 1} → statement M
-date-time-spec =
+pub time-in-spec : {M : Type 1} → statement M
+time-in-spec =
     tie.close
     (tie.spec enum-told enum-told-2 enum-known-t change-requires returns returns-2 returns-3)

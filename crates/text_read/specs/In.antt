@@ -1,0 +1,80 @@
+-- The time of a text in a scale that is wanted: a law for each way out. Assumes nothing.
+use mathlib.Core.Path.{_≡_, refl, sym, ap, ap₂, subst, _∙_}
+use mathlib.Core.Bool.{Bool, true, false, not}
+use mathlib.Core.List.{List}
+use Prim.Native.Nat.{ℕ}
+use lib.IntN.{ℤ, _+ℤ_}
+use Rattle.scales.specs.Meaning.{andThen, inSpan, Judged, given, gives, Outcome, refused, answer, outcome, Moment, dated, numberOf, momentAt, timeScale, timeCount}
+use Rattle.scales.specs.declared.Scale.{Scale}
+use Rattle.scales.specs.declared.Scale.the-variants as S
+use Rattle.scales.specs.declared.Time.{Time}
+use Rattle.scales.specs.declared.Refusal.{Refusal}
+use Rattle.decimal.specs.Meaning.{since}
+use Rattle.decimal.specs.declared.Taken.{Taken}
+use Rattle.decimal.specs.declared.Taken.the-variants as K
+use Rattle.leap.specs.Meaning.{seconds, accepted, taiOf, hasMicro, isExpiredDay}
+use Rattle.changes.specs.Meaning.{ofCount, settled, moving}
+use Rattle.text_read.specs.Meaning.{scaleIn, reading, readingIn, listed}
+use Rattle.text_read.specs.Stage.{takenScale, taking, ParsesText}
+use Rattle.text_read.specs.Judging.{list-passes}
+use Rattle.text_read.specs.declared.Parsed.{Parsed}
+use Rattle.text_read.specs.declared.Parsed.the-variants as P
+
+abbrev pub onward : {A B : Type 0} → (A → Judged B) → Outcome A → Outcome B
+onward k (refused n) = refused n
+onward k (answer a) = outcome (k a)
+
+pub then-is : {A B : Type 0} (j : Judged A) (k : A → Judged B) → outcome (andThen j k) ≡ onward k (outcome j)
+then-is (given true n rest) k = then-is rest k
+then-is (given false n rest) k = refl
+then-is (gives a) k = refl
+
+module _ (to : Scale) (ds : List ℤ) (os : List ℕ) (e : ℤ) where
+  abbrev pub into : Scale → Moment → Judged Moment
+  into z m = moving z to ds os e (inSpan z (m .day) (m .micro)) m
+
+  -- of a time that was taken from a text
+  abbrev pub timeIn : Taken → Judged Moment
+  timeIn t = andThen (taking t ds os e) (into (takenScale t))
+
+  module _ (w : accepted ds os e ≡ true) where
+    pub in-outside : (z : Scale) → dated to (refused 7) ≡ dated to (outcome (timeIn (K.Outside z)))
+    in-outside z = sym (rw (list-passes ds os e z (λ h. w)))
+
+    -- what was judged once is judged the same again
+    once : (a b c : Bool) (k : Judged Moment)
+        → outcome (given a 7 (given b 9 (given c 10 k))) ≡ outcome (given a 7 (given b 9 (given c 10 (given a 7 (given b 9 (given c 10 k))))))
+    once true true true k = refl
+    once true true false k = refl
+    once true false c k = refl
+    once false b c k = refl
+
+    again : (a : Bool) (k : Judged Moment) → outcome (given a 7 k) ≡ outcome (given a 7 (given a 7 k))
+    again true k = refl
+    again false k = refl
+
+    twice : (z : Scale) (m : Moment) → outcome (into z m) ≡ outcome (andThen (listed z ds os e (inSpan z (m .day) (m .micro)) m (gives m)) (into z))
+    twice S.Tai m = again (inSpan S.Tai (m .day) (m .micro)) (settled S.Tai to ds os e m (since (m .day) (m .micro)))
+    twice S.Utc m =
+        once (inSpan S.Utc (m .day) (m .micro)) (not (isExpiredDay e (m .day))) (hasMicro ds (m .day) (m .micro)) (settled S.Utc to ds os e m (taiOf ds os (m .day) (m .micro)))
+        ∙ sym (rw w)
+    twice S.Gps m = again (inSpan S.Gps (m .day) (m .micro)) (settled S.Gps to ds os e m (since (m .day) (m .micro) +ℤ seconds 19))
+
+    pub in-at : (t : Time)
+        → dated to (outcome (ofCount (timeScale t) (timeCount t) (moving (timeScale t) to ds os e))) ≡ dated to (outcome (timeIn (K.At t)))
+    in-at t = ap (dated to) (twice (timeScale t) (momentAt (timeScale t) (timeCount t)))
+
+  -- ---- a text that was parsed
+  module _ (s : List ℕ) (r : Parsed) (p : ParsesText s r) where
+    pub in-refused : (f : Refusal) → r ≡ P.Refused f → dated to (refused (numberOf f)) ≡ dated to (outcome (readingIn to s ds os e))
+    in-refused f q =
+        let x = subst (ParsesText s) q p .is ds os e in
+        ap (dated to) (ap (onward (into (scaleIn s))) x ∙ sym (then-is (reading s ds os e) (into (scaleIn s))))
+
+    pub in-parsed : (t : Taken) → r ≡ P.Time t → dated to (outcome (timeIn t)) ≡ dated to (outcome (readingIn to s ds os e))
+    in-parsed t q =
+        let x = subst (ParsesText s) q p .is in
+        ap (dated to)
+        (then-is (taking t ds os e) (into (takenScale t))
+        ∙ ap₂ (λ (z : Scale) (o : Outcome Moment). onward (into z) o) (x .0) (x .1 ds os e)
+        ∙ sym (then-is (reading s ds os e) (into (scaleIn s))))
