@@ -1,5 +1,5 @@
 -- The ways out of the changes: the TAI count on the way, and a law for each refusal and each answer. Assumes nothing.
-use mathlib.Core.Path.{_≡_, sym, ap, ap₂, subst, _∙_}
+use mathlib.Core.Path.{_≡_, refl, sym, ap, ap₂, subst, _∙_}
 use mathlib.Core.Bool.{Bool, true, false, _&&_}
 use mathlib.Core.List.{List}
 use Prim.Native.Nat.{ℕ, _+_, _-_, _*_, _/_, _%_, _<_, _≤_}
@@ -11,7 +11,8 @@ use borrow.Author.Tests.{le-leb, lt-leb, lt-ltb, le-ltb}
 use Rattle.axis.specs.Meaning.{placeOfDay, dayAt, microsAt}
 use Rattle.axis.specs.Axis.{day-le}
 use Rattle.axis.specs.Diff.{sub-inj-same}
-use Rattle.scales.specs.Meaning.{andThen, bound, inSpan, Judged, given, gives, Outcome, refused, answer, outcome, Slip, Moment, dated, numberOf, momentAt}
+use Rattle.scales.specs.Meaning.{andThen, bound, inSpan, Judged, given, Outcome, refused, answer, outcome, Slip, Moment, dated, numberOf, momentAt}
+use Rattle.scales.specs.Order.{onward, then-is}
 use Rattle.scales.specs.Place.{firstAt, and-false}
 use Rattle.scales.specs.Same.{refusals}
 use Rattle.scales.specs.declared.Scale.{Scale}
@@ -28,7 +29,7 @@ use Rattle.leap.specs.Places.{day-next, micros-le, micros-add, micros-minus, ta
 use Rattle.leap.specs.Steps.{steps}
 use Rattle.leap.specs.Back.{forth, none-before}
 use Rattle.leap.specs.Whole.{taiAt, expired-at, offset-small, before-known}
-use Rattle.changes.specs.Meaning.{fromTai, fromGps, fromUtc, within, toTai, toGps, toUtc, ofCount, listed}
+use Rattle.changes.specs.Meaning.{fromTai, fromGps, fromUtc, within, toTai, toGps, toUtc, ofCount, listed, fromScale, toScale}
 
 -- ---- a TAI count on the way: its span is not tested, and it is well on the axis
 pub record OnTheWay (c : ℕ) : Type 0 where
@@ -60,35 +61,54 @@ counted-one (DT.Refused f) (DT.Refused g) e = let q : numberOf f ≡ numberOf g 
 pub left-one : (j : Judged ℤ) (a b : DatedTai) → Left j a → Left j b → a ≡ b
 left-one j a b p q = counted-one a b (p .is ∙ sym (q .is))
 
--- ---- two chains, one after the other
-then-answer : {A B : Type 0} (j : Judged A) (f : A → Judged B) (a : A) → answer a ≡ outcome j → outcome (f a) ≡ outcome (andThen j f)
-then-answer (given true n rest) f a e = then-answer rest f a e
-then-answer (given false n rest) f a e = absurd (let z : _≡_ {A = ℕ} 0 1 = cc in omega arith)
-then-answer {A} {B} (gives b) f a e = let q : a ≡ b = cc in ap (λ (x : A). outcome (f x)) q
+-- ---- what is left of a change when its time was taken to a TAI count, or was refused
+module _ {j : Judged ℤ} {r : DatedTai} (w : Left j r) where
+  pub way-held : {t : Tai} → r ≡ DT.At t → OnTheWay (t .0)
+  way-held g = subst Held g (w .held)
 
-then-refused : {A B : Type 0} (j : Judged A) (f : A → Judged B) (n : ℕ) → refused n ≡ outcome j → refused n ≡ outcome (andThen j f)
-then-refused (given true m rest) f n e = then-refused rest f n e
-then-refused (given false m rest) f n e = let q : n ≡ m = cc in ap refused q
-then-refused (gives b) f n e = absurd (let z : _≡_ {A = ℕ} 0 1 = cc in omega arith)
+  module _ (to : Scale) (next : ℤ → Judged Moment) where
+    passes : (d : DatedTai) → r ≡ d → dated to (onward next (counted d)) ≡ dated to (outcome (andThen j next))
+    passes d g = ap (dated to) (sym (then-is j next ∙ ap (onward next) (sym (w .is) ∙ ap counted g)))
 
--- what is left of a change when its time was taken to a TAI count, or was refused
-module _ (to : Scale) (j : Judged ℤ) (next : ℤ → Judged Moment) (r : DatedTai) (w : Left j r) where
-  pub way-on : (t : Tai) → r ≡ DT.At t → dated to (outcome (next (microsAt (t .0)))) ≡ dated to (outcome (andThen j next))
-  way-on t e = ap (dated to) (then-answer j next (microsAt (t .0)) (ap counted (sym e) ∙ w .is))
+    pub way-on : {t : Tai} {x : Slip} → r ≡ DT.At t → x ≡ dated to (outcome (next (microsAt (t .0)))) → x ≡ dated to (outcome (andThen j next))
+    way-on {t} g h = h ∙ passes (DT.At t) g
 
-  pub way-out : (f : Refusal) → r ≡ DT.Refused f → dated to (refused (numberOf f)) ≡ dated to (outcome (andThen j next))
-  way-out f e = ap (dated to) (then-refused j next (numberOf f) (ap counted (sym e) ∙ w .is))
-
-  pub way-held : (t : Tai) → r ≡ DT.At t → OnTheWay (t .0)
-  way-held t e = subst Held e (w .held)
+    pub way-out : {f : Refusal} → r ≡ DT.Refused f → dated to (refused (numberOf f)) ≡ dated to (outcome (andThen j next))
+    way-out {f} g = passes (DT.Refused f) g
 
 -- ---- the list is judged before
-module _ (to : Scale) (ds : List ℤ) (os : List ℕ) (e : ℤ) (j : Judged Moment) where
-  pub list-out : accepted ds os e ≡ false → dated to (refused 5) ≡ dated to (outcome (listed ds os e j))
-  list-out h = sym (rw h)
+pub list-in : (to : Scale) (ds : List ℤ) (os : List ℕ) (e : ℤ) (j : Judged Moment) → accepted ds os e ≡ true → dated to (outcome j) ≡ dated to (outcome (listed ds os e j))
+list-in to ds os e j h = sym (rw h)
 
-  pub list-in : accepted ds os e ≡ true → dated to (outcome j) ≡ dated to (outcome (listed ds os e j))
-  list-in h = sym (rw h)
+-- the way to the TAI count of a change that uses a list
+abbrev pub byList : Scale → ℕ → List ℤ → List ℕ → ℤ → Judged ℤ
+byList s n ds os e = given (accepted ds os e) 5 (ofCount s n (fromScale s ds os e))
+
+-- the last day is e; a callee reads it from its bits, as z
+module _ (s : Scale) (n : ℕ) (ds : List ℤ) (os : List ℕ) {z e : ℤ} (q : z ≡ e) where
+  pub list-lacks : accepted ds os z ≡ false → Left (byList s n ds os e) (DT.Refused R.List)
+  list-lacks h = record { is = sym (rw (← q, h)); held = omega arith }
+
+  pub list-there : {r : DatedTai} → accepted ds os z ≡ true → Left (ofCount s n (fromScale s ds os z)) r → Left (byList s n ds os e) r
+  list-there {r} h w = subst (λ (y : ℤ). Left (byList s n ds os y) r) q (record { is = w .is ∙ sym (rw h); held = w .held })
+
+  module _ {r : DatedTai} (w : Left (byList s n ds os z) r) where
+    pub list-held : {t : Tai} → r ≡ DT.At t → OnTheWay (t .0) × (accepted ds os z ≡ true)
+    list-held {t} g = (way-held w g, go (accepted ds os z) (ap counted (sym g) ∙ w .is))
+      where
+        go : (b : Bool) → answer (microsAt (t .0)) ≡ outcome (given b 5 (ofCount s n (fromScale s ds os z))) → b ≡ true
+        go true h = refl
+        go false h = absurd (let y : _≡_ {A = ℕ} 0 1 = cc in omega arith)
+
+    module _ (to : Scale) where
+      abbrev by : ℤ → Slip
+      by y = dated to (outcome (andThen (byList s n ds os y) (toScale to ds os y)))
+
+      pub list-on : {t : Tai} {x : Slip} → r ≡ DT.At t → x ≡ dated to (outcome (toScale to ds os z (microsAt (t .0)))) → x ≡ by e
+      list-on g h = way-on w to (toScale to ds os z) g h ∙ ap by q
+
+      pub list-out : {f : Refusal} → r ≡ DT.Refused f → dated to (refused (numberOf f)) ≡ by e
+      list-out g = way-out w to (toScale to ds os z) g ∙ ap by q
 
 -- ---- the spans, by the place of a day
 pub span-at : (s : Scale) (a u : ℕ) → inSpan s (dayAt a) u ≡ (leb (firstAt s) a && (leb a 76524 && ltb u (bound s)))

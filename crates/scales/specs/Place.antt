@@ -36,17 +36,17 @@ last-is S.Tai d = day-to 76524 d (lit< tt)
 last-is S.Utc d = day-to 76524 d (lit< tt)
 last-is S.Gps d = day-to 76524 d (lit< tt)
 
--- what the laws below use of a scale's numbers
+-- what the laws use of a scale's numbers; the calendar's first month begins at 29773
 pub record Apart (s : Scale) : Type 0 where
-  pub from : 0 < firstAt s
+  pub from : 29773 ≤ firstAt s
   pub to : lastAt s ≡ 76524
   pub whole : 86400000000 ≤ bound s
   pub most : bound s ≤ 86401000000
 
 pub apart : (s : Scale) → Apart s
-apart S.Tai = record { from = lit< tt; to = refl; whole = lit≤ tt; most = lit≤ tt }
-apart S.Utc = record { from = lit< tt; to = refl; whole = lit≤ tt; most = lit≤ tt }
-apart S.Gps = record { from = lit< tt; to = refl; whole = lit≤ tt; most = lit≤ tt }
+apart S.Tai = record { from = lit≤ tt; to = refl; whole = lit≤ tt; most = lit≤ tt }
+apart S.Utc = record { from = lit≤ tt; to = refl; whole = lit≤ tt; most = lit≤ tt }
+apart S.Gps = record { from = lit≤ tt; to = refl; whole = lit≤ tt; most = lit≤ tt }
 
 -- the three spans, as one law
 pub span-is : (s : Scale) (d : ℤ) (u : ℕ) →

@@ -2,25 +2,17 @@
 use mathlib.Core.Path.{_≡_, sym, ap, subst, _∙_}
 use mathlib.Core.Bool.{true}
 use lib.IntN.{ℤ}
-use mir.Syntax.{w64}
-use mir.Val.{toZ, ofZ}
 use mir.Facts.{toZ-ofZ}
 use borrow.Author.Tests.{eq-eqb, ne-eqb}
-use Rattle.axis.specs.Meaning.{microsAt}
-use Rattle.scales.specs.Meaning.{codeOf, outcome, dated, slip, momentAt, timeScale, timeCount}
+use Rattle.scales.specs.Meaning.{codeOf, slip, timeScale, timeCount}
 use Rattle.scales.specs.declared.Record.{Record}
 use Rattle.scales.specs.declared.Dated.the-variants as D
 use Rattle.leap.specs.Meaning.{accepted}
-use Rattle.changes.specs.Meaning.{ofCount, fromScale, settled, moving}
-use Rattle.changes.specs.Ways.{way-on, way-out, way-held}
-use Rattle.changes.specs.General.{uses-from, uses-to, stays, goes}
+use Rattle.changes.specs.Ways.{way-held}
+use Rattle.changes.specs.General.{uses-from, uses-to, move-stays, move-goes, move-out}
 use borrow.Author.Needs.{needs}
 use Rattle.changes.proofs.inner.change.Statement.{statement}
 use Rattle.changes.proofs.inner.change.Tie as tie
-
--- the last day as a callee reads it from its bits
-abbrev seen : ℤ → ℤ
-seen z = toZ w64 (ofZ w64 z)
 
 from-time-requires : tie.Need-from-time-requires
 from-time-requires c κs =
@@ -56,12 +48,8 @@ returns c =
     let s = b .before .before in
     let a = s .args in
     ap (λ (r : Record). slip (D.At r)) (c .to-record .ensures)
-    ∙ stays (timeScale (a .t)) (a .to) (a .days .now) (a .offsets .now) (seen (a .last)) (momentAt (timeScale (a .t)) (timeCount (a .t))) (microsAt (k .c .given .0 .0 .0))
+    ∙ move-stays (timeScale (a .t)) (timeCount (a .t)) (a .days .now) (a .offsets .now) (toZ-ofZ (s .fits .last)) (b .from-time .ensures) (a .to) (k .c .given .1)
     (eq-eqb (codeOf (timeScale (a .t))) (codeOf (a .to)) (sym (codes i .0) ∙ c .before .if1 .taken ∙ codes i .1))
-    ∙ way-on (a .to) (ofCount (timeScale (a .t)) (timeCount (a .t)) (fromScale (timeScale (a .t)) (a .days .now) (a .offsets .now) (seen (a .last))))
-    (settled (timeScale (a .t)) (a .to) (a .days .now) (a .offsets .now) (seen (a .last)) (momentAt (timeScale (a .t)) (timeCount (a .t))))
-    (b .from-time .result) (b .from-time .ensures) (k .c .given .0 .0) (k .c .given .1)
-    ∙ ap (λ (z : ℤ). dated (a .to) (outcome (ofCount (timeScale (a .t)) (timeCount (a .t)) (moving (timeScale (a .t)) (a .to) (a .days .now) (a .offsets .now) z)))) (toZ-ofZ (s .fits .last))
 
 to-scale-requires : tie.Need-to-scale-requires
 to-scale-requires c κs =
@@ -69,9 +57,7 @@ to-scale-requires c κs =
     let b = k .before .before in
     let s = b .before .before in
     let a = s .args in (
-      way-held (a .to) (ofCount (timeScale (a .t)) (timeCount (a .t)) (fromScale (timeScale (a .t)) (a .days .now) (a .offsets .now) (seen (a .last))))
-          (settled (timeScale (a .t)) (a .to) (a .days .now) (a .offsets .now) (seen (a .last)) (momentAt (timeScale (a .t)) (timeCount (a .t))))
-          (b .from-time .result) (b .from-time .ensures) (k .c .given .0 .0) (k .c .given .1),
+      way-held (b .from-time .ensures) (k .c .given .1),
       λ h. subst (λ (z : ℤ). accepted (a .days .now) (a .offsets .now) z ≡ true) (sym (toZ-ofZ (s .fits .last))) (s .pre (uses-to (timeScale (a .t)) (a .to) h)),
     )
 
@@ -85,13 +71,8 @@ returns-2 c =
     let b = k .before .before in
     let s = b .before .before in
     let a = s .args in
-    c .to-scale .ensures
-    ∙ goes (timeScale (a .t)) (a .to) (a .days .now) (a .offsets .now) (seen (a .last)) (momentAt (timeScale (a .t)) (timeCount (a .t))) (microsAt (k .c .given .0 .0 .0))
-    (ne-eqb (codeOf (timeScale (a .t))) (codeOf (a .to)) (λ q. c .before .if1 .left (codes i .0 ∙ q ∙ sym (codes i .1))))
-    ∙ way-on (a .to) (ofCount (timeScale (a .t)) (timeCount (a .t)) (fromScale (timeScale (a .t)) (a .days .now) (a .offsets .now) (seen (a .last))))
-    (settled (timeScale (a .t)) (a .to) (a .days .now) (a .offsets .now) (seen (a .last)) (momentAt (timeScale (a .t)) (timeCount (a .t))))
-    (b .from-time .result) (b .from-time .ensures) (k .c .given .0 .0) (k .c .given .1)
-    ∙ ap (λ (z : ℤ). dated (a .to) (outcome (ofCount (timeScale (a .t)) (timeCount (a .t)) (moving (timeScale (a .t)) (a .to) (a .days .now) (a .offsets .now) z)))) (toZ-ofZ (s .fits .last))
+    move-goes (timeScale (a .t)) (timeCount (a .t)) (a .days .now) (a .offsets .now) (toZ-ofZ (s .fits .last)) (b .from-time .ensures) (a .to) (k .c .given .1)
+    (ne-eqb (codeOf (timeScale (a .t))) (codeOf (a .to)) (λ q. c .before .if1 .left (codes i .0 ∙ q ∙ sym (codes i .1)))) (c .to-scale .ensures)
 
 returns-3 : tie.Need-returns-3
 returns-3 c =
@@ -99,10 +80,7 @@ returns-3 c =
     let b = k .before .before in
     let s = b .before .before in
     let a = s .args in
-    way-out (a .to) (ofCount (timeScale (a .t)) (timeCount (a .t)) (fromScale (timeScale (a .t)) (a .days .now) (a .offsets .now) (seen (a .last))))
-    (settled (timeScale (a .t)) (a .to) (a .days .now) (a .offsets .now) (seen (a .last)) (momentAt (timeScale (a .t)) (timeCount (a .t))))
-    (b .from-time .result) (b .from-time .ensures) (k .f .given .0 .0) (k .f .given .1)
-    ∙ ap (λ (z : ℤ). dated (a .to) (outcome (ofCount (timeScale (a .t)) (timeCount (a .t)) (moving (timeScale (a .t)) (a .to) (a .days .now) (a .offsets .now) z)))) (toZ-ofZ (s .fits .last))
+    move-out (timeScale (a .t)) (timeCount (a .t)) (a .days .now) (a .offsets .now) (toZ-ofZ (s .fits .last)) (b .from-time .ensures) (a .to) (k .f .given .1)
 
 pub change-spec : {M : Type 1} → statement M
 change-spec =
