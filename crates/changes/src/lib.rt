@@ -4,7 +4,7 @@ ghost use mathlib.Core.Bool.{not, _&&_};
 ghost use Rattle.scales.specs.Meaning.{slip, slipTai, slipUtc, slipGps, timeScale, timeCount};
 ghost use Rattle.leap.specs.Meaning.{accepted};
 ghost use Rattle.changes.specs.Meaning.{taiToGps, gpsToTai, utcToTai, utcToGps, taiToUtc, gpsToUtc, usesList, changeOf};
-ghost use Rattle.changes.specs.Ways.{Left, byList};
+ghost use Rattle.changes.specs.Ways.{ByList};
 use decimal::Taken;
 use scales::Dated;
 use scales::DatedGps;
@@ -40,7 +40,7 @@ pub fn gps_to_tai(t: Gps) -> DatedTai
 
 // The way to the TAI count in a change that uses a list: the list is judged before the time.
 fn by_list(t: Time, days: &[i64], offsets: &[u64], last: i64) -> DatedTai
-    ensures { λ r. ⌜ Left (byList (timeScale t) (timeCount t) (now (days .entry)) (now (offsets .entry)) last) r ⌝ }
+    ensures { λ r. ⌜ ByList (timeScale t) (timeCount t) (now (days .entry)) (now (offsets .entry)) last r ⌝ }
 {
     if !leap::is_accepted(days, offsets, last) {
         return DatedTai::Refused(Refusal::List);

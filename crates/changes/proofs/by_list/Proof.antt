@@ -1,7 +1,6 @@
 -- `changes::by_list` meets its contract: the list is judged, then the time. Assumes nothing.
 use mathlib.Core.Path.{sym, _∙_}
 use mir.Facts.{toZ-ofZ}
-use Rattle.scales.specs.Meaning.{timeScale, timeCount}
 use Rattle.changes.specs.Ways.{list-lacks, list-there}
 use borrow.Author.Needs.{needs}
 use borrow.Author.Tests.{not-true, not-false}
@@ -14,9 +13,7 @@ is-accepted-requires c κs = search needs
 returns : tie.Need-returns
 returns c =
     let b = c .before in
-    let s = b .before .before in
-    let a = s .args in
-    list-lacks (timeScale (a .t)) (timeCount (a .t)) (a .days .now) (a .offsets .now) (toZ-ofZ (s .fits .last)) (sym (b .is-accepted .ensures) ∙ not-true (b .is-accepted .result) (c .if1 .taken))
+    list-lacks (toZ-ofZ (b .before .before .fits .last)) (sym (b .is-accepted .ensures) ∙ not-true (b .is-accepted .result) (c .if1 .taken))
 
 from-time-requires : tie.Need-from-time-requires
 from-time-requires c κs = let b = c .before in λ h. sym (b .is-accepted .ensures) ∙ not-false (b .is-accepted .result) (c .if1 .left)
@@ -24,9 +21,7 @@ from-time-requires c κs = let b = c .before in λ h. sym (b .is-accepted .ensur
 returns-2 : tie.Need-returns-2
 returns-2 c =
     let b = c .before .before in
-    let s = b .before .before in
-    let a = s .args in
-    list-there (timeScale (a .t)) (timeCount (a .t)) (a .days .now) (a .offsets .now) (toZ-ofZ (s .fits .last)) (sym (b .is-accepted .ensures) ∙ not-false (b .is-accepted .result) (c .before .if1 .left)) (c .from-time .ensures)
+    list-there (toZ-ofZ (b .before .before .fits .last)) (sym (b .is-accepted .ensures) ∙ not-false (b .is-accepted .result) (c .before .if1 .left)) (c .from-time .ensures)
 
 pub by-list-spec : {M : Type 1} → statement M
 by-list-spec = tie.close (tie.spec is-accepted-requires returns from-time-requires returns-2)

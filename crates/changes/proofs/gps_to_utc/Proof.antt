@@ -2,7 +2,7 @@
 use mir.Facts.{toZ-ofZ}
 use Rattle.scales.specs.declared.Scale.the-variants as S
 use Rattle.changes.specs.Meaning.{gpsToUtc}
-use Rattle.changes.specs.Ways.{list-on, list-out, list-held}
+use Rattle.changes.specs.Ways.{list-on, list-out, list-held, list-known}
 use borrow.Author.Needs.{needs}
 use Rattle.changes.proofs.gps_to_utc.Statement.{statement}
 use Rattle.changes.proofs.gps_to_utc.Tie as tie
@@ -16,10 +16,8 @@ enum-known-c c = search needs
 to-utc-requires : tie.Need-to-utc-requires
 to-utc-requires c κs =
     let k = c .before in
-    let b = k .before .before in
-    let s = b .before .before in
-    let a = s .args in
-    list-held S.Gps (a .t .0) (a .days .now) (a .offsets .now) (toZ-ofZ (s .fits .last)) (b .by-list .ensures) (k .c .given .1)
+    let w = k .before .before .by-list .ensures in
+    (list-held w (k .c .given .1), list-known w (k .c .given .1))
 
 enum-known-f : tie.Need-enum-known-f
 enum-known-f c = search needs
@@ -29,18 +27,11 @@ unfolding gpsToUtc
 returns c =
     let k = c .before .before in
     let b = k .before .before in
-    let s = b .before .before in
-    let a = s .args in
-    list-on S.Gps (a .t .0) (a .days .now) (a .offsets .now) (toZ-ofZ (s .fits .last)) (b .by-list .ensures) S.Utc (k .c .given .1) (c .to-utc .ensures)
+    list-on (toZ-ofZ (b .before .before .fits .last)) (b .by-list .ensures) S.Utc (k .c .given .1) (c .to-utc .ensures)
 
 returns-2 : tie.Need-returns-2
 unfolding gpsToUtc
-returns-2 c =
-    let k = c .before in
-    let b = k .before .before in
-    let s = b .before .before in
-    let a = s .args in
-    list-out S.Gps (a .t .0) (a .days .now) (a .offsets .now) (toZ-ofZ (s .fits .last)) (b .by-list .ensures) S.Utc (k .f .given .1)
+returns-2 c = let b = c .before .before .before in list-out (toZ-ofZ (b .before .before .fits .last)) (b .by-list .ensures) S.Utc (c .before .f .given .1)
 
 pub gps-to-utc-spec : {M : Type 1} → statement M
 gps-to-utc-spec =

@@ -2,7 +2,7 @@
 use mir.Facts.{toZ-ofZ}
 use Rattle.scales.specs.declared.Scale.the-variants as S
 use Rattle.changes.specs.Meaning.{utcToTai}
-use Rattle.changes.specs.Ways.{list-on, list-out, way-held}
+use Rattle.changes.specs.Ways.{list-on, list-out, list-held}
 use borrow.Author.Needs.{needs}
 use Rattle.changes.proofs.utc_to_tai.Statement.{statement}
 use Rattle.changes.proofs.utc_to_tai.Tie as tie
@@ -14,7 +14,7 @@ enum-known-c : tie.Need-enum-known-c
 enum-known-c c = search needs
 
 to-tai-requires : tie.Need-to-tai-requires
-to-tai-requires c κs = let k = c .before in way-held (k .before .before .by-list .ensures) (k .c .given .1)
+to-tai-requires c κs = let k = c .before in list-held (k .before .before .by-list .ensures) (k .c .given .1)
 
 enum-known-f : tie.Need-enum-known-f
 enum-known-f c = search needs
@@ -24,18 +24,11 @@ unfolding utcToTai
 returns c =
     let k = c .before .before in
     let b = k .before .before in
-    let s = b .before .before in
-    let a = s .args in
-    list-on S.Utc (a .t .0) (a .days .now) (a .offsets .now) (toZ-ofZ (s .fits .last)) (b .by-list .ensures) S.Tai (k .c .given .1) (c .to-tai .ensures)
+    list-on (toZ-ofZ (b .before .before .fits .last)) (b .by-list .ensures) S.Tai (k .c .given .1) (c .to-tai .ensures)
 
 returns-2 : tie.Need-returns-2
 unfolding utcToTai
-returns-2 c =
-    let k = c .before in
-    let b = k .before .before in
-    let s = b .before .before in
-    let a = s .args in
-    list-out S.Utc (a .t .0) (a .days .now) (a .offsets .now) (toZ-ofZ (s .fits .last)) (b .by-list .ensures) S.Tai (k .f .given .1)
+returns-2 c = let b = c .before .before .before in list-out (toZ-ofZ (b .before .before .fits .last)) (b .by-list .ensures) S.Tai (c .before .f .given .1)
 
 pub utc-to-tai-spec : {M : Type 1} → statement M
 utc-to-tai-spec =
