@@ -1,13 +1,10 @@
 -- `changes::inner::change` meets its contract: by way of the TAI count, or as it is. Assumes nothing.
-use mathlib.Core.Path.{_≡_, sym, ap, subst, _∙_}
-use mathlib.Core.Bool.{true}
-use lib.IntN.{ℤ}
+use mathlib.Core.Path.{_≡_, sym, ap, _∙_}
 use mir.Facts.{toZ-ofZ}
 use borrow.Author.Tests.{eq-eqb, ne-eqb}
 use Rattle.scales.specs.Meaning.{codeOf, slip, timeScale, timeCount}
 use Rattle.scales.specs.declared.Record.{Record}
 use Rattle.scales.specs.declared.Dated.the-variants as D
-use Rattle.leap.specs.Meaning.{accepted}
 use Rattle.changes.specs.Ways.{way-held}
 use Rattle.changes.specs.General.{uses-from, uses-to, move-stays, move-goes, move-out}
 use borrow.Author.Needs.{needs}
@@ -18,7 +15,7 @@ from-time-requires : tie.Need-from-time-requires
 from-time-requires c κs =
     let s = c .before in
     let a = s .args in
-    λ h. subst (λ (z : ℤ). accepted (a .days .now) (a .offsets .now) z ≡ true) (sym (toZ-ofZ (s .fits .last))) (s .pre (uses-from (timeScale (a .t)) (a .to) h))
+    λ h. rw (toZ-ofZ (s .fits .last)) (s .pre (uses-from (timeScale (a .t)) (a .to) h))
 
 enum-known-c : tie.Need-enum-known-c
 enum-known-c c = search needs
@@ -58,7 +55,7 @@ to-scale-requires c κs =
     let s = b .before .before in
     let a = s .args in (
       way-held (b .from-time .ensures) (k .c .given .1),
-      λ h. subst (λ (z : ℤ). accepted (a .days .now) (a .offsets .now) z ≡ true) (sym (toZ-ofZ (s .fits .last))) (s .pre (uses-to (timeScale (a .t)) (a .to) h)),
+      λ h. rw (toZ-ofZ (s .fits .last)) (s .pre (uses-to (timeScale (a .t)) (a .to) h)),
     )
 
 enum-known-f : tie.Need-enum-known-f
