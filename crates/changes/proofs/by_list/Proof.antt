@@ -7,9 +7,6 @@ use borrow.Author.Tests.{not-true, not-false}
 use Rattle.changes.proofs.by_list.Statement.{statement}
 use Rattle.changes.proofs.by_list.Tie as tie
 
-is-accepted-requires : tie.Need-is-accepted-requires
-is-accepted-requires c κs = search needs
-
 returns : tie.Need-returns
 returns c =
     let b = c .before in
@@ -24,4 +21,4 @@ returns-2 c =
     list-there (toZ-ofZ (b .before .before .fits .last)) (sym (b .is-accepted .ensures) ∙ not-false (b .is-accepted .result) (c .before .if1 .left)) (c .from-time .ensures)
 
 pub by-list-spec : {M : Type 1} → statement M
-by-list-spec = tie.close (tie.spec is-accepted-requires returns from-time-requires returns-2)
+by-list-spec = tie.close (tie.spec (λ c κs. search needs) returns from-time-requires returns-2)

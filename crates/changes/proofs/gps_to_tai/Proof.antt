@@ -6,17 +6,8 @@ use borrow.Author.Needs.{needs}
 use Rattle.changes.proofs.gps_to_tai.Statement.{statement}
 use Rattle.changes.proofs.gps_to_tai.Tie as tie
 
-from-gps-requires : tie.Need-from-gps-requires
-from-gps-requires c κs = search needs
-
-enum-known-c : tie.Need-enum-known-c
-enum-known-c c = search needs
-
 to-tai-requires : tie.Need-to-tai-requires
 to-tai-requires c κs = let k = c .before in way-held (k .before .before .from-gps .ensures) (k .c .given .1)
-
-enum-known-f : tie.Need-enum-known-f
-enum-known-f c = search needs
 
 returns : tie.Need-returns
 unfolding gpsToTai
@@ -29,4 +20,4 @@ returns-2 c = let k = c .before in way-out (k .before .before .from-gps .ensures
 pub gps-to-tai-spec : {M : Type 1} → statement M
 gps-to-tai-spec =
     tie.close
-    (tie.spec from-gps-requires enum-known-c to-tai-requires enum-known-f returns returns-2)
+    (tie.spec (λ c κs. search needs) (λ c. search needs) to-tai-requires (λ c. search needs) returns returns-2)

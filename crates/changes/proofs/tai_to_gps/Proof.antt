@@ -6,17 +6,8 @@ use borrow.Author.Needs.{needs}
 use Rattle.changes.proofs.tai_to_gps.Statement.{statement}
 use Rattle.changes.proofs.tai_to_gps.Tie as tie
 
-from-tai-requires : tie.Need-from-tai-requires
-from-tai-requires c κs = search needs
-
-enum-known-c : tie.Need-enum-known-c
-enum-known-c c = search needs
-
 to-gps-requires : tie.Need-to-gps-requires
 to-gps-requires c κs = let k = c .before in way-held (k .before .before .from-tai .ensures) (k .c .given .1)
-
-enum-known-f : tie.Need-enum-known-f
-enum-known-f c = search needs
 
 returns : tie.Need-returns
 unfolding taiToGps
@@ -29,4 +20,4 @@ returns-2 c = let k = c .before in way-out (k .before .before .from-tai .ensures
 pub tai-to-gps-spec : {M : Type 1} → statement M
 tai-to-gps-spec =
     tie.close
-    (tie.spec from-tai-requires enum-known-c to-gps-requires enum-known-f returns returns-2)
+    (tie.spec (λ c κs. search needs) (λ c. search needs) to-gps-requires (λ c. search needs) returns returns-2)

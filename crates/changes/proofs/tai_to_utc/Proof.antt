@@ -7,20 +7,11 @@ use borrow.Author.Needs.{needs}
 use Rattle.changes.proofs.tai_to_utc.Statement.{statement}
 use Rattle.changes.proofs.tai_to_utc.Tie as tie
 
-by-list-requires : tie.Need-by-list-requires
-by-list-requires c κs = search needs
-
-enum-known-c : tie.Need-enum-known-c
-enum-known-c c = search needs
-
 to-utc-requires : tie.Need-to-utc-requires
 to-utc-requires c κs =
     let k = c .before in
     let w = k .before .before .by-list .ensures in
     (list-held w (k .c .given .1), list-known w (k .c .given .1))
-
-enum-known-f : tie.Need-enum-known-f
-enum-known-f c = search needs
 
 returns : tie.Need-returns
 unfolding taiToUtc
@@ -36,4 +27,4 @@ returns-2 c = let b = c .before .before .before in list-out (toZ-ofZ (b .before 
 pub tai-to-utc-spec : {M : Type 1} → statement M
 tai-to-utc-spec =
     tie.close
-    (tie.spec by-list-requires enum-known-c to-utc-requires enum-known-f returns returns-2)
+    (tie.spec (λ c κs. search needs) (λ c. search needs) to-utc-requires (λ c. search needs) returns returns-2)

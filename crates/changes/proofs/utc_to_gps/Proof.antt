@@ -7,17 +7,8 @@ use borrow.Author.Needs.{needs}
 use Rattle.changes.proofs.utc_to_gps.Statement.{statement}
 use Rattle.changes.proofs.utc_to_gps.Tie as tie
 
-by-list-requires : tie.Need-by-list-requires
-by-list-requires c κs = search needs
-
-enum-known-c : tie.Need-enum-known-c
-enum-known-c c = search needs
-
 to-gps-requires : tie.Need-to-gps-requires
 to-gps-requires c κs = let k = c .before in list-held (k .before .before .by-list .ensures) (k .c .given .1)
-
-enum-known-f : tie.Need-enum-known-f
-enum-known-f c = search needs
 
 returns : tie.Need-returns
 unfolding utcToGps
@@ -33,4 +24,4 @@ returns-2 c = let b = c .before .before .before in list-out (toZ-ofZ (b .before 
 pub utc-to-gps-spec : {M : Type 1} → statement M
 utc-to-gps-spec =
     tie.close
-    (tie.spec by-list-requires enum-known-c to-gps-requires enum-known-f returns returns-2)
+    (tie.spec (λ c κs. search needs) (λ c. search needs) to-gps-requires (λ c. search needs) returns returns-2)

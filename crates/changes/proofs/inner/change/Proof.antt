@@ -17,21 +17,6 @@ from-time-requires c κs =
     let a = s .args in
     λ h. rw (toZ-ofZ (s .fits .last)) (s .pre (uses-from (timeScale (a .t)) (a .to) h))
 
-enum-known-c : tie.Need-enum-known-c
-enum-known-c c = search needs
-
-scale-requires : tie.Need-scale-requires
-scale-requires c κs = search needs
-
-code-requires : tie.Need-code-requires
-code-requires c κs = search needs
-
-code-requires-2 : tie.Need-code-requires-2
-code-requires-2 c κs = search needs
-
-to-record-requires : tie.Need-to-record-requires
-to-record-requires c κs = search needs
-
 -- the two codes, as the callees give them
 codes : (c : tie.After-code2) → let a = c .before .before .before .before .before .before .before .before .args in
     (c .before .code .result ≡ codeOf (timeScale (a .t))) × (c .code2 .result ≡ codeOf (a .to))
@@ -58,9 +43,6 @@ to-scale-requires c κs =
       λ h. rw (toZ-ofZ (s .fits .last)) (s .pre (uses-to (timeScale (a .t)) (a .to) h)),
     )
 
-enum-known-f : tie.Need-enum-known-f
-enum-known-f c = search needs
-
 returns-2 : tie.Need-returns-2
 returns-2 c =
     let i = c .before .before in
@@ -84,13 +66,13 @@ change-spec =
     tie.close
     (tie.spec
     from-time-requires
-    enum-known-c
-    scale-requires
-    code-requires
-    code-requires-2
-    to-record-requires
+    (λ c. search needs)
+    (λ c κs. search needs)
+    (λ c κs. search needs)
+    (λ c κs. search needs)
+    (λ c κs. search needs)
     returns
     to-scale-requires
-    enum-known-f
+    (λ c. search needs)
     returns-2
     returns-3)

@@ -8,26 +8,11 @@ use borrow.Author.Needs.{needs}
 use Rattle.changes.proofs.inner.from_time.Statement.{statement}
 use Rattle.changes.proofs.inner.from_time.Tie as tie
 
-enum-known-t : tie.Need-enum-known-t
-enum-known-t c = search needs
-
-from-tai-requires : tie.Need-from-tai-requires
-from-tai-requires c κs = search needs
-
-enum-known-t-2 : tie.Need-enum-known-t-2
-enum-known-t-2 c = search needs
-
 from-utc-requires : tie.Need-from-utc-requires
 from-utc-requires c κs =
     let k = c .before in
     let s = k .before .before .before in
     rw (toZ-ofZ (s .fits .last)) (s .pre (ap (λ (t : Time). isUtc (timeScale t)) (k .t2 .given .1)))
-
-enum-known-t-3 : tie.Need-enum-known-t-3
-enum-known-t-3 c = search needs
-
-from-gps-requires : tie.Need-from-gps-requires
-from-gps-requires c κs = search needs
 
 returns : tie.Need-returns
 returns c = let k = c .before .before in rw (k .t .given .1) (c .from-tai .ensures)
@@ -45,12 +30,12 @@ pub from-time-spec : {M : Type 1} → statement M
 from-time-spec =
     tie.close
     (tie.spec
-    enum-known-t
-    from-tai-requires
-    enum-known-t-2
+    (λ c. search needs)
+    (λ c κs. search needs)
+    (λ c. search needs)
     from-utc-requires
-    enum-known-t-3
-    from-gps-requires
+    (λ c. search needs)
+    (λ c κs. search needs)
     returns
     returns-2
     returns-3)
