@@ -8,13 +8,11 @@ use lib.Dec.{leb, ltb, lit<, lit≤}
 use lib.IntN.{ℤ}
 use lib.Signed.{leZ}
 use borrow.Author.Tests.{le-leb, lt-leb, lt-ltb, le-ltb, leb-true, ltb-true}
-use Rattle.axis.specs.Meaning.{placeOfDay, dayAt}
+use Rattle.axis.specs.Meaning.{placeOfDay}
 use Rattle.axis.specs.Axis.{day-from, day-to, day-place, day-inj}
-use Rattle.scales.specs.Meaning.{first, last, bound, inSpan, Outcome, refused, answer, Slip, dated, numberOf, momentAt, spanned}
+use Rattle.scales.specs.Meaning.{first, last, bound, inSpan, refused, answer, dated, momentAt, spanned}
 use Rattle.scales.specs.declared.Scale.{Scale}
 use Rattle.scales.specs.declared.Scale.the-variants as S
-use Rattle.scales.specs.declared.Refusal.{Refusal}
-use Rattle.scales.specs.declared.Refusal.the-variants as R
 use Rattle.scales.specs.declared.counting.Span.{Span}
 use Rattle.scales.specs.declared.counting.Counted.{Counted}
 use Rattle.scales.specs.declared.counting.Counted.the-variants as C
