@@ -13,6 +13,7 @@ use scales::Record;
 use scales::Refusal;
 use scales::Scale;
 use scales::Tick;
+use scales::Ticked;
 use scales::Timed;
 
 // A reference tick and its time, the period in picoseconds, and the window: ticks back and ticks ahead.
@@ -24,12 +25,6 @@ pub struct Correlation {
     pub period: u64,
     pub back: u64,
     pub ahead: u64,
-}
-
-// The tick of a time, or a refusal: then tick 0.
-pub enum Ticked {
-    Tick(Tick),
-    Refused(Refusal),
 }
 
 // A place of the axis of microseconds.
