@@ -2,7 +2,7 @@
 // is not tested: `from_..` gives it, `to_..` takes it.
 ghost use mathlib.Core.Path.{_≡_};
 ghost use mathlib.Core.Bool.{true};
-ghost use Prim.Native.Nat.{_≤_, _<_};
+ghost use Prim.Native.Nat.{_<_};
 ghost use Rattle.axis.specs.Meaning.{dayAt, microsAt};
 ghost use Rattle.scales.specs.Meaning.{outcome, dated, slip, slipTai, slipUtc, slipGps, timeScale, timeCount};
 ghost use Rattle.leap.specs.Meaning.{accepted, hasMicro};

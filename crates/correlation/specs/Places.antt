@@ -10,7 +10,7 @@ use Rattle.axis.specs.Meaning.{placeOfDay, dayAt, microsAt, floorZ, modZ}
 use Rattle.axis.specs.Axis.{day-place, micros-day, micros-left}
 use Rattle.axis.specs.Diff.{is-pos, neg-pos, sub-eq, sub-add, sub-mul, sub-floor, sub-mod}
 use Rattle.axis.specs.Shift.{number-add}
-use Rattle.scales.specs.Meaning.{inSpan, Slip, dated, outcome}
+use Rattle.scales.specs.Meaning.{inSpan, Slip, dated, outcome, momentAt}
 use Rattle.scales.specs.Place.{apart, placed}
 use Rattle.scales.specs.declared.Scale.{Scale}
 use Rattle.scales.specs.declared.Scale.the-variants as S
@@ -29,6 +29,13 @@ spot d u = placeOfDay d * 86400000000 + u
 
 abbrev pub placeIn : Scale → ℤ → ℕ → Place
 placeIn s d u = cond (inSpan s d u && ltb u dayMicros) (P.At (spot d u)) P.Outside
+
+-- of a count of scale s, that lies in its span
+abbrev pub placeAt : Scale → ℕ → Place
+placeAt s n = placeIn s (momentAt s n .day) (momentAt s n .micro)
+
+abbrev pub Spanned : Scale → ℕ → Type 0
+Spanned s n = inSpan s (momentAt s n .day) (momentAt s n .micro) ≡ true
 
 abbrev pub placeOf : Correlation → Place
 placeOf c = cond (accepted c) (P.At (spot (c .day) (c .micro))) P.Outside
