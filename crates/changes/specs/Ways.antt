@@ -1,6 +1,6 @@
 -- The ways out of the changes: the TAI count on the way, and a law for each refusal and each answer. Assumes nothing.
-use mathlib.Core.Path.{_≡_, refl, sym, ap, ap₂, subst, _∙_}
-use mathlib.Core.Bool.{Bool, true, false, _&&_}
+use mathlib.Core.Path.{_≡_, refl, sym, ap, subst, _∙_}
+use mathlib.Core.Bool.{Bool, true, false}
 use mathlib.Core.List.{List}
 use Prim.Native.Nat.{ℕ, _+_, _-_, _*_, _/_, _%_, _<_, _≤_}
 use native.Mathlib.Omega.{arith}
@@ -9,11 +9,10 @@ use lib.IntN.{ℤ, pos, _+ℤ_}
 use lib.Signed.{leZ}
 use borrow.Author.Tests.{le-leb, lt-leb, lt-ltb, le-ltb}
 use Rattle.axis.specs.Meaning.{placeOfDay, dayAt, microsAt}
-use Rattle.axis.specs.Axis.{day-le}
 use Rattle.axis.specs.Diff.{sub-inj-same}
 use Rattle.scales.specs.Meaning.{andThen, bound, inSpan, Judged, given, Outcome, refused, answer, outcome, Slip, Moment, dated, numberOf, momentAt}
 use Rattle.scales.specs.Order.{onward, then-is}
-use Rattle.scales.specs.Place.{firstAt, and-false}
+use Rattle.scales.specs.Place.{firstAt, span-early, span-late, span-in}
 use Rattle.scales.specs.Same.{refusals}
 use Rattle.scales.specs.declared.Scale.{Scale}
 use Rattle.scales.specs.declared.Scale.the-variants as S
@@ -115,22 +114,6 @@ module _ {s : Scale} {n : ℕ} {ds : List ℤ} {os : List ℕ} {z : ℤ} {r : Da
       go : (b : Bool) → answer (microsAt (t .0)) ≡ outcome (given b 5 (ofCount s n (fromScale s ds os z))) → b ≡ true
       go true h = refl
       go false h = absurd (let y : _≡_ {A = ℕ} 0 1 = cc in omega arith)
-
--- ---- the spans, by the place of a day
-pub span-at : (s : Scale) (a u : ℕ) → inSpan s (dayAt a) u ≡ (leb (firstAt s) a && (leb a 76524 && ltb u (bound s)))
-span-at S.Tai a u = ap₂ (λ (x y : Bool). x && (y && ltb u 86400000000)) (day-le 29773 a) (day-le a 76524)
-span-at S.Utc a u = ap₂ (λ (x y : Bool). x && (y && ltb u 86401000000)) (day-le 29773 a) (day-le a 76524)
-span-at S.Gps a u = ap₂ (λ (x y : Bool). x && (y && ltb u 86400000000)) (day-le 32700 a) (day-le a 76524)
-
-module _ (s : Scale) (a u : ℕ) where
-  pub span-early : a < firstAt s → inSpan s (dayAt a) u ≡ false
-  span-early h = span-at s a u ∙ rw (lt-leb (firstAt s) a h)
-
-  pub span-late : 76524 < a → inSpan s (dayAt a) u ≡ false
-  span-late h = span-at s a u ∙ rw (lt-leb a 76524 h, and-false (leb (firstAt s) a))
-
-  pub span-in : firstAt s ≤ a → a ≤ 76524 → u < bound s → inSpan s (dayAt a) u ≡ true
-  span-in h k l = span-at s a u ∙ rw (le-leb (firstAt s) a h, le-leb a 76524 k, lt-ltb u (bound s) l)
 
 -- ---- to the TAI count: 7 of each scale
 module _ (s : Scale) (n : ℕ) (f : Bool → Moment → Judged ℤ) (seven : refused 7 ≡ outcome (f false (momentAt s n))) where

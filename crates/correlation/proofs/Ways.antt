@@ -1,19 +1,17 @@
 -- The ways out of the private functions that test a span or a cover. Assumes nothing.
-use mathlib.Core.Path.{_≡_, refl, sym, ap, _∙_}
+use mathlib.Core.Path.{_≡_, sym, ap, _∙_}
 use mathlib.Core.Bool.{true, false, _&&_}
 use Prim.Native.Nat.{ℕ, _+_, _-_, _*_, _/_, _%_, _≤_, _<_}
 use native.Mathlib.Omega.{arith}
 use lib.Dec.{leb, ltb}
 use lib.IntN.{ℤ}
-use lib.Signed.{leZ}
 use borrow.Author.Tests.{lt-ltb, le-ltb, le-leb, lt-leb, leb-true}
 use Rattle.axis.specs.Meaning.{dayAt}
-use Rattle.axis.specs.Axis.{place-day, day-le}
-use Rattle.scales.specs.Meaning.{first, last, bound, inSpan, spanned, slipTimed, slip, dated, refused, recordOf}
-use Rattle.scales.specs.Place.{and-false, and-both}
+use Rattle.axis.specs.Axis.{place-day}
+use Rattle.scales.specs.Meaning.{bound, inSpan, spanned, slipTimed, slip, dated, refused, recordOf}
+use Rattle.scales.specs.Place.{firstAt, and-false, and-both, span-at}
 use Rattle.scales.specs.Counts.{timed-at, timed-no}
 use Rattle.scales.specs.declared.Scale.{Scale}
-use Rattle.scales.specs.declared.Scale.the-variants as S
 use Rattle.scales.specs.declared.Time.{Time}
 use Rattle.scales.specs.declared.Timed.the-variants as TD
 use Rattle.scales.specs.declared.Refusal.{Refusal}
@@ -33,16 +31,10 @@ module _ (s : Scale) (d : ℤ) (u : ℕ) where
   place-out f r e = rw (timed-no s d u f r e .0)
 
 -- ---- a count of a scale
-last-is : (s : Scale) → last s ≡ dayAt 76524
-last-is S.Tai = refl
-last-is S.Utc = refl
-last-is S.Gps = refl
-
 day-to : (s : Scale) (a u : ℕ) → inSpan s (dayAt a) u ≡ true → a ≤ 76524
 day-to s a u e =
-    let y = and-both (leZ (first s) (dayAt a)) (leZ (dayAt a) (last s) && ltb u (bound s)) e in
-    let z = and-both (leZ (dayAt a) (last s)) (ltb u (bound s)) (y .1) in
-    leb-true a 76524 (sym (day-le a 76524) ∙ ap (leZ (dayAt a)) (sym (last-is s)) ∙ z .0)
+    let y = and-both (leb (firstAt s) a) (leb a 76524 && ltb u (bound s)) (sym (span-at s a u) ∙ e) in
+    leb-true a 76524 (and-both (leb a 76524) (ltb u (bound s)) (y .1) .0)
 
 module _ (s : Scale) (n : ℕ) (e : Spanned s n) where
   pub count-over : 86400000000 ≤ n % bound s → P.Outside ≡ placeAt s n

@@ -8,8 +8,8 @@ use lib.Dec.{leb, ltb, lit<, lit≤}
 use lib.IntN.{ℤ}
 use lib.Signed.{leZ}
 use borrow.Author.Tests.{le-leb, lt-leb, lt-ltb, le-ltb, leb-true, ltb-true}
-use Rattle.axis.specs.Meaning.{placeOfDay}
-use Rattle.axis.specs.Axis.{day-from, day-to, day-place, day-inj}
+use Rattle.axis.specs.Meaning.{placeOfDay, dayAt}
+use Rattle.axis.specs.Axis.{day-from, day-to, day-le, day-place, day-inj}
 use Rattle.scales.specs.Meaning.{first, last, bound, inSpan, refused, answer, dated, momentAt, spanned}
 use Rattle.scales.specs.declared.Scale.{Scale}
 use Rattle.scales.specs.declared.Scale.the-variants as S
@@ -86,6 +86,22 @@ module _ (s : Scale) (d : ℤ) (u : ℕ) where
   out-over h =
       span-is s d u
       ∙ rw (le-ltb u (bound s) h, and-false (leb (placeOfDay d) (lastAt s)), and-false (leb (firstAt s) (placeOfDay d)))
+
+-- ---- the spans, by the place of a day
+pub span-at : (s : Scale) (a u : ℕ) → inSpan s (dayAt a) u ≡ (leb (firstAt s) a && (leb a 76524 && ltb u (bound s)))
+span-at S.Tai a u = ap₂ (λ (x y : Bool). x && (y && ltb u 86400000000)) (day-le 29773 a) (day-le a 76524)
+span-at S.Utc a u = ap₂ (λ (x y : Bool). x && (y && ltb u 86401000000)) (day-le 29773 a) (day-le a 76524)
+span-at S.Gps a u = ap₂ (λ (x y : Bool). x && (y && ltb u 86400000000)) (day-le 32700 a) (day-le a 76524)
+
+module _ (s : Scale) (a u : ℕ) where
+  pub span-early : a < firstAt s → inSpan s (dayAt a) u ≡ false
+  span-early h = span-at s a u ∙ rw (lt-leb (firstAt s) a h)
+
+  pub span-late : 76524 < a → inSpan s (dayAt a) u ≡ false
+  span-late h = span-at s a u ∙ rw (lt-leb a 76524 h, and-false (leb (firstAt s) a))
+
+  pub span-in : firstAt s ≤ a → a ≤ 76524 → u < bound s → inSpan s (dayAt a) u ≡ true
+  span-in h k l = span-at s a u ∙ rw (le-leb (firstAt s) a h, le-leb a 76524 k, lt-ltb u (bound s) l)
 
 -- ---- what is handed back of a day and a microsecond
 pub spanned-in : (s : Scale) (d : ℤ) (u : ℕ) → inSpan s d u ≡ true → spanned s d u ≡ dated s (answer (record { day = d; micro = u }))
