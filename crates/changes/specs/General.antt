@@ -5,17 +5,23 @@ use mathlib.Core.List.{List}
 use Prim.Native.Nat.{ℕ}
 use lib.IntN.{ℤ}
 use borrow.Author.Tests.{eqb-true}
-use Rattle.scales.specs.Meaning.{codeOf, sameScale, inSpan, refused, answer, outcome, Moment, dated, timeScale, timeCount}
+use Rattle.axis.specs.Meaning.{microsAt}
+use Rattle.scales.specs.Meaning.{codeOf, sameScale, inSpan, Judged, refused, answer, outcome, Slip, Moment, dated, numberOf, momentAt, timeScale, timeCount}
 use Rattle.scales.specs.Same.{scales-same}
 use Rattle.scales.specs.declared.Scale.{Scale}
 use Rattle.scales.specs.declared.Scale.the-variants as S
+use Rattle.scales.specs.declared.Refusal.{Refusal}
+use Rattle.scales.specs.declared.Tai.{Tai}
+use Rattle.scales.specs.declared.DatedTai.{DatedTai}
+use Rattle.scales.specs.declared.DatedTai.the-variants as DT
 use Rattle.scales.specs.declared.Time.{Time}
 use Rattle.scales.specs.declared.Handed.{Handed}
 use Rattle.decimal.specs.Meaning.{scaleOf, isFinite, isInSpan}
 use Rattle.decimal.specs.Told.{Told, told-scale, told-moment}
 use Rattle.leap.specs.Meaning.{accepted}
 use Rattle.leap.specs.Walk.{or-true}
-use Rattle.changes.specs.Meaning.{toScale, isUtc, usesList, settled, moving, ofCount, momentIn, changeOf}
+use Rattle.changes.specs.Meaning.{fromScale, toScale, isUtc, usesList, settled, moving, ofCount, momentIn, changeOf}
+use Rattle.changes.specs.Ways.{Left, way-on, way-out}
 
 same-scale : (s t : Scale) → sameScale s t ≡ true → s ≡ t
 same-scale s t e = scales-same s t (eqb-true (codeOf s) (codeOf t) e)
@@ -27,13 +33,22 @@ uses-from s to e = rw e
 pub uses-to : (s to : Scale) → isUtc to ≡ true → usesList s to ≡ true
 uses-to s to e = rw e (or-true (isUtc s))
 
--- ---- to its own scale, or to another
-module _ (s to : Scale) (ds : List ℤ) (os : List ℕ) (e : ℤ) (m : Moment) (c : ℤ) where
-  pub stays : sameScale s to ≡ true → dated s (answer m) ≡ dated to (outcome (settled s to ds os e m c))
-  stays h = ap (λ (x : Scale). dated x (answer m)) (same-scale s to h) ∙ sym (rw h)
+-- ---- to its own scale, or to another; the last day is e, and a callee reads it from its bits, as z
+module _ (s : Scale) (n : ℕ) (ds : List ℤ) (os : List ℕ) {z e : ℤ} (q : z ≡ e) {r : DatedTai} (w : Left (ofCount s n (fromScale s ds os z)) r) (to : Scale) where
+  abbrev moved : ℤ → Slip
+  moved y = dated to (outcome (ofCount s n (moving s to ds os y)))
 
-  pub goes : sameScale s to ≡ false → dated to (outcome (toScale to ds os e c)) ≡ dated to (outcome (settled s to ds os e m c))
-  goes h = sym (rw h)
+  abbrev next : ℤ → Judged Moment
+  next = settled s to ds os z (momentAt s n)
+
+  pub move-stays : {t : Tai} → r ≡ DT.At t → sameScale s to ≡ true → dated s (answer (momentAt s n)) ≡ moved e
+  move-stays g h = way-on w to next g (ap (λ (x : Scale). dated x (answer (momentAt s n))) (same-scale s to h) ∙ sym (rw h)) ∙ ap moved q
+
+  pub move-goes : {t : Tai} {x : Slip} → r ≡ DT.At t → sameScale s to ≡ false → x ≡ dated to (outcome (toScale to ds os z (microsAt (t .0)))) → x ≡ moved e
+  move-goes g h i = way-on w to next g (i ∙ sym (rw h)) ∙ ap moved q
+
+  pub move-out : {f : Refusal} → r ≡ DT.Refused f → dated to (refused (numberOf f)) ≡ moved e
+  move-out g = way-out w to next g ∙ ap moved q
 
 -- ---- what is judged before
 pub lacking : (u a : Bool) → (u && not a) ≡ true → (not u || a) ≡ false

@@ -1,6 +1,6 @@
 -- The ways out of the changes: the TAI count on the way, and a law for each refusal and each answer. Assumes nothing.
-use mathlib.Core.Path.{_≡_, sym, ap, ap₂, subst, _∙_}
-use mathlib.Core.Bool.{Bool, true, false, _&&_}
+use mathlib.Core.Path.{_≡_, refl, sym, ap, subst, _∙_}
+use mathlib.Core.Bool.{Bool, true, false}
 use mathlib.Core.List.{List}
 use Prim.Native.Nat.{ℕ, _+_, _-_, _*_, _/_, _%_, _<_, _≤_}
 use native.Mathlib.Omega.{arith}
@@ -9,10 +9,10 @@ use lib.IntN.{ℤ, pos, _+ℤ_}
 use lib.Signed.{leZ}
 use borrow.Author.Tests.{le-leb, lt-leb, lt-ltb, le-ltb}
 use Rattle.axis.specs.Meaning.{placeOfDay, dayAt, microsAt}
-use Rattle.axis.specs.Axis.{day-le}
 use Rattle.axis.specs.Diff.{sub-inj-same}
-use Rattle.scales.specs.Meaning.{andThen, bound, inSpan, Judged, given, gives, Outcome, refused, answer, outcome, Slip, Moment, dated, numberOf, momentAt}
-use Rattle.scales.specs.Place.{firstAt, and-false}
+use Rattle.scales.specs.Meaning.{andThen, bound, inSpan, Judged, given, Outcome, refused, answer, outcome, Slip, Moment, dated, numberOf, momentAt}
+use Rattle.scales.specs.Order.{onward, then-is}
+use Rattle.scales.specs.Place.{firstAt, span-early, span-late, span-in}
 use Rattle.scales.specs.Same.{refusals}
 use Rattle.scales.specs.declared.Scale.{Scale}
 use Rattle.scales.specs.declared.Scale.the-variants as S
@@ -28,7 +28,7 @@ use Rattle.leap.specs.Places.{day-next, micros-le, micros-add, micros-minus, ta
 use Rattle.leap.specs.Steps.{steps}
 use Rattle.leap.specs.Back.{forth, none-before}
 use Rattle.leap.specs.Whole.{taiAt, expired-at, offset-small, before-known}
-use Rattle.changes.specs.Meaning.{fromTai, fromGps, fromUtc, within, toTai, toGps, toUtc, ofCount, listed}
+use Rattle.changes.specs.Meaning.{fromTai, fromGps, fromUtc, within, toTai, toGps, toUtc, ofCount, listed, fromScale, toScale}
 
 -- ---- a TAI count on the way: its span is not tested, and it is well on the axis
 pub record OnTheWay (c : ℕ) : Type 0 where
@@ -60,51 +60,60 @@ counted-one (DT.Refused f) (DT.Refused g) e = let q : numberOf f ≡ numberOf g 
 pub left-one : (j : Judged ℤ) (a b : DatedTai) → Left j a → Left j b → a ≡ b
 left-one j a b p q = counted-one a b (p .is ∙ sym (q .is))
 
--- ---- two chains, one after the other
-then-answer : {A B : Type 0} (j : Judged A) (f : A → Judged B) (a : A) → answer a ≡ outcome j → outcome (f a) ≡ outcome (andThen j f)
-then-answer (given true n rest) f a e = then-answer rest f a e
-then-answer (given false n rest) f a e = absurd (let z : _≡_ {A = ℕ} 0 1 = cc in omega arith)
-then-answer {A} {B} (gives b) f a e = let q : a ≡ b = cc in ap (λ (x : A). outcome (f x)) q
+-- ---- what is left of a change when its time was taken to a TAI count, or was refused
+module _ {j : Judged ℤ} {r : DatedTai} (w : Left j r) where
+  pub way-held : {t : Tai} → r ≡ DT.At t → OnTheWay (t .0)
+  way-held g = subst Held g (w .held)
 
-then-refused : {A B : Type 0} (j : Judged A) (f : A → Judged B) (n : ℕ) → refused n ≡ outcome j → refused n ≡ outcome (andThen j f)
-then-refused (given true m rest) f n e = then-refused rest f n e
-then-refused (given false m rest) f n e = let q : n ≡ m = cc in ap refused q
-then-refused (gives b) f n e = absurd (let z : _≡_ {A = ℕ} 0 1 = cc in omega arith)
+  module _ (to : Scale) (next : ℤ → Judged Moment) where
+    passes : (d : DatedTai) → r ≡ d → dated to (onward next (counted d)) ≡ dated to (outcome (andThen j next))
+    passes d g = ap (dated to) (sym (then-is j next ∙ ap (onward next) (sym (w .is) ∙ ap counted g)))
 
--- what is left of a change when its time was taken to a TAI count, or was refused
-module _ (to : Scale) (j : Judged ℤ) (next : ℤ → Judged Moment) (r : DatedTai) (w : Left j r) where
-  pub way-on : (t : Tai) → r ≡ DT.At t → dated to (outcome (next (microsAt (t .0)))) ≡ dated to (outcome (andThen j next))
-  way-on t e = ap (dated to) (then-answer j next (microsAt (t .0)) (ap counted (sym e) ∙ w .is))
+    pub way-on : {t : Tai} {x : Slip} → r ≡ DT.At t → x ≡ dated to (outcome (next (microsAt (t .0)))) → x ≡ dated to (outcome (andThen j next))
+    way-on {t} g h = h ∙ passes (DT.At t) g
 
-  pub way-out : (f : Refusal) → r ≡ DT.Refused f → dated to (refused (numberOf f)) ≡ dated to (outcome (andThen j next))
-  way-out f e = ap (dated to) (then-refused j next (numberOf f) (ap counted (sym e) ∙ w .is))
-
-  pub way-held : (t : Tai) → r ≡ DT.At t → OnTheWay (t .0)
-  way-held t e = subst Held e (w .held)
+    pub way-out : {f : Refusal} → r ≡ DT.Refused f → dated to (refused (numberOf f)) ≡ dated to (outcome (andThen j next))
+    way-out {f} g = passes (DT.Refused f) g
 
 -- ---- the list is judged before
-module _ (to : Scale) (ds : List ℤ) (os : List ℕ) (e : ℤ) (j : Judged Moment) where
-  pub list-out : accepted ds os e ≡ false → dated to (refused 5) ≡ dated to (outcome (listed ds os e j))
-  list-out h = sym (rw h)
+pub list-in : (to : Scale) (ds : List ℤ) (os : List ℕ) (e : ℤ) (j : Judged Moment) → accepted ds os e ≡ true → dated to (outcome j) ≡ dated to (outcome (listed ds os e j))
+list-in to ds os e j h = sym (rw h)
 
-  pub list-in : accepted ds os e ≡ true → dated to (outcome j) ≡ dated to (outcome (listed ds os e j))
-  list-in h = sym (rw h)
+-- the way to the TAI count in a change that uses a list
+abbrev byList : Scale → ℕ → List ℤ → List ℕ → ℤ → Judged ℤ
+byList s n ds os e = given (accepted ds os e) 5 (ofCount s n (fromScale s ds os e))
 
--- ---- the spans, by the place of a day
-pub span-at : (s : Scale) (a u : ℕ) → inSpan s (dayAt a) u ≡ (leb (firstAt s) a && (leb a 76524 && ltb u (bound s)))
-span-at S.Tai a u = ap₂ (λ (x y : Bool). x && (y && ltb u 86400000000)) (day-le 29773 a) (day-le a 76524)
-span-at S.Utc a u = ap₂ (λ (x y : Bool). x && (y && ltb u 86401000000)) (day-le 29773 a) (day-le a 76524)
-span-at S.Gps a u = ap₂ (λ (x y : Bool). x && (y && ltb u 86400000000)) (day-le 32700 a) (day-le a 76524)
+pub record ByList (s : Scale) (n : ℕ) (ds : List ℤ) (os : List ℕ) (e : ℤ) (r : DatedTai) : Type 0 where
+  pub left : Left (byList s n ds os e) r
 
-module _ (s : Scale) (a u : ℕ) where
-  pub span-early : a < firstAt s → inSpan s (dayAt a) u ≡ false
-  span-early h = span-at s a u ∙ rw (lt-leb (firstAt s) a h)
+-- the last day is e; a callee reads it from its bits, as z
+module _ {s : Scale} {n : ℕ} {ds : List ℤ} {os : List ℕ} {z e : ℤ} (q : z ≡ e) where
+  pub list-lacks : accepted ds os z ≡ false → ByList s n ds os e (DT.Refused R.List)
+  list-lacks h = record { left = record { is = sym (rw (← q, h)); held = omega arith } }
 
-  pub span-late : 76524 < a → inSpan s (dayAt a) u ≡ false
-  span-late h = span-at s a u ∙ rw (lt-leb a 76524 h, and-false (leb (firstAt s) a))
+  pub list-there : {r : DatedTai} → accepted ds os z ≡ true → Left (ofCount s n (fromScale s ds os z)) r → ByList s n ds os e r
+  list-there {r} h w = subst (λ (y : ℤ). ByList s n ds os y r) q (record { left = record { is = w .is ∙ sym (rw h); held = w .held } })
 
-  pub span-in : firstAt s ≤ a → a ≤ 76524 → u < bound s → inSpan s (dayAt a) u ≡ true
-  span-in h k l = span-at s a u ∙ rw (le-leb (firstAt s) a h, le-leb a 76524 k, lt-ltb u (bound s) l)
+  module _ {r : DatedTai} (w : ByList s n ds os z r) (to : Scale) where
+    abbrev by : ℤ → Slip
+    by y = dated to (outcome (andThen (byList s n ds os y) (toScale to ds os y)))
+
+    pub list-on : {t : Tai} {x : Slip} → r ≡ DT.At t → x ≡ dated to (outcome (toScale to ds os z (microsAt (t .0)))) → x ≡ by e
+    list-on g h = way-on (w .left) to (toScale to ds os z) g h ∙ ap by q
+
+    pub list-out : {f : Refusal} → r ≡ DT.Refused f → dated to (refused (numberOf f)) ≡ by e
+    list-out g = way-out (w .left) to (toScale to ds os z) g ∙ ap by q
+
+module _ {s : Scale} {n : ℕ} {ds : List ℤ} {os : List ℕ} {z : ℤ} {r : DatedTai} (w : ByList s n ds os z r) {t : Tai} (g : r ≡ DT.At t) where
+  pub list-held : OnTheWay (t .0)
+  list-held = way-held (w .left) g
+
+  pub list-known : accepted ds os z ≡ true
+  list-known = go (accepted ds os z) (ap counted (sym g) ∙ w .left .is)
+    where
+      go : (b : Bool) → answer (microsAt (t .0)) ≡ outcome (given b 5 (ofCount s n (fromScale s ds os z))) → b ≡ true
+      go true h = refl
+      go false h = absurd (let y : _≡_ {A = ℕ} 0 1 = cc in omega arith)
 
 -- ---- to the TAI count: 7 of each scale
 module _ (s : Scale) (n : ℕ) (f : Bool → Moment → Judged ℤ) (seven : refused 7 ≡ outcome (f false (momentAt s n))) where

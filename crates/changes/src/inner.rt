@@ -2,11 +2,11 @@
 // is not tested: `from_..` gives it, `to_..` takes it.
 ghost use mathlib.Core.Path.{_≡_};
 ghost use mathlib.Core.Bool.{true};
-ghost use Prim.Native.Nat.{_≤_, _<_};
+ghost use Prim.Native.Nat.{_<_};
 ghost use Rattle.axis.specs.Meaning.{dayAt, microsAt};
 ghost use Rattle.scales.specs.Meaning.{outcome, dated, slip, slipTai, slipUtc, slipGps, timeScale, timeCount};
 ghost use Rattle.leap.specs.Meaning.{accepted, hasMicro};
-ghost use Rattle.changes.specs.Meaning.{fromTai, fromGps, fromUtc, toTai, toGps, toUtc, ofCount, utcInTai, utcInGps, taiInUtc, gpsInUtc, fromScale, toScale, isUtc, usesList, moving};
+ghost use Rattle.changes.specs.Meaning.{fromTai, fromGps, fromUtc, toTai, toGps, toUtc, ofCount, fromScale, toScale, isUtc, usesList, moving};
 ghost use Rattle.changes.specs.Ways.{Left, OnTheWay};
 use scales::Dated;
 use scales::DatedGps;
@@ -134,48 +134,6 @@ pub fn to_utc(c: Tai, days: &[i64], offsets: &[u64], last: i64) -> DatedUtc
     DatedUtc::At(leap::inner::utc_at(days, offsets, c))
 }
 
-// ---- the four changes that use a list
-
-pub fn utc_to_tai(t: Utc, days: &[i64], offsets: &[u64], last: i64) -> DatedTai
-    requires { ⌜ accepted (now days) (now offsets) last ≡ true ⌝ }
-    ensures { λ r. ⌜ slipTai r ≡ dated Scale.Tai (outcome (utcInTai (now (days .entry)) (now (offsets .entry)) last (t .0))) ⌝ }
-{
-    match from_utc(t, days, offsets, last) {
-        DatedTai::At(c) => to_tai(c),
-        DatedTai::Refused(f) => DatedTai::Refused(f),
-    }
-}
-
-pub fn utc_to_gps(t: Utc, days: &[i64], offsets: &[u64], last: i64) -> DatedGps
-    requires { ⌜ accepted (now days) (now offsets) last ≡ true ⌝ }
-    ensures { λ r. ⌜ slipGps r ≡ dated Scale.Gps (outcome (utcInGps (now (days .entry)) (now (offsets .entry)) last (t .0))) ⌝ }
-{
-    match from_utc(t, days, offsets, last) {
-        DatedTai::At(c) => to_gps(c),
-        DatedTai::Refused(f) => DatedGps::Refused(f),
-    }
-}
-
-pub fn tai_to_utc(t: Tai, days: &[i64], offsets: &[u64], last: i64) -> DatedUtc
-    requires { ⌜ accepted (now days) (now offsets) last ≡ true ⌝ }
-    ensures { λ r. ⌜ slipUtc r ≡ dated Scale.Utc (outcome (taiInUtc (now (days .entry)) (now (offsets .entry)) last (t .0))) ⌝ }
-{
-    match from_tai(t) {
-        DatedTai::At(c) => to_utc(c, days, offsets, last),
-        DatedTai::Refused(f) => DatedUtc::Refused(f),
-    }
-}
-
-pub fn gps_to_utc(t: Gps, days: &[i64], offsets: &[u64], last: i64) -> DatedUtc
-    requires { ⌜ accepted (now days) (now offsets) last ≡ true ⌝ }
-    ensures { λ r. ⌜ slipUtc r ≡ dated Scale.Utc (outcome (gpsInUtc (now (days .entry)) (now (offsets .entry)) last (t .0))) ⌝ }
-{
-    match from_gps(t) {
-        DatedTai::At(c) => to_utc(c, days, offsets, last),
-        DatedTai::Refused(f) => DatedUtc::Refused(f),
-    }
-}
-
 // ---- a time and a scale that are known only when the program runs
 
 // Does a change between two scales use a leap list?
@@ -189,7 +147,7 @@ pub fn uses_list(from: Scale, to: Scale) -> bool
     to.code() == utc
 }
 
-fn from_time(t: Time, days: &[i64], offsets: &[u64], last: i64) -> DatedTai
+pub fn from_time(t: Time, days: &[i64], offsets: &[u64], last: i64) -> DatedTai
     requires { ⌜ (isUtc (timeScale t) ≡ true → accepted (now days) (now offsets) last ≡ true) ⌝ }
     ensures { λ r. ⌜ Left (ofCount (timeScale t) (timeCount t) (fromScale (timeScale t) (now (days .entry)) (now (offsets .entry)) last)) r ⌝ }
 {

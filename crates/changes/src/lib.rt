@@ -1,9 +1,10 @@
-// The changes between TAI, UTC and GPS. Each entry that uses a leap list tests it once and hands it to its core.
+// The changes between TAI, UTC and GPS. Each entry that uses a leap list tests it once and hands it to the cores.
 ghost use mathlib.Core.Path.{_≡_};
 ghost use mathlib.Core.Bool.{not, _&&_};
-ghost use Rattle.scales.specs.Meaning.{slip, slipTai, slipUtc, slipGps, timeScale};
+ghost use Rattle.scales.specs.Meaning.{slip, slipTai, slipUtc, slipGps, timeScale, timeCount};
 ghost use Rattle.leap.specs.Meaning.{accepted};
 ghost use Rattle.changes.specs.Meaning.{taiToGps, gpsToTai, utcToTai, utcToGps, taiToUtc, gpsToUtc, usesList, changeOf};
+ghost use Rattle.changes.specs.Ways.{ByList};
 use decimal::Taken;
 use scales::Dated;
 use scales::DatedGps;
@@ -37,40 +38,50 @@ pub fn gps_to_tai(t: Gps) -> DatedTai
     }
 }
 
-pub fn utc_to_tai(t: Utc, days: &[i64], offsets: &[u64], last: i64) -> DatedTai
-    ensures { λ r. ⌜ slipTai r ≡ utcToTai (t .0) (now (days .entry)) (now (offsets .entry)) last ⌝ }
+// The way to the TAI count in a change that uses a list: the list is judged before the time.
+fn by_list(t: Time, days: &[i64], offsets: &[u64], last: i64) -> DatedTai
+    ensures { λ r. ⌜ ByList (timeScale t) (timeCount t) (now (days .entry)) (now (offsets .entry)) last r ⌝ }
 {
     if !leap::is_accepted(days, offsets, last) {
         return DatedTai::Refused(Refusal::List);
     }
-    inner::utc_to_tai(t, days, offsets, last)
+    inner::from_time(t, days, offsets, last)
+}
+
+pub fn utc_to_tai(t: Utc, days: &[i64], offsets: &[u64], last: i64) -> DatedTai
+    ensures { λ r. ⌜ slipTai r ≡ utcToTai (t .0) (now (days .entry)) (now (offsets .entry)) last ⌝ }
+{
+    match by_list(Time::Utc(t), days, offsets, last) {
+        DatedTai::At(c) => inner::to_tai(c),
+        DatedTai::Refused(f) => DatedTai::Refused(f),
+    }
 }
 
 pub fn utc_to_gps(t: Utc, days: &[i64], offsets: &[u64], last: i64) -> DatedGps
     ensures { λ r. ⌜ slipGps r ≡ utcToGps (t .0) (now (days .entry)) (now (offsets .entry)) last ⌝ }
 {
-    if !leap::is_accepted(days, offsets, last) {
-        return DatedGps::Refused(Refusal::List);
+    match by_list(Time::Utc(t), days, offsets, last) {
+        DatedTai::At(c) => inner::to_gps(c),
+        DatedTai::Refused(f) => DatedGps::Refused(f),
     }
-    inner::utc_to_gps(t, days, offsets, last)
 }
 
 pub fn tai_to_utc(t: Tai, days: &[i64], offsets: &[u64], last: i64) -> DatedUtc
     ensures { λ r. ⌜ slipUtc r ≡ taiToUtc (t .0) (now (days .entry)) (now (offsets .entry)) last ⌝ }
 {
-    if !leap::is_accepted(days, offsets, last) {
-        return DatedUtc::Refused(Refusal::List);
+    match by_list(Time::Tai(t), days, offsets, last) {
+        DatedTai::At(c) => inner::to_utc(c, days, offsets, last),
+        DatedTai::Refused(f) => DatedUtc::Refused(f),
     }
-    inner::tai_to_utc(t, days, offsets, last)
 }
 
 pub fn gps_to_utc(t: Gps, days: &[i64], offsets: &[u64], last: i64) -> DatedUtc
     ensures { λ r. ⌜ slipUtc r ≡ gpsToUtc (t .0) (now (days .entry)) (now (offsets .entry)) last ⌝ }
 {
-    if !leap::is_accepted(days, offsets, last) {
-        return DatedUtc::Refused(Refusal::List);
+    match by_list(Time::Gps(t), days, offsets, last) {
+        DatedTai::At(c) => inner::to_utc(c, days, offsets, last),
+        DatedTai::Refused(f) => DatedUtc::Refused(f),
     }
-    inner::gps_to_utc(t, days, offsets, last)
 }
 
 // Is a list used that is not accepted?

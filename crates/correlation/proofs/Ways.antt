@@ -1,20 +1,22 @@
 -- The ways out of the private functions that test a span or a cover. Assumes nothing.
-use mathlib.Core.Path.{_≡_}
-use mathlib.Core.Bool.{false}
-use Prim.Native.Nat.{ℕ, _-_, _/_, _%_, _≤_, _<_}
-use lib.Dec.{leb}
+use mathlib.Core.Path.{_≡_, sym, ap, _∙_}
+use mathlib.Core.Bool.{true, false, _&&_}
+use Prim.Native.Nat.{ℕ, _+_, _-_, _*_, _/_, _%_, _≤_, _<_}
+use native.Mathlib.Omega.{arith}
+use lib.Dec.{leb, ltb}
 use lib.IntN.{ℤ}
-use borrow.Author.Tests.{lt-ltb, le-ltb, le-leb, lt-leb}
+use borrow.Author.Tests.{lt-ltb, le-ltb, le-leb, lt-leb, leb-true}
 use Rattle.axis.specs.Meaning.{dayAt}
-use Rattle.scales.specs.Meaning.{inSpan, spanned, slipTimed, slip, dated, refused, recordOf}
-use Rattle.scales.specs.Place.{and-false}
+use Rattle.axis.specs.Axis.{place-day}
+use Rattle.scales.specs.Meaning.{bound, inSpan, spanned, slipTimed, slip, dated, refused, recordOf}
+use Rattle.scales.specs.Place.{firstAt, and-false, and-both, span-at}
 use Rattle.scales.specs.Counts.{timed-at, timed-no}
 use Rattle.scales.specs.declared.Scale.{Scale}
 use Rattle.scales.specs.declared.Time.{Time}
 use Rattle.scales.specs.declared.Timed.the-variants as TD
 use Rattle.scales.specs.declared.Refusal.{Refusal}
 use Rattle.scales.specs.declared.Dated.the-variants as D
-use Rattle.correlation.specs.Places.{spot, placeIn, coversAt, resultAt}
+use Rattle.correlation.specs.Places.{spot, placeIn, placeAt, Spanned, coversAt, resultAt}
 use Rattle.correlation.specs.declared.Cover.{Cover}
 use Rattle.correlation.specs.declared.Place.the-variants as P
 
@@ -27,6 +29,22 @@ module _ (s : Scale) (d : ℤ) (u : ℕ) where
 
   pub place-out : (f : Refusal) (r : Scale) → slipTimed (TD.Refused f r) ≡ spanned s d u → P.Outside ≡ placeIn s d u
   place-out f r e = rw (timed-no s d u f r e .0)
+
+-- ---- a count of a scale
+day-to : (s : Scale) (a u : ℕ) → inSpan s (dayAt a) u ≡ true → a ≤ 76524
+day-to s a u e =
+    let y = and-both (leb (firstAt s) a) (leb a 76524 && ltb u (bound s)) (sym (span-at s a u) ∙ e) in
+    leb-true a 76524 (and-both (leb a 76524) (ltb u (bound s)) (y .1) .0)
+
+module _ (s : Scale) (n : ℕ) (e : Spanned s n) where
+  pub count-over : 86400000000 ≤ n % bound s → P.Outside ≡ placeAt s n
+  count-over h = place-over s (dayAt (n / bound s)) (n % bound s) h
+
+  pub count-at : n % bound s < 86400000000 → (w : ℕ) → w ≡ n / bound s * 86400000000 + n % bound s → P.At w ≡ placeAt s n
+  count-at h w q =
+      let k = day-to s (n / bound s) (n % bound s) e in
+      ap P.At (q ∙ ap (λ (x : ℕ). x * 86400000000 + n % bound s) (sym (place-day (n / bound s) (omega arith))))
+      ∙ sym (rw (e, lt-ltb (n % bound s) 86400000000 h))
 
 module _ (s : Scale) (m : ℕ) where
   pub result-at : (t : Time) → slipTimed (TD.At t) ≡ spanned s (dayAt (m / 86400000000)) (m % 86400000000) →

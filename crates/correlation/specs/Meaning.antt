@@ -10,10 +10,10 @@ use Rattle.scales.specs.Meaning.{inSpan, Judged, given, gives, Outcome, refused
 use Rattle.scales.specs.declared.Scale.{Scale}
 use Rattle.scales.specs.declared.Scale.the-variants as S
 use Rattle.scales.specs.declared.Handed.{Handed}
+use Rattle.scales.specs.declared.Ticked.{Ticked}
+use Rattle.scales.specs.declared.Ticked.the-variants as K
 use Rattle.decimal.specs.Meaning.{dayMicros, since, scaleOf, isFinite, isInSpan, dayOf, microOf}
 use Rattle.correlation.specs.declared.Correlation.{Correlation}
-use Rattle.correlation.specs.declared.Ticked.{Ticked}
-use Rattle.correlation.specs.declared.Ticked.the-variants as K
 
 -- ---- "a period P in picoseconds from 3,906,000,000 to 3,906,500,000, and a window: ticks back b (0 to 2^31) and ticks ahead a
 -- (0 to 2^31 - 1). The reference lies in its scale's span with a microsecond below 86,400,000,000"

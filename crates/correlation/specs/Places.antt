@@ -4,14 +4,14 @@ use mathlib.Core.Path.{_≡_, refl, sym, ap, ap₂, _∙_}
 use mathlib.Core.Bool.{Bool, true, cond, _&&_}
 use Prim.Native.Nat.{ℕ, _+_, _-_, _*_, _/_, _%_, _≤_, _<_}
 use native.Mathlib.Omega.{arith}
-use lib.Dec.{leb, ltb, lit<, lit≤}
+use lib.Dec.{leb, ltb, lit<}
 use lib.IntN.{ℤ, pos, negℤ, subℕ, _+ℤ_, _*ℤ_}
 use Rattle.axis.specs.Meaning.{placeOfDay, dayAt, microsAt, floorZ, modZ}
 use Rattle.axis.specs.Axis.{day-place, micros-day, micros-left}
 use Rattle.axis.specs.Diff.{is-pos, neg-pos, sub-eq, sub-add, sub-mul, sub-floor, sub-mod}
 use Rattle.axis.specs.Shift.{number-add}
-use Rattle.scales.specs.Meaning.{inSpan, Slip, dated, outcome}
-use Rattle.scales.specs.Place.{firstAt, apart, placed}
+use Rattle.scales.specs.Meaning.{inSpan, Slip, dated, outcome, momentAt}
+use Rattle.scales.specs.Place.{apart, placed}
 use Rattle.scales.specs.declared.Scale.{Scale}
 use Rattle.scales.specs.declared.Scale.the-variants as S
 use Rattle.decimal.specs.Meaning.{dayMicros, since}
@@ -29,6 +29,13 @@ spot d u = placeOfDay d * 86400000000 + u
 
 abbrev pub placeIn : Scale → ℤ → ℕ → Place
 placeIn s d u = cond (inSpan s d u && ltb u dayMicros) (P.At (spot d u)) P.Outside
+
+-- of a count of scale s, that lies in its span
+abbrev pub placeAt : Scale → ℕ → Place
+placeAt s n = placeIn s (momentAt s n .day) (momentAt s n .micro)
+
+abbrev pub Spanned : Scale → ℕ → Type 0
+Spanned s n = inSpan s (momentAt s n .day) (momentAt s n .micro) ≡ true
 
 abbrev pub placeOf : Correlation → Place
 placeOf c = cond (accepted c) (P.At (spot (c .day) (c .micro))) P.Outside
@@ -93,11 +100,6 @@ plain-is S.Tai u = refl
 plain-is S.Utc u = refl
 plain-is S.Gps u = refl
 
-first-low : (s : Scale) → 29773 ≤ firstAt s
-first-low S.Tai = lit≤ tt
-first-low S.Utc = lit≤ tt
-first-low S.Gps = lit≤ tt
-
 -- ---- a day of the span stands well on the axis
 pub record Held (d : ℤ) : Type 0 where
   pub from : 29773 ≤ placeOfDay d
@@ -106,7 +108,7 @@ pub record Held (d : ℤ) : Type 0 where
 pub held : (s : Scale) (d : ℤ) (u : ℕ) → inSpan s d u ≡ true → Held d
 held s d u e =
     let q = placed s d u e in
-    record { from = omega (arith, first-low s); to = omega (arith, apart s .to) }
+    record { from = omega (arith, apart s .from); to = omega (arith, apart s .to) }
 
 pub instant-place : (s : Scale) (d : ℤ) (u : ℕ) → Held d → instant s d u ≡ microsAt (spot d u)
 instant-place s d u h =

@@ -1,9 +1,9 @@
 -- The number and the value of an answer fix the answer: any two that a contract allows are equal. Assumes nothing.
 use mathlib.Core.Path.{_≡_, sym, ap}
 use Rattle.scales.specs.Same.{some, refusals}
+use Rattle.scales.specs.declared.Ticked.{Ticked}
+use Rattle.scales.specs.declared.Ticked.the-variants as K
 use Rattle.correlation.specs.Meaning.{tickSlip}
-use Rattle.correlation.specs.declared.Ticked.{Ticked}
-use Rattle.correlation.specs.declared.Ticked.the-variants as K
 
 pub same-ticked : (a b : Ticked) → tickSlip a ≡ tickSlip b → a ≡ b
 same-ticked (K.Tick t) (K.Tick r) e = λ i. K.Tick (record { 0 = e i .tick })

@@ -1,11 +1,10 @@
 // The SBT correlation: the date of a tick, and the tick of a time.
 // Inside, a time is its place on the axis of microseconds, and an elapsed count k is held as k + 2^31.
 ghost use mathlib.Core.Path.{_≡_};
-ghost use mathlib.Core.Bool.{true};
 ghost use Prim.Native.Nat.{_<_};
-ghost use Rattle.scales.specs.Meaning.{slip, inSpan};
+ghost use Rattle.scales.specs.Meaning.{slip, recordAt, timeScale, timeCount};
 ghost use Rattle.correlation.specs.Meaning.{dateOf, tickSlip, tickOf};
-ghost use Rattle.correlation.specs.Places.{placeIn, placeOf, timeAt, coverAt, coversAt, Counted, forceAt, resultAt, lastAt, tickFrom, Based, Windowed, Near};
+ghost use Rattle.correlation.specs.Places.{placeIn, placeAt, Spanned, placeOf, timeAt, coverAt, coversAt, Counted, forceAt, resultAt, lastAt, tickFrom, Based, Windowed, Near};
 use decimal::Taken;
 use scales::Dated;
 use scales::Handed;
@@ -13,7 +12,10 @@ use scales::Record;
 use scales::Refusal;
 use scales::Scale;
 use scales::Tick;
+use scales::Ticked;
+use scales::Time;
 use scales::Timed;
+use scales::Utc;
 
 // A reference tick and its time, the period in picoseconds, and the window: ticks back and ticks ahead.
 pub struct Correlation {
@@ -24,12 +26,6 @@ pub struct Correlation {
     pub period: u64,
     pub back: u64,
     pub ahead: u64,
-}
-
-// The tick of a time, or a refusal: then tick 0.
-pub enum Ticked {
-    Tick(Tick),
-    Refused(Refusal),
 }
 
 // A place of the axis of microseconds.
@@ -185,20 +181,37 @@ fn tick_from(reference: u32, k: u64) -> u32
     (((reference as u64) + k + 2_147_483_648) % 4_294_967_296) as u32
 }
 
+// The place of a time of its scale's span: a TAI or GPS count is a place, and a UTC count outside second 60 has one.
+fn place_at(t: Time) -> Place
+    requires { ⌜ Spanned (timeScale t) (timeCount t) ⌝ }
+    ensures { λ r. ⌜ r ≡ placeAt (timeScale t) (timeCount t) ⌝ }
+{
+    match t {
+        Time::Tai(n) => Place::At(n.0),
+        Time::Utc(n) => {
+            let micro = n.0 % Utc::BOUND;
+            if 86_400_000_000 <= micro {
+                return Place::Outside;
+            }
+            Place::At(n.0 / Utc::BOUND * 86_400_000_000 + micro)
+        }
+        Time::Gps(n) => Place::At(n.0),
+    }
+}
+
 // The tick of a time of its scale's span.
-fn tick_at(c: Correlation, t: Record) -> Ticked
-    requires { ⌜ inSpan (t .scale) (t .day) (t .micro) ≡ true ⌝ }
-    ensures { λ r. ⌜ tickSlip r ≡ tickOf c (Handed.Record t) ⌝ }
+fn tick_at(c: Correlation, t: Time) -> Ticked
+    requires { ⌜ Spanned (timeScale t) (timeCount t) ⌝ }
+    ensures { λ r. ⌜ tickSlip r ≡ tickOf c (Handed.Record (recordAt (timeScale t) (timeCount t))) ⌝ }
 {
     let Place::At(r) = reference_of(c) else {
         return Ticked::Refused(Refusal::Correlation);
     };
-    let scale = t.scale;
     let due = c.scale;
-    if scale.code() != due.code() {
+    if t.scale().code() != due.code() {
         return Ticked::Refused(Refusal::Image);
     }
-    let Place::At(w) = place_in(scale, t.day, t.micro) else {
+    let Place::At(w) = place_at(t) else {
         return Ticked::Refused(Refusal::Image);
     };
     if !covers(cover_of(r, c.period, c.back, c.ahead), w) {
@@ -217,6 +230,6 @@ pub fn tick_of(c: Correlation, h: Handed) -> Ticked
             Place::At(_) => Ticked::Refused(Refusal::Span),
             Place::Outside => Ticked::Refused(Refusal::Correlation),
         },
-        Taken::At(t) => tick_at(c, t.to_record()),
+        Taken::At(t) => tick_at(c, t),
     }
 }

@@ -4,6 +4,8 @@ use mathlib.Core.Path.{_≡_, refl, sym, ap, _∙_}
 use Prim.Native.Nat.{ℕ}
 use Rattle.scales.specs.Same.{some as is-some, refusals}
 use Rattle.scales.specs.declared.Tick.{Tick}
+use Rattle.scales.specs.declared.Ticked.{Ticked}
+use Rattle.scales.specs.declared.Ticked.the-variants as T
 use Rattle.fields.specs.Meaning.{Reply, some, no, slipOf, counting, countSlip}
 use Rattle.fields.specs.Cuc as Cuc
 use Rattle.fields.specs.Proteus as Proteus
@@ -24,8 +26,6 @@ use Rattle.fields.specs.declared.cryosat.Parted.the-variants as YP
 use Rattle.fields.specs.declared.siral.Fields as SiralFields
 use Rattle.fields.specs.declared.siral.Parted as SiralParted
 use Rattle.fields.specs.declared.siral.Parted.the-variants as SP
-use Rattle.fields.specs.declared.sbt.Ticking.{Ticking}
-use Rattle.fields.specs.declared.sbt.Ticking.the-variants as T
 
 pub same-reply : {A : Type 0} (z : A) (a b : Reply A) → slipOf z a ≡ slipOf z b → a ≡ b
 same-reply z (some a) (some b) e = ap some (λ i. e i .value)
@@ -49,14 +49,14 @@ same-count = same-made 0 counting make back
     back (C.Count n) = refl
     back (C.Refused f) = refl
 
-pub same-tick : (a b : Ticking) → Sbt.slip a ≡ Sbt.slip b → a ≡ b
+pub same-tick : (a b : Ticked) → Sbt.slip a ≡ Sbt.slip b → a ≡ b
 same-tick = same-made Sbt.empty Sbt.ticking make back
   where
-    make : Reply Tick → Ticking
+    make : Reply Tick → Ticked
     make (some t) = T.Tick t
     make (no f) = T.Refused f
 
-    back : (a : Ticking) → make (Sbt.ticking a) ≡ a
+    back : (a : Ticked) → make (Sbt.ticking a) ≡ a
     back (T.Tick t) = refl
     back (T.Refused f) = refl
 

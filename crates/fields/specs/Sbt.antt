@@ -6,9 +6,9 @@ use lib.ListN.{length}
 use Rattle.octets.specs.Meaning.{field}
 use Rattle.scales.specs.Meaning.{Judged, given, gives, outcome, Wrote, written}
 use Rattle.scales.specs.declared.Tick.{Tick}
+use Rattle.scales.specs.declared.Ticked.{Ticked}
+use Rattle.scales.specs.declared.Ticked.the-variants as T
 use Rattle.fields.specs.Meaning.{part, placing, Valued, valued, Reply, some, no, slipOf}
-use Rattle.fields.specs.declared.sbt.Ticking.{Ticking}
-use Rattle.fields.specs.declared.sbt.Ticking.the-variants as T
 
 abbrev pub tickOf : List ℕ → Tick
 tickOf s = record { 0 = part s 0 4 }
@@ -28,11 +28,11 @@ writing t out = placing (imageOf t) out
 abbrev pub empty : Tick
 empty = record { 0 = 0 }
 
-abbrev pub ticking : Ticking → Reply Tick
+abbrev pub ticking : Ticked → Reply Tick
 ticking (T.Tick t) = some t
 ticking (T.Refused r) = no r
 
-abbrev pub slip : Ticking → Valued Tick
+abbrev pub slip : Ticked → Valued Tick
 slip r = slipOf empty (ticking r)
 
 unfoldable pub read : List ℕ → Valued Tick

@@ -4,20 +4,16 @@ ghost use Rattle.scales.specs.Meaning.{wrote};
 ghost use Rattle.fields.specs.Sbt.{slip, read, write};
 use scales::Refusal;
 use scales::Tick;
+use scales::Ticked;
 use scales::Written;
 
-pub enum Ticking {
-    Tick(Tick),
-    Refused(Refusal),
-}
-
-pub fn read(b: &[u8]) -> Ticking
+pub fn read(b: &[u8]) -> Ticked
     ensures { λ r. ⌜ slip r ≡ read (now (b .entry)) ⌝ }
 {
     if b.len() != 4 {
-        return Ticking::Refused(Refusal::Length);
+        return Ticked::Refused(Refusal::Length);
     }
-    Ticking::Tick(Tick(crate::part(b, 0, 4) as u32))
+    Ticked::Tick(Tick(crate::part(b, 0, 4) as u32))
 }
 
 pub fn write(tick: Tick, out: &mut [u8]) -> Written

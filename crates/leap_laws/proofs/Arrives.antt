@@ -11,7 +11,7 @@ use Rattle.axis.specs.Diff.{Way, way, below, above}
 use Rattle.scales.specs.Meaning.{inSpan, given, answer, outcome, Moment}
 use Rattle.scales.specs.declared.Scale.{Scale}
 use Rattle.scales.specs.declared.Scale.the-variants as S
-use Rattle.scales.specs.Place.{day-part, micro-part}
+use Rattle.scales.specs.Place.{span-early, day-part, micro-part}
 use Rattle.decimal.specs.Meaning.{dayMicros}
 use Rattle.leap.specs.Meaning.{accepted, isExpiredTai, momentOf, utcOf}
 use Rattle.leap.specs.Places.{micros-minus, moment-at}
@@ -19,7 +19,7 @@ use Rattle.leap.specs.Steps.{Steps, steps}
 use Rattle.leap.specs.Back.{back, forth, none-before}
 use Rattle.leap.specs.Whole.{taiAt, offset-small, known-before, before-known}
 use Rattle.changes.specs.Meaning.{toScale, within}
-use Rattle.changes.specs.Ways.{OnTheWay, span-early, expires}
+use Rattle.changes.specs.Ways.{OnTheWay, expires}
 use Rattle.leap_laws.proofs.Stands.{moment, onTai, Stands, spans, inside, one}
 
 -- the moment of a count of whole days and microseconds

@@ -1,7 +1,7 @@
 -- The changes under one accepted list: each undoes its opposite, later stays later, and TAI to UTC gives the one UTC record whose
 -- TAI is the input. One theorem for all pairs of scales. Assumes nothing.
 use mathlib.Core.Path.{_≡_, refl, sym, ap, ap₂, subst, _∙_}
-use mathlib.Core.Bool.{Bool, true, false}
+use mathlib.Core.Bool.{Bool, true}
 use mathlib.Core.List.{List}
 use Prim.Native.Nat.{ℕ, _+_, _*_, _/_, _%_, _<_, _≤_}
 use native.Mathlib.Omega.{arith}
@@ -11,7 +11,8 @@ use lib.IntN.{ℤ}
 use Rattle.axis.specs.Meaning.{placeOfDay, microsAt}
 use Rattle.axis.specs.Diff.{Way, way, below, above}
 use Rattle.axis.specs.Axis.{day-inj}
-use Rattle.scales.specs.Meaning.{andThen, bound, Judged, given, gives, Outcome, refused, answer, outcome, Moment, momentAt}
+use Rattle.scales.specs.Meaning.{andThen, bound, Judged, Outcome, refused, answer, outcome, Moment, momentAt}
+use Rattle.scales.specs.Order.{onward, then-is}
 use Rattle.scales.specs.Place.{count-inj, day-part, micro-part}
 use Rattle.scales.specs.declared.Scale.{Scale}
 use Rattle.scales.specs.declared.Scale.the-variants as S
@@ -23,16 +24,6 @@ use Rattle.leap.specs.Whole.{taiAt, tai-later, before-known}
 use Rattle.changes.specs.Meaning.{fromScale, toScale, ofCount}
 use Rattle.leap_laws.proofs.Stands.{moment, onTai, Stands, inside, leaves, left}
 use Rattle.leap_laws.proofs.Arrives.{on-the-way, arrives, found}
-
--- what an outcome leads to
-abbrev pub onward : {A B : Type 0} → Outcome A → (A → Outcome B) → Outcome B
-onward (refused n) f = refused n
-onward (answer a) f = f a
-
-pub then-is : {A B : Type 0} (j : Judged A) (f : A → Judged B) → outcome (andThen j f) ≡ onward (outcome j) (λ a. outcome (f a))
-then-is (given true n rest) f = then-is rest f
-then-is (given false n rest) f = refl
-then-is (gives a) f = refl
 
 -- a count of scale s, changed to another scale
 abbrev pub changed : Scale → Scale → List ℤ → List ℕ → ℤ → ℕ → Outcome Moment
@@ -66,7 +57,7 @@ module _ (ds : List ℤ) (os : List ℕ) (e : ℤ) (w : accepted ds os e ≡ tru
       u : ℕ
       u = n % bound s
 
-      go : (x : Outcome ℤ) → outcome j ≡ x → onward x (λ z. outcome (toScale to ds os e z)) ≡ answer (momentAt to k) → Met s to n k
+      go : (x : Outcome ℤ) → outcome j ≡ x → onward (toScale to ds os e) x ≡ answer (momentAt to k) → Met s to n k
       go (refused m) p q = absurd (let z : _≡_ {A = ℕ} 0 1 = cc in omega arith)
       go (answer z) p q =
           let l = left ds os e w s a u z p in
@@ -84,7 +75,7 @@ module _ (ds : List ℤ) (os : List ℕ) (e : ℤ) (w : accepted ds os e ≡ tru
       let a = n / bound s in
       let u = n % bound s in
       then-is (ofCount s n (fromScale s ds os e)) (toScale to ds os e)
-      ∙ ap (λ (x : Outcome ℤ). onward x (λ z. outcome (toScale to ds os e z)))
+      ∙ ap (onward (toScale to ds os e))
       (ap (λ (b : Bool). outcome (fromScale s ds os e b (moment a u))) (inside (m .here)) ∙ leaves ds os e w s a u (m .here))
       ∙ ap (λ (c : ℕ). outcome (toScale to ds os e (microsAt c))) (m .meet)
       ∙ arrives ds os e w to (k / bound to) (k % bound to) (m .there)

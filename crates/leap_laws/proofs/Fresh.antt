@@ -12,6 +12,7 @@ use Rattle.axis.specs.Meaning.{placeOfDay, dayAt, microsAt}
 use Rattle.axis.specs.Diff.{Way, way, below, above}
 use Rattle.axis.specs.Axis.{day-to, day-le}
 use Rattle.scales.specs.Meaning.{andThen, sameScale, Judged, given, gives, Outcome, refused, answer, outcome, Moment}
+use Rattle.scales.specs.Order.{onward, then-is}
 use Rattle.scales.specs.Place.{and-both}
 use Rattle.scales.specs.declared.Scale.{Scale}
 use Rattle.scales.specs.declared.Scale.the-variants as S
@@ -29,7 +30,6 @@ use Rattle.leap.specs.Whole.{expired-at, taiAt, offset-small}
 use Rattle.changes.specs.Meaning.{fromScale, toScale, settled, moving, within}
 use Rattle.changes.specs.Ways.{expires}
 use Rattle.leap_laws.proofs.Stands.{moment, onTai}
-use Rattle.leap_laws.proofs.Changes.{onward, then-is}
 
 -- ---- days later than the day at place x
 not-le : (x d : ℤ) → ltZ x d ≡ true → leZ d x ≡ false
@@ -198,13 +198,13 @@ module _ (ds : List ℤ) (os : List ℕ) (e : ℤ) (w : accepted ds os e ≡ tru
       Same : Type 0
       Same = outcome (moving s to (ds ++ cs) (os ++ ps) f b (moment a u)) ≡ outcome (moving s to ds os e b (moment a u))
 
-      by : (y : Outcome ℤ) → outcome j ≡ y → outcome (andThen j g) ≡ onward y (λ z. outcome (g z))
-      by y p = then-is j g ∙ ap (λ (i : Outcome ℤ). onward i (λ z. outcome (g z))) p
+      by : (y : Outcome ℤ) → outcome j ≡ y → outcome (andThen j g) ≡ onward g y
+      by y p = then-is j g ∙ ap (onward g) p
 
-      same : (y : Outcome ℤ) → outcome j ≡ y → (y ≡ refused 9 → ⊥) → onward y (λ z. outcome (g′ z)) ≡ onward y (λ z. outcome (g z)) → Same
+      same : (y : Outcome ℤ) → outcome j ≡ y → (y ≡ refused 9 → ⊥) → onward g′ y ≡ onward g y → Same
       same y p n q =
           then-is (fromScale s (ds ++ cs) (os ++ ps) f b (moment a u)) g′
-          ∙ ap (λ (i : Outcome ℤ). onward i (λ z. outcome (g′ z))) (from-kept s b a u (λ r. n (sym p ∙ r)) ∙ p)
+          ∙ ap (onward g′) (from-kept s b a u (λ r. n (sym p ∙ r)) ∙ p)
           ∙ q ∙ sym (by y p)
 
       go : (y : Outcome ℤ) → outcome j ≡ y → Same

@@ -12,7 +12,7 @@ use Rattle.axis.specs.Diff.{Way, way, below, above}
 use Rattle.scales.specs.Meaning.{bound, inSpan, given, gives, answer, outcome, Moment}
 use Rattle.scales.specs.declared.Scale.{Scale}
 use Rattle.scales.specs.declared.Scale.the-variants as S
-use Rattle.scales.specs.Place.{firstAt, and-both}
+use Rattle.scales.specs.Place.{firstAt, and-both, span-at, span-in}
 use Rattle.decimal.specs.Meaning.{dayMicros}
 use Rattle.decimal.proofs.Image.{since-at}
 use Rattle.leap.specs.Meaning.{seconds, accepted, taiOf, isStep, hasMicro, isExpiredDay}
@@ -20,7 +20,7 @@ use Rattle.leap.specs.Places.{micros-add, tai-at}
 use Rattle.leap.specs.Back.{Real}
 use Rattle.leap.specs.Whole.{expired-at, taiAt}
 use Rattle.changes.specs.Meaning.{fromScale}
-use Rattle.changes.specs.Ways.{span-at, span-in, has-plain, has-sixty}
+use Rattle.changes.specs.Ways.{has-plain, has-sixty}
 
 abbrev pub moment : ℕ → ℕ → Moment
 moment a u = record { day = dayAt a; micro = u }

@@ -20,9 +20,9 @@ use crate::VrkTime;
 use crate::hand;
 use crate::time_out;
 use fields::Counting;
-use fields::sbt::Ticking;
 use layouts::proteus::ProteusDated;
 use scales::Tick;
+use scales::Ticked;
 use scales::Written;
 
 #[repr(C)]
@@ -119,11 +119,11 @@ pub extern "C" fn vrk_sbt_read(bytes: &[u8]) -> VrkCount
     ensures { λ r. ⌜ r ≡ sbtOut (sbtRead (now (bytes .entry))) ⌝ }
 {
     match fields::sbt::read(bytes) {
-        Ticking::Tick(tick) => VrkCount {
+        Ticked::Tick(tick) => VrkCount {
             refusal: 0,
             count: tick.0 as u64,
         },
-        Ticking::Refused(f) => VrkCount {
+        Ticked::Refused(f) => VrkCount {
             refusal: f.number(),
             count: 0,
         },

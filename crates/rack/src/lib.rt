@@ -6,13 +6,13 @@ ghost use Rattle.decimal.specs.Meaning.{decimalSlip};
 ghost use Rattle.correlation.specs.Meaning.{tickSlip};
 ghost use Rattle.rack.specs.Meaning.{namedBy, givenOf, timeOut, decimalOut, tickOut, correlationOf, decimalRead, DecimalWrote, sbtDate, sbtTick, listAccepted, changed};
 use correlation::Correlation;
-use correlation::Ticked;
 use decimal::Decimal;
 use scales::Dated;
 use scales::Handed;
 use scales::Record;
 use scales::Scale;
 use scales::Tick;
+use scales::Ticked;
 
 pub mod bytes;
 pub mod parts;

@@ -1,9 +1,9 @@
 -- "The first that applies in this order is given, never otherwise": of any chain of tests. Assumes nothing.
-use mathlib.Core.Path.{_≡_, refl, sym, ap, subst, _∙_}
+use mathlib.Core.Path.{_≡_, refl, subst}
 use mathlib.Core.Bool.{Bool, true, false}
 use Prim.Native.Nat.{ℕ}
 use native.Mathlib.Omega.{arith}
-use Rattle.scales.specs.Meaning.{Judged, given, gives, Outcome, refused, answer, outcome}
+use Rattle.scales.specs.Meaning.{andThen, Judged, given, gives, Outcome, refused, answer, outcome}
 
 -- a chain refuses with n: the test beside n fails, and every test before it holds
 pub data Refuses {A : Type 0} : Judged A → ℕ → Type 0 where
@@ -33,3 +33,13 @@ module _ {A : Type 0} where
   is-answers (given true m rest) a e = next refl (is-answers rest a e)
   is-answers (given false m rest) a e = absurd (let z : _≡_ {A = ℕ} 0 1 = cc in omega arith)
   is-answers (gives b) a e = let q : b ≡ a = cc in subst (λ (x : A). Answers (gives b) x) q last
+
+-- ---- one chain after another: what an outcome leads to
+abbrev pub onward : {A B : Type 0} → (A → Judged B) → Outcome A → Outcome B
+onward f (refused n) = refused n
+onward f (answer a) = outcome (f a)
+
+pub then-is : {A B : Type 0} (j : Judged A) (f : A → Judged B) → outcome (andThen j f) ≡ onward f (outcome j)
+then-is (given true n rest) f = then-is rest f
+then-is (given false n rest) f = refl
+then-is (gives a) f = refl

@@ -9,12 +9,10 @@ use lib.IntN.{ℤ}
 use lib.Signed.{leZ}
 use borrow.Author.Tests.{le-leb, lt-leb, lt-ltb, le-ltb, leb-true, ltb-true}
 use Rattle.axis.specs.Meaning.{placeOfDay, dayAt}
-use Rattle.axis.specs.Axis.{day-from, day-to, day-place, day-inj}
-use Rattle.scales.specs.Meaning.{first, last, bound, inSpan, Outcome, refused, answer, Slip, dated, numberOf, momentAt, spanned}
+use Rattle.axis.specs.Axis.{day-from, day-to, day-le, day-place, day-inj}
+use Rattle.scales.specs.Meaning.{first, last, bound, inSpan, refused, answer, dated, momentAt, spanned}
 use Rattle.scales.specs.declared.Scale.{Scale}
 use Rattle.scales.specs.declared.Scale.the-variants as S
-use Rattle.scales.specs.declared.Refusal.{Refusal}
-use Rattle.scales.specs.declared.Refusal.the-variants as R
 use Rattle.scales.specs.declared.counting.Span.{Span}
 use Rattle.scales.specs.declared.counting.Counted.{Counted}
 use Rattle.scales.specs.declared.counting.Counted.the-variants as C
@@ -36,17 +34,17 @@ last-is S.Tai d = day-to 76524 d (lit< tt)
 last-is S.Utc d = day-to 76524 d (lit< tt)
 last-is S.Gps d = day-to 76524 d (lit< tt)
 
--- what the laws below use of a scale's numbers
+-- what the laws use of a scale's numbers; the calendar's first month begins at 29773
 pub record Apart (s : Scale) : Type 0 where
-  pub from : 0 < firstAt s
+  pub from : 29773 ≤ firstAt s
   pub to : lastAt s ≡ 76524
   pub whole : 86400000000 ≤ bound s
   pub most : bound s ≤ 86401000000
 
 pub apart : (s : Scale) → Apart s
-apart S.Tai = record { from = lit< tt; to = refl; whole = lit≤ tt; most = lit≤ tt }
-apart S.Utc = record { from = lit< tt; to = refl; whole = lit≤ tt; most = lit≤ tt }
-apart S.Gps = record { from = lit< tt; to = refl; whole = lit≤ tt; most = lit≤ tt }
+apart S.Tai = record { from = lit≤ tt; to = refl; whole = lit≤ tt; most = lit≤ tt }
+apart S.Utc = record { from = lit≤ tt; to = refl; whole = lit≤ tt; most = lit≤ tt }
+apart S.Gps = record { from = lit≤ tt; to = refl; whole = lit≤ tt; most = lit≤ tt }
 
 -- the three spans, as one law
 pub span-is : (s : Scale) (d : ℤ) (u : ℕ) →
@@ -88,6 +86,22 @@ module _ (s : Scale) (d : ℤ) (u : ℕ) where
   out-over h =
       span-is s d u
       ∙ rw (le-ltb u (bound s) h, and-false (leb (placeOfDay d) (lastAt s)), and-false (leb (firstAt s) (placeOfDay d)))
+
+-- ---- the spans, by the place of a day
+pub span-at : (s : Scale) (a u : ℕ) → inSpan s (dayAt a) u ≡ (leb (firstAt s) a && (leb a 76524 && ltb u (bound s)))
+span-at S.Tai a u = ap₂ (λ (x y : Bool). x && (y && ltb u 86400000000)) (day-le 29773 a) (day-le a 76524)
+span-at S.Utc a u = ap₂ (λ (x y : Bool). x && (y && ltb u 86401000000)) (day-le 29773 a) (day-le a 76524)
+span-at S.Gps a u = ap₂ (λ (x y : Bool). x && (y && ltb u 86400000000)) (day-le 32700 a) (day-le a 76524)
+
+module _ (s : Scale) (a u : ℕ) where
+  pub span-early : a < firstAt s → inSpan s (dayAt a) u ≡ false
+  span-early h = span-at s a u ∙ rw (lt-leb (firstAt s) a h)
+
+  pub span-late : 76524 < a → inSpan s (dayAt a) u ≡ false
+  span-late h = span-at s a u ∙ rw (lt-leb a 76524 h, and-false (leb (firstAt s) a))
+
+  pub span-in : firstAt s ≤ a → a ≤ 76524 → u < bound s → inSpan s (dayAt a) u ≡ true
+  span-in h k l = span-at s a u ∙ rw (le-leb (firstAt s) a h, le-leb a 76524 k, lt-ltb u (bound s) l)
 
 -- ---- what is handed back of a day and a microsecond
 pub spanned-in : (s : Scale) (d : ℤ) (u : ℕ) → inSpan s d u ≡ true → spanned s d u ≡ dated s (answer (record { day = d; micro = u }))

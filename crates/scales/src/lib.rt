@@ -126,6 +126,12 @@ pub enum Timed {
     Refused(Refusal, Scale),
 }
 
+// A tick, or a refusal: then tick 0.
+pub enum Ticked {
+    Tick(Tick),
+    Refused(Refusal),
+}
+
 // How many bytes were written onto the front of a lent slice, or a refusal: then none.
 pub enum Written {
     Bytes(usize),

@@ -5,7 +5,7 @@ use mathlib.Core.Bool.{Bool, true, false, not, _||_}
 use mathlib.Core.List.{List}
 use Prim.Native.Nat.{ℕ, _-_, _/_, _%_, _<_, _≤_}
 use native.Mathlib.Omega.{arith}
-use lib.Dec.{eqb, lit≤, T}
+use lib.Dec.{eqb, T}
 use lib.IntN.{ℤ}
 use lib.ListN.{length, take, drop}
 use lib.Seq.{take-at}
@@ -15,7 +15,7 @@ use Rattle.axis.specs.Meaning.{placeOfDay}
 use Rattle.axis.specs.Diff.{Way, way, below, above}
 use Rattle.octets.specs.Meaning.{hasRoom}
 use Rattle.scales.specs.Meaning.{bound, inSpan, Judged, given, gives, Outcome, refused, answer, outcome, dated, written}
-use Rattle.scales.specs.Place.{firstAt, apart, placed, and-both}
+use Rattle.scales.specs.Place.{apart, placed, and-both}
 use Rattle.scales.specs.declared.Scale.{Scale}
 use Rattle.scales.specs.declared.Scale.the-variants as S
 use Rattle.scales.specs.declared.Record.{Record}
@@ -124,15 +124,10 @@ record Dates (d : ℤ) : Type 0 where
   real : Real (dateIn (dateOfDay d))
   back : dayOfDate (dateIn (dateOfDay d)) ≡ dayHanded (answer d)
 
-from : (z : Scale) → 29773 ≤ firstAt z
-from S.Tai = lit≤ tt
-from S.Utc = lit≤ tt
-from S.Gps = lit≤ tt
-
 dates : (z : Scale) (d : ℤ) (u : ℕ) → inSpan z d u ≡ true → Dates d
 dates z d u w =
     let p = placed z d u w in
-    let q = date-within d (omega (arith, from z, p .from)) (omega (arith, apart z .to, p .to)) in
+    let q = date-within d (omega (arith, apart z .from, p .from)) (omega (arith, apart z .to, p .to)) in
     let t = dateAt (walk 1536 0 (placeOfDay d - 29773)) in
     let k : t ≡ dateIn (dateOfDay d) = ap dateIn q in
     let b = day-of-date d t (sym q) in

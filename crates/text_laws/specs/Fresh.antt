@@ -7,6 +7,7 @@ use native.Mathlib.Omega.{arith}
 use lib.Dec.{eqb}
 use lib.IntN.{ℤ, pos}
 use Rattle.scales.specs.Meaning.{inSpan, Judged, given, gives, Outcome, refused, answer, outcome, Moment, dated, written, recordOf}
+use Rattle.scales.specs.Order.{onward}
 use Rattle.scales.specs.declared.Scale.{Scale}
 use Rattle.scales.specs.declared.Scale.the-variants as S
 use Rattle.scales.specs.declared.Handed.{Handed}
@@ -21,7 +22,7 @@ use Rattle.leap_laws.proofs.Marked.{published-6209, extended}
 use Rattle.text_read.specs.Meaning.{isPlain, isPrefixed, isPrefixRight, isBody, scaleIn, bodyIn, stampIn, momentOf, listed, readingBody, datedIn, readText}
 use Rattle.text_read.specs.Judging.{judging, list-passes, sound}
 use Rattle.text_write.specs.Meaning.{imaging, writeText}
-use Rattle.text_write.specs.Writes.{onward, write-is}
+use Rattle.text_write.specs.Writes.{write-is}
 use Rattle.text_write.specs.declared.Form.{Form}
 
 -- a change to the same scale judges what the texts judge

@@ -4,14 +4,13 @@ use mathlib.Core.Bool.{Bool, true, false, not, _&&_, _||_}
 use mathlib.Core.List.{List}
 use Prim.Native.Nat.{ℕ, _≤_}
 use native.Mathlib.Omega.{arith}
-use lib.Dec.{lit≤}
 use lib.IntN.{ℤ}
 use Rattle.axis.specs.Meaning.{placeOfDay}
-use Rattle.scales.specs.Meaning.{andThen, inSpan, Judged, given, gives, Outcome, refused, answer, outcome, Moment, wrote, written, slip, dated, momentAt, timeScale, timeCount}
-use Rattle.scales.specs.Place.{firstAt, apart, placed}
+use Rattle.scales.specs.Meaning.{inSpan, Judged, given, gives, Outcome, answer, outcome, Moment, wrote, written, slip, dated, momentAt, timeScale, timeCount}
+use Rattle.scales.specs.Order.{onward, then-is}
+use Rattle.scales.specs.Place.{apart, placed}
 use Rattle.scales.specs.Same.{some}
 use Rattle.scales.specs.declared.Scale.{Scale}
-use Rattle.scales.specs.declared.Scale.the-variants as S
 use Rattle.scales.specs.declared.Record.{Record}
 use Rattle.scales.specs.declared.Refusal.{Refusal}
 use Rattle.scales.specs.declared.Refusal.the-variants as R
@@ -37,11 +36,6 @@ use Rattle.text_read.specs.Ways.{lacking}
 use Rattle.text_write.specs.declared.Form.{Form}
 
 -- ---- the image of a time in its span
-from : (z : Scale) → 29773 ≤ firstAt z
-from S.Tai = lit≤ tt
-from S.Utc = lit≤ tt
-from S.Gps = lit≤ tt
-
 module _ (f : Form) (z : Scale) (m : Moment) (out : List ℕ) where
   pub image-lacks : hasImage f z (m .micro) ≡ false → wrote (W.Refused R.Image) out ≡ imaged f z m out
   unfolding imaged
@@ -51,7 +45,7 @@ module _ (f : Form) (z : Scale) (m : Moment) (out : List ℕ) where
     pub has-date : (r : Refusal) → dateSlip (A.Refused r) ≡ dateOfDay (m .day) → ⊥
     has-date r q =
         let p = placed z (m .day) (m .micro) w in
-        let h : 29773 ≤ placeOfDay (m .day) = omega (arith, from z, p .from) in
+        let h : 29773 ≤ placeOfDay (m .day) = omega (arith, apart z .from, p .from) in
         let k : placeOfDay (m .day) ≤ 76524 = omega (arith, apart z .to, p .to) in
         some r (λ i. (q ∙ sym (date-within (m .day) h k)) i .number)
 
@@ -65,17 +59,7 @@ month-in d t q =
     let y : _ ≡ t .month = λ i. x i .month in
     (omega arith, omega arith)
 
--- ---- one chain after another
-abbrev pub onward : {A B : Type 0} → (A → Judged B) → Outcome A → Outcome B
-onward k (refused n) = refused n
-onward k (answer a) = outcome (k a)
-
-then-is : {A B : Type 0} (j : Judged A) (k : A → Judged B) → outcome (andThen j k) ≡ onward k (outcome j)
-then-is (given true n rest) k = then-is rest k
-then-is (given false n rest) k = refl
-then-is (gives a) k = refl
-
--- writing judges the time, and then its image
+-- ---- writing judges the time, and then its image
 pub write-is : (h : Handed) (f : Form) (ds : List ℤ) (os : List ℕ) (e : ℤ) (out : List ℕ)
     → writeText h f ds os e out ≡ written out (onward (λ (m : Moment). imaging f (scaleOf h) m out) (outcome (judging ds os e h)))
 unfolding writeText

@@ -1,32 +1,18 @@
 -- `changes::change` meets its contract: one law for each way out. Assumes nothing.
 use mathlib.Core.Path.{_≡_, sym, ap, _∙_}
 use mathlib.Core.Bool.{not, _&&_}
-use lib.IntN.{ℤ}
 use mir.Syntax.{w64}
 use mir.Val.{toZ, ofZ}
 use mir.Facts.{toZ-ofZ}
-use Rattle.scales.specs.Meaning.{outcome, dated, timeScale, timeCount}
 use Rattle.scales.specs.declared.Scale.{Scale}
 use Rattle.decimal.specs.Meaning.{scaleOf}
 use Rattle.decimal.specs.Told.{told-nothing, told-outside, told-at, told-scale}
 use Rattle.leap.specs.Meaning.{accepted}
-use Rattle.changes.specs.Meaning.{ofCount, moving, usesList}
+use Rattle.changes.specs.Meaning.{usesList}
 use Rattle.changes.specs.General.{change-infinite, change-unlisted, change-outside, change-at, listed-so}
 use borrow.Author.Needs.{needs}
 use Rattle.changes.proofs.change.Statement.{statement}
 use Rattle.changes.proofs.change.Tie as tie
-
-take-requires : tie.Need-take-requires
-take-requires c κs = search needs
-
-enum-told : tie.Need-enum-told
-enum-told c = search needs
-
-enum-known-s : tie.Need-enum-known-s
-enum-known-s c = search needs
-
-lacks-list-requires : tie.Need-lacks-list-requires
-lacks-list-requires c κs = search needs
 
 -- whether the list is lacking, by the scale of what was handed in; the callee read the last day from its bits
 lacking : (c : tie.After-lacks-list) → let a = c .before .before .before .before .before .before .args in
@@ -37,9 +23,7 @@ lacking c =
     let s = b .before .before in
     let a = s .args in
     let w = told-outside (a .h) (b .take .result) (b .take .ensures) (k .s .given .0 .0) (k .s .given .1) in
-    c .lacks-list .ensures
-    ∙ ap (λ (z : ℤ). usesList (k .s .given .0 .0) (a .to) && not (accepted (a .days .now) (a .offsets .now) z)) (toZ-ofZ (s .fits .last))
-    ∙ ap (λ (x : Scale). usesList x (a .to) && not (accepted (a .days .now) (a .offsets .now) (a .last))) (w .2)
+    c .lacks-list .ensures ∙ rw (toZ-ofZ (s .fits .last), w .2)
 
 returns : tie.Need-returns
 returns c =
@@ -48,15 +32,6 @@ returns c =
     let a = b .before .before .args in
     let k = told-outside (a .h) (b .take .result) (b .take .ensures) (l .before .before .s .given .0 .0) (l .before .before .s .given .1) in
     change-unlisted (a .h) (a .to) (a .days .now) (a .offsets .now) (a .last) (k .0) (sym (lacking l) ∙ c .if1 .taken)
-
-enum-known-t : tie.Need-enum-known-t
-enum-known-t c = search needs
-
-scale-requires : tie.Need-scale-requires
-scale-requires c κs = search needs
-
-lacks-list-requires-2 : tie.Need-lacks-list-requires-2
-lacks-list-requires-2 c κs = search needs
 
 lacking-2 : (c : tie.After-lacks-list2) → let a = c .before .before .before .before .before .before .before .args in
     c .lacks-list2 .result ≡ (usesList (scaleOf (a .h)) (a .to) && not (accepted (a .days .now) (a .offsets .now) (a .last)))
@@ -67,9 +42,7 @@ lacking-2 c =
     let a = s .args in
     let t = k .t .given .0 .0 in
     let w = told-at (a .h) (b .take .result) (b .take .ensures) t (k .t .given .1) in
-    c .lacks-list2 .ensures
-    ∙ ap (λ (z : ℤ). usesList (c .before .scale .result) (a .to) && not (accepted (a .days .now) (a .offsets .now) z)) (toZ-ofZ (s .fits .last))
-    ∙ ap (λ (x : Scale). usesList x (a .to) && not (accepted (a .days .now) (a .offsets .now) (a .last))) (c .before .scale .ensures ∙ told-scale (a .h) t w)
+    c .lacks-list2 .ensures ∙ rw (toZ-ofZ (s .fits .last), c .before .scale .ensures ∙ told-scale (a .h) t w)
 
 returns-2 : tie.Need-returns-2
 returns-2 c =
@@ -111,22 +84,21 @@ returns-5 c =
     let s = b .before .before in
     let a = s .args in
     let t = k .t .given .0 .0 in
-    c .change .ensures
-    ∙ ap (λ (z : ℤ). dated (a .to) (outcome (ofCount (timeScale t) (timeCount t) (moving (timeScale t) (a .to) (a .days .now) (a .offsets .now) z)))) (toZ-ofZ (s .fits .last))
+    (rw (toZ-ofZ (s .fits .last)) at (c .change .ensures))
     ∙ change-at (a .h) (a .to) (a .days .now) (a .offsets .now) (a .last) t (told-at (a .h) (b .take .result) (b .take .ensures) t (k .t .given .1)) (sym (lacking-2 l) ∙ c .before .if2 .left)
 
 pub change-spec : {M : Type 1} → statement M
 change-spec =
     tie.close
     (tie.spec
-    take-requires
-    enum-told
-    enum-known-s
-    lacks-list-requires
+    (λ c κs. search needs)
+    (λ c. search needs)
+    (λ c. search needs)
+    (λ c κs. search needs)
     returns
-    enum-known-t
-    scale-requires
-    lacks-list-requires-2
+    (λ c. search needs)
+    (λ c κs. search needs)
+    (λ c κs. search needs)
     returns-2
     change-requires
     returns-3

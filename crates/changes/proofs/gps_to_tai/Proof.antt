@@ -1,46 +1,23 @@
 -- `changes::gps_to_tai` meets its contract: by way of the TAI count. Assumes nothing.
-use mathlib.Core.Path.{_∙_}
 use Rattle.scales.specs.declared.Scale.the-variants as S
-use Rattle.changes.specs.Meaning.{fromGps, toTai, ofCount, gpsToTai}
+use Rattle.changes.specs.Meaning.{toTai, gpsToTai}
 use Rattle.changes.specs.Ways.{way-on, way-out, way-held}
 use borrow.Author.Needs.{needs}
 use Rattle.changes.proofs.gps_to_tai.Statement.{statement}
 use Rattle.changes.proofs.gps_to_tai.Tie as tie
 
-from-gps-requires : tie.Need-from-gps-requires
-from-gps-requires c κs = search needs
-
-enum-known-c : tie.Need-enum-known-c
-enum-known-c c = search needs
-
 to-tai-requires : tie.Need-to-tai-requires
-to-tai-requires c κs =
-    let k = c .before in
-    let b = k .before .before in
-    let a = b .before .args in
-    way-held S.Tai (ofCount S.Gps (a .t .0) fromGps) toTai (b .from-gps .result) (b .from-gps .ensures) (k .c .given .0 .0) (k .c .given .1)
-
-enum-known-f : tie.Need-enum-known-f
-enum-known-f c = search needs
+to-tai-requires c κs = let k = c .before in way-held (k .before .before .from-gps .ensures) (k .c .given .1)
 
 returns : tie.Need-returns
 unfolding gpsToTai
-returns c =
-    let k = c .before .before in
-    let b = k .before .before in
-    let a = b .before .args in
-    c .to-tai .ensures
-    ∙ way-on S.Tai (ofCount S.Gps (a .t .0) fromGps) toTai (b .from-gps .result) (b .from-gps .ensures) (k .c .given .0 .0) (k .c .given .1)
+returns c = let k = c .before .before in way-on (k .before .before .from-gps .ensures) S.Tai toTai (k .c .given .1) (c .to-tai .ensures)
 
 returns-2 : tie.Need-returns-2
 unfolding gpsToTai
-returns-2 c =
-    let k = c .before in
-    let b = k .before .before in
-    let a = b .before .args in
-    way-out S.Tai (ofCount S.Gps (a .t .0) fromGps) toTai (b .from-gps .result) (b .from-gps .ensures) (k .f .given .0 .0) (k .f .given .1)
+returns-2 c = let k = c .before in way-out (k .before .before .from-gps .ensures) S.Tai toTai (k .f .given .1)
 
 pub gps-to-tai-spec : {M : Type 1} → statement M
 gps-to-tai-spec =
     tie.close
-    (tie.spec from-gps-requires enum-known-c to-tai-requires enum-known-f returns returns-2)
+    (tie.spec (λ c κs. search needs) (λ c. search needs) to-tai-requires (λ c. search needs) returns returns-2)

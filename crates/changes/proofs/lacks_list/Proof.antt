@@ -8,14 +8,8 @@ use borrow.Author.Needs.{needs}
 use Rattle.changes.proofs.lacks_list.Statement.{statement}
 use Rattle.changes.proofs.lacks_list.Tie as tie
 
-uses-list-requires : tie.Need-uses-list-requires
-uses-list-requires c κs = search needs
-
 returns : tie.Need-returns
 returns c = let b = c .before in sym (rw (sym (b .uses-list .ensures) ∙ not-true (b .uses-list .result) (c .if1 .taken)))
-
-is-accepted-requires : tie.Need-is-accepted-requires
-is-accepted-requires c κs = search needs
 
 returns-2 : tie.Need-returns-2
 returns-2 c =
@@ -26,4 +20,4 @@ returns-2 c =
     ∙ sym (rw (sym (b .uses-list .ensures) ∙ not-false (b .uses-list .result) (c .before .if1 .left)))
 
 pub lacks-list-spec : {M : Type 1} → statement M
-lacks-list-spec = tie.close (tie.spec uses-list-requires returns is-accepted-requires returns-2)
+lacks-list-spec = tie.close (tie.spec (λ c κs. search needs) returns (λ c κs. search needs) returns-2)

@@ -1,48 +1,27 @@
--- `changes::utc_to_gps` meets its contract: the list is judged, then the core is asked. Assumes nothing.
-use mathlib.Core.Path.{_≡_, sym, ap, _∙_}
-use lib.IntN.{ℤ}
+-- `changes::utc_to_gps` meets its contract: by way of the TAI count, the list judged before. Assumes nothing.
 use mir.Facts.{toZ-ofZ}
-use borrow.Author.Needs.{needs}
-use borrow.Author.Tests.{not-true, not-false}
-use Rattle.scales.specs.Meaning.{outcome, dated}
 use Rattle.scales.specs.declared.Scale.the-variants as S
-use Rattle.leap.specs.Meaning.{accepted}
-use Rattle.changes.specs.Meaning.{utcInGps, utcToGps}
-use Rattle.changes.specs.Ways.{list-out, list-in}
+use Rattle.changes.specs.Meaning.{utcToGps}
+use Rattle.changes.specs.Ways.{list-on, list-out, list-held}
+use borrow.Author.Needs.{needs}
 use Rattle.changes.proofs.utc_to_gps.Statement.{statement}
 use Rattle.changes.proofs.utc_to_gps.Tie as tie
 
-is-accepted-requires : tie.Need-is-accepted-requires
-is-accepted-requires c κs = search needs
-
--- the callee read the last day from its bits
-judged : (c : tie.After-is-accepted) → let a = c .before .before .args in c .is-accepted .result ≡ accepted (a .days .now) (a .offsets .now) (a .last)
-judged c =
-    let s = c .before .before in
-    c .is-accepted .ensures ∙ ap (accepted (s .args .days .now) (s .args .offsets .now)) (toZ-ofZ (s .fits .last))
+to-gps-requires : tie.Need-to-gps-requires
+to-gps-requires c κs = let k = c .before in list-held (k .before .before .by-list .ensures) (k .c .given .1)
 
 returns : tie.Need-returns
 unfolding utcToGps
 returns c =
-    let b = c .before in
-    let a = b .before .before .args in
-    list-out S.Gps (a .days .now) (a .offsets .now) (a .last) (utcInGps (a .days .now) (a .offsets .now) (a .last) (a .t .0))
-    (sym (judged b) ∙ not-true (b .is-accepted .result) (c .if1 .taken))
-
-utc-to-gps-requires : tie.Need-utc-to-gps-requires
-utc-to-gps-requires c κs =
-    let b = c .before in sym (b .is-accepted .ensures) ∙ not-false (b .is-accepted .result) (c .if1 .left)
+    let k = c .before .before in
+    let b = k .before .before in
+    list-on (toZ-ofZ (b .before .before .fits .last)) (b .by-list .ensures) S.Gps (k .c .given .1) (c .to-gps .ensures)
 
 returns-2 : tie.Need-returns-2
 unfolding utcToGps
-returns-2 c =
-    let b = c .before .before in
-    let s = b .before .before in
-    let a = s .args in
-    c .utc-to-gps .ensures
-    ∙ ap (λ (z : ℤ). dated S.Gps (outcome (utcInGps (a .days .now) (a .offsets .now) z (a .t .0)))) (toZ-ofZ (s .fits .last))
-    ∙ list-in S.Gps (a .days .now) (a .offsets .now) (a .last) (utcInGps (a .days .now) (a .offsets .now) (a .last) (a .t .0))
-    (sym (judged b) ∙ not-false (b .is-accepted .result) (c .before .if1 .left))
+returns-2 c = let b = c .before .before .before in list-out (toZ-ofZ (b .before .before .fits .last)) (b .by-list .ensures) S.Gps (c .before .f .given .1)
 
 pub utc-to-gps-spec : {M : Type 1} → statement M
-utc-to-gps-spec = tie.close (tie.spec is-accepted-requires returns utc-to-gps-requires returns-2)
+utc-to-gps-spec =
+    tie.close
+    (tie.spec (λ c κs. search needs) (λ c. search needs) to-gps-requires (λ c. search needs) returns returns-2)

@@ -1,48 +1,27 @@
--- `changes::utc_to_tai` meets its contract: the list is judged, then the core is asked. Assumes nothing.
-use mathlib.Core.Path.{_≡_, sym, ap, _∙_}
-use lib.IntN.{ℤ}
+-- `changes::utc_to_tai` meets its contract: by way of the TAI count, the list judged before. Assumes nothing.
 use mir.Facts.{toZ-ofZ}
-use borrow.Author.Needs.{needs}
-use borrow.Author.Tests.{not-true, not-false}
-use Rattle.scales.specs.Meaning.{outcome, dated}
 use Rattle.scales.specs.declared.Scale.the-variants as S
-use Rattle.leap.specs.Meaning.{accepted}
-use Rattle.changes.specs.Meaning.{utcInTai, utcToTai}
-use Rattle.changes.specs.Ways.{list-out, list-in}
+use Rattle.changes.specs.Meaning.{utcToTai}
+use Rattle.changes.specs.Ways.{list-on, list-out, list-held}
+use borrow.Author.Needs.{needs}
 use Rattle.changes.proofs.utc_to_tai.Statement.{statement}
 use Rattle.changes.proofs.utc_to_tai.Tie as tie
 
-is-accepted-requires : tie.Need-is-accepted-requires
-is-accepted-requires c κs = search needs
-
--- the callee read the last day from its bits
-judged : (c : tie.After-is-accepted) → let a = c .before .before .args in c .is-accepted .result ≡ accepted (a .days .now) (a .offsets .now) (a .last)
-judged c =
-    let s = c .before .before in
-    c .is-accepted .ensures ∙ ap (accepted (s .args .days .now) (s .args .offsets .now)) (toZ-ofZ (s .fits .last))
+to-tai-requires : tie.Need-to-tai-requires
+to-tai-requires c κs = let k = c .before in list-held (k .before .before .by-list .ensures) (k .c .given .1)
 
 returns : tie.Need-returns
 unfolding utcToTai
 returns c =
-    let b = c .before in
-    let a = b .before .before .args in
-    list-out S.Tai (a .days .now) (a .offsets .now) (a .last) (utcInTai (a .days .now) (a .offsets .now) (a .last) (a .t .0))
-    (sym (judged b) ∙ not-true (b .is-accepted .result) (c .if1 .taken))
-
-utc-to-tai-requires : tie.Need-utc-to-tai-requires
-utc-to-tai-requires c κs =
-    let b = c .before in sym (b .is-accepted .ensures) ∙ not-false (b .is-accepted .result) (c .if1 .left)
+    let k = c .before .before in
+    let b = k .before .before in
+    list-on (toZ-ofZ (b .before .before .fits .last)) (b .by-list .ensures) S.Tai (k .c .given .1) (c .to-tai .ensures)
 
 returns-2 : tie.Need-returns-2
 unfolding utcToTai
-returns-2 c =
-    let b = c .before .before in
-    let s = b .before .before in
-    let a = s .args in
-    c .utc-to-tai .ensures
-    ∙ ap (λ (z : ℤ). dated S.Tai (outcome (utcInTai (a .days .now) (a .offsets .now) z (a .t .0)))) (toZ-ofZ (s .fits .last))
-    ∙ list-in S.Tai (a .days .now) (a .offsets .now) (a .last) (utcInTai (a .days .now) (a .offsets .now) (a .last) (a .t .0))
-    (sym (judged b) ∙ not-false (b .is-accepted .result) (c .before .if1 .left))
+returns-2 c = let b = c .before .before .before in list-out (toZ-ofZ (b .before .before .fits .last)) (b .by-list .ensures) S.Tai (c .before .f .given .1)
 
 pub utc-to-tai-spec : {M : Type 1} → statement M
-utc-to-tai-spec = tie.close (tie.spec is-accepted-requires returns utc-to-tai-requires returns-2)
+utc-to-tai-spec =
+    tie.close
+    (tie.spec (λ c κs. search needs) (λ c. search needs) to-tai-requires (λ c. search needs) returns returns-2)

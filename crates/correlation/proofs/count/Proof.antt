@@ -5,14 +5,8 @@ use borrow.Author.Needs.{needs}
 use Rattle.correlation.proofs.count.Statement.{statement}
 use Rattle.correlation.proofs.count.Tie as tie
 
-add-result : tie.Need-add-result
-add-result c = search needs
-
-sub-result : tie.Need-sub-result
-sub-result c = search needs
-
 returns : tie.Need-returns
 returns c = let a = c .args in record { is = elapsed-place (a .tick) (a .reference) (omega arith); few = omega arith }
 
 pub count-spec : {M : Type 1} → statement M
-count-spec = tie.close (tie.spec add-result sub-result returns)
+count-spec = tie.close (tie.spec (λ c. search needs) (λ c. search needs) returns)

@@ -31,29 +31,11 @@ forced : (c : tie.After-in-force) → let w = c .before .before .before in let r
     c .in-force .result ≡ forceAt (r .r .given .0 .0) (k .period) (k .back) (k .ahead) (c .before .count .result) (w .w .given .0 .0)
 forced c = c .in-force .ensures
 
-reference-of-requires : tie.Need-reference-of-requires
-reference-of-requires c κs = search needs
-
-enum-known-r : tie.Need-enum-known-r
-enum-known-r c = search needs
-
-enum-told : tie.Need-enum-told
-enum-told c = search needs
-
 returns : tie.Need-returns
 returns c =
     let b = c .before .before in
     let a = b .before .args in
     date-6 (a .c) (a .tick .0) (a .receipt-day) (a .receipt-micro) (sym (b .reference-of .ensures) ∙ c .enum-told .given .1)
-
-place-in-requires : tie.Need-place-in-requires
-place-in-requires c κs = search needs
-
-enum-known-w : tie.Need-enum-known-w
-enum-known-w c = search needs
-
-enum-told-2 : tie.Need-enum-told-2
-enum-told-2 c = search needs
 
 returns-2 : tie.Need-returns-2
 returns-2 c =
@@ -61,9 +43,6 @@ returns-2 c =
     let r = b .before .before in
     let a = entry r .args in
     date-7 (a .c) (a .tick .0) (a .receipt-day) (a .receipt-micro) (r .r .given .0 .0) (known-r r) (sym (seen b) ∙ c .enum-told2 .given .1)
-
-count-requires : tie.Need-count-requires
-count-requires c κs = search needs
 
 in-force-requires : tie.Need-in-force-requires
 in-force-requires c κs = let w = c .before .before in let r = w .before .before .before .before in window-of (entry r .args .c) (r .r .given .0 .0) (known-r r)
@@ -82,9 +61,6 @@ time-at-requires c κs =
     let r = w .before .before .before .before in
     (window-of (entry r .args .c) (r .r .given .0 .0) (known-r r) .based, c .before .before .count .ensures .few)
 
-record-in-requires : tie.Need-record-in-requires
-record-in-requires c κs = search needs
-
 returns-4 : tie.Need-returns-4
 returns-4 c =
     let f = c .before .before .before in
@@ -100,17 +76,17 @@ pub date-spec : {M : Type 1} → statement M
 date-spec =
     tie.close
     (tie.spec
-    reference-of-requires
-    enum-known-r
-    enum-told
+    (λ c κs. search needs)
+    (λ c. search needs)
+    (λ c. search needs)
     returns
-    place-in-requires
-    enum-known-w
-    enum-told-2
+    (λ c κs. search needs)
+    (λ c. search needs)
+    (λ c. search needs)
     returns-2
-    count-requires
+    (λ c κs. search needs)
     in-force-requires
     returns-3
     time-at-requires
-    record-in-requires
+    (λ c κs. search needs)
     returns-4)

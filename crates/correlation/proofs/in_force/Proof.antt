@@ -10,23 +10,11 @@ use borrow.Author.Needs.{needs}
 use Rattle.correlation.proofs.in_force.Statement.{statement}
 use Rattle.correlation.proofs.in_force.Tie as tie
 
-sub-if1 : tie.Need-sub-if1
-sub-if1 c = search needs
-
 returns : tie.Need-returns
 returns c = let a = c .before .args in rw (lt-leb (2147483648 - a .back) (a .k) (c .if1 .taken))
 
-add-if2 : tie.Need-add-if2
-add-if2 c = search needs
-
 returns-2 : tie.Need-returns-2
 returns-2 c = let a = c .before .before .args in rw (lt-leb (a .k) (2147483648 + a .ahead) (c .if2 .taken), and-false (leb (2147483648 - a .back) (a .k)))
-
-cover-of-requires : tie.Need-cover-of-requires
-cover-of-requires c κs = search needs
-
-covers-requires : tie.Need-covers-requires
-covers-requires c κs = search needs
 
 returns-3 : tie.Need-returns-3
 returns-3 c =
@@ -38,4 +26,4 @@ returns-3 c =
 pub in-force-spec : {M : Type 1} → statement M
 in-force-spec =
     tie.close
-    (tie.spec sub-if1 returns add-if2 returns-2 cover-of-requires covers-requires returns-3)
+    (tie.spec (λ c. search needs) returns (λ c. search needs) returns-2 (λ c κs. search needs) (λ c κs. search needs) returns-3)

@@ -28,26 +28,11 @@ day-is c = let z = c .before .before .before .before .before .before in c .place
 returns : tie.Need-returns
 returns c = let a = c .before .args in place-over (a .scale) (a .day) (a .micro) (c .if1 .taken)
 
-new-requires : tie.Need-new-requires
-new-requires c κs = search needs
-
-to-time-requires : tie.Need-to-time-requires
-to-time-requires c κs = search needs
-
-enum-told : tie.Need-enum-told
-enum-told c = search needs
-
-place-of-day-requires : tie.Need-place-of-day-requires
-place-of-day-requires c κs = search needs
-
 mul-t9 : tie.Need-mul-t9
 mul-t9 c = let a = c .before .before .before .before .before .before .args in omega (arith, place-top 40000 100000 (a .day), day-is c)
 
 add-t10 : tie.Need-add-t10
 add-t10 c = let a = c .before .before .before .before .before .before .args in omega (arith, place-top 40000 100000 (a .day), day-is c)
-
-enum-told-2 : tie.Need-enum-told-2
-enum-told-2 c = search needs
 
 returns-2 : tie.Need-returns-2
 returns-2 c =
@@ -70,12 +55,12 @@ place-in-spec =
     tie.close
     (tie.spec
     returns
-    new-requires
-    to-time-requires
-    enum-told
-    place-of-day-requires
+    (λ c κs. search needs)
+    (λ c κs. search needs)
+    (λ c. search needs)
+    (λ c κs. search needs)
     mul-t9
     add-t10
-    enum-told-2
+    (λ c. search needs)
     returns-2
     returns-3)

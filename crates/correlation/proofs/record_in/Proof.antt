@@ -23,24 +23,6 @@ seen : (c : tie.After-to-time) → let a = c .before .before .before .args in
     slipTimed (c .to-time .result) ≡ spanned (a .scale) (dayAt (a .place / 86400000000)) (a .place % 86400000000)
 seen c = c .to-time .ensures ∙ ap (λ (r : Record). spanned (r .scale) (r .day) (r .micro)) (made (c .before))
 
-cast-day-at : tie.Need-cast-day-at
-cast-day-at c = search needs
-
-day-at-requires : tie.Need-day-at-requires
-day-at-requires c κs = search needs
-
-new-requires : tie.Need-new-requires
-new-requires c κs = search needs
-
-to-time-requires : tie.Need-to-time-requires
-to-time-requires c κs = search needs
-
-enum-told : tie.Need-enum-told
-enum-told c = search needs
-
-enum-told-2 : tie.Need-enum-told-2
-enum-told-2 c = search needs
-
 returns : tie.Need-returns
 returns c =
     let b = c .before .before in
@@ -59,11 +41,11 @@ pub record-in-spec : {M : Type 1} → statement M
 record-in-spec =
     tie.close
     (tie.spec
-    cast-day-at
-    day-at-requires
-    new-requires
-    to-time-requires
-    enum-told
-    enum-told-2
+    (λ c. search needs)
+    (λ c κs. search needs)
+    (λ c κs. search needs)
+    (λ c κs. search needs)
+    (λ c. search needs)
+    (λ c. search needs)
     returns
     returns-2)

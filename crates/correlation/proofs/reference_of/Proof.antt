@@ -21,9 +21,6 @@ returns-3 c = let e = c .before .before in let b = e .before .before in not-back
 returns-4 : tie.Need-returns-4
 returns-4 c = let f = c .before .before in let e = f .before .before in let b = e .before .before in not-ahead (b .before .before .args .c) (b .if1 .left) (e .if2 .left) (f .if3 .left) (c .if4 .taken)
 
-place-in-requires : tie.Need-place-in-requires
-place-in-requires c κs = search needs
-
 returns-5 : tie.Need-returns-5
 returns-5 c =
     let g = c .before .before in
@@ -37,4 +34,4 @@ returns-5 c =
 
 pub reference-of-spec : {M : Type 1} → statement M
 reference-of-spec =
-    tie.close (tie.spec returns returns-2 returns-3 returns-4 place-in-requires returns-5)
+    tie.close (tie.spec returns returns-2 returns-3 returns-4 (λ c κs. search needs) returns-5)

@@ -1,11 +1,9 @@
 -- `correlation::tick_of` meets its contract. Assumes nothing.
-use mathlib.Core.Path.{_≡_, ap, sym, subst, _∙_}
+use mathlib.Core.Path.{_≡_, sym, subst, _∙_}
 use mathlib.Core.Bool.{true}
 use Rattle.scales.specs.Meaning.{inSpan}
 use Rattle.scales.specs.declared.Record.{Record}
-use Rattle.scales.specs.declared.Handed.the-variants as H
 use Rattle.decimal.specs.Told.{Told, told-nothing, told-outside, told-at, told-record}
-use Rattle.correlation.specs.Meaning.{tickOf}
 use Rattle.correlation.specs.Turning.{turn-4, turn-6, turn-7, turn-at}
 use borrow.Author.Needs.{needs}
 use Rattle.correlation.proofs.tick_of.Statement.{statement}
@@ -16,36 +14,10 @@ told c =
     let b = c .before .before in
     told-at (b .before .args .h) (b .take .result) (b .take .ensures) (c .t .given .0 .0) (c .t .given .1)
 
-take-requires : tie.Need-take-requires
-take-requires c κs = search needs
-
-enum-told : tie.Need-enum-told
-enum-told c = search needs
-
-enum-told-2 : tie.Need-enum-told-2
-enum-told-2 c = search needs
-
-reference-of-requires : tie.Need-reference-of-requires
-reference-of-requires c κs = search needs
-
-enum-told-3 : tie.Need-enum-told-3
-enum-told-3 c = search needs
-
-enum-told-4 : tie.Need-enum-told-4
-enum-told-4 c = search needs
-
-enum-known-t : tie.Need-enum-known-t
-enum-known-t c = search needs
-
-to-record-requires : tie.Need-to-record-requires
-to-record-requires c κs = search needs
-
 tick-at-requires : tie.Need-tick-at-requires
 tick-at-requires c κs =
-    let k = c .before .before in
-    let b = k .before .before in
-    subst (λ (r : Record). inSpan (r .scale) (r .day) (r .micro) ≡ true)
-    (sym (c .to-record .ensures ∙ told-record (b .before .args .h) (k .t .given .0 .0) (told k))) (told k .kept)
+    let k = c .before in
+    subst (λ (r : Record). inSpan (r .scale) (r .day) (r .micro) ≡ true) (sym (told-record (k .before .before .before .args .h) (k .t .given .0 .0) (told k))) (told k .kept)
 
 returns : tie.Need-returns
 returns c =
@@ -69,24 +41,21 @@ returns-3 c =
 
 returns-4 : tie.Need-returns-4
 returns-4 c =
-    let k = c .before .before .before in
+    let k = c .before .before in
     let a = k .before .before .before .args in
-    c .tick-at .ensures
-    ∙ ap (λ (r : Record). tickOf (a .c) (H.Record r)) (c .before .to-record .ensures)
-    ∙ turn-at (a .c) (a .h) (k .t .given .0 .0) (told k)
+    c .tick-at .ensures ∙ turn-at (a .c) (a .h) (k .t .given .0 .0) (told k)
 
 pub tick-of-spec : {M : Type 1} → statement M
 tick-of-spec =
     tie.close
     (tie.spec
-    take-requires
-    enum-told
-    enum-told-2
-    reference-of-requires
-    enum-told-3
-    enum-told-4
-    enum-known-t
-    to-record-requires
+    (λ c κs. search needs)
+    (λ c. search needs)
+    (λ c. search needs)
+    (λ c κs. search needs)
+    (λ c. search needs)
+    (λ c. search needs)
+    (λ c. search needs)
     tick-at-requires
     returns
     returns-2

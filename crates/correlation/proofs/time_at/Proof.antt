@@ -5,9 +5,6 @@ use borrow.Author.Needs.{needs}
 use Rattle.correlation.proofs.time_at.Statement.{statement}
 use Rattle.correlation.proofs.time_at.Tie as tie
 
-sub-result : tie.Need-sub-result
-sub-result c = search needs
-
 mul-result : tie.Need-mul-result
 mul-result c = let a = c .before in omega (arith, back-le (a .args .r) (a .args .p) (a .args .k) (a .pre .0) (a .pre .1) (c .if1 .taken))
 
@@ -33,7 +30,7 @@ pub time-at-spec : {M : Type 1} → statement M
 time-at-spec =
     tie.close
     (tie.spec
-    sub-result
+    (λ c. search needs)
     mul-result
     add-result
     sub-result-2

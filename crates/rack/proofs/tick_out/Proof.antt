@@ -2,7 +2,7 @@
 use mathlib.Core.Path.{ap, sym, _∙_}
 use Prim.Native.Nat.{ℕ}
 use Rattle.correlation.specs.Meaning.{tickSlip}
-use Rattle.correlation.specs.declared.Ticked.{Ticked}
+use Rattle.scales.specs.declared.Ticked.{Ticked}
 use Rattle.rack.specs.Meaning.{tickOut}
 use Rattle.rack.specs.declared.VrkCount.{VrkCount}
 use borrow.Author.Needs.{needs}

@@ -14,14 +14,8 @@ returns c = left-early S.Gps (c .before .args .t .0) fromGps refl (c .if1 .taken
 returns-2 : tie.Need-returns-2
 returns-2 c = left-late S.Gps (c .before .before .args .t .0) fromGps refl (c .if2 .taken)
 
-mul-t7 : tie.Need-mul-t7
-mul-t7 c = search needs
-
-add-t8 : tie.Need-add-t8
-add-t8 c = search needs
-
 returns-3 : tie.Need-returns-3
 returns-3 c = let a = c .before .before .args .t in left-gps (a .0) (c .before .if1 .left) (c .if2 .left) (record { 0 = a .0 + 19000000 }) refl
 
 pub from-gps-spec : {M : Type 1} → statement M
-from-gps-spec = tie.close (tie.spec returns returns-2 mul-t7 add-t8 returns-3)
+from-gps-spec = tie.close (tie.spec returns returns-2 (λ c. search needs) (λ c. search needs) returns-3)

@@ -1,71 +1,41 @@
 -- `changes::inner::from_time` meets its contract, by the scale. Assumes nothing.
-use mathlib.Core.Path.{_≡_, sym, ap, subst}
-use mathlib.Core.Bool.{true}
-use lib.IntN.{ℤ}
+use mathlib.Core.Path.{ap}
 use mir.Facts.{toZ-ofZ}
-use Rattle.scales.specs.Meaning.{timeScale, timeCount}
+use Rattle.scales.specs.Meaning.{timeScale}
 use Rattle.scales.specs.declared.Time.{Time}
-use Rattle.scales.specs.declared.Scale.the-variants as S
-use Rattle.leap.specs.Meaning.{accepted}
-use Rattle.changes.specs.Meaning.{ofCount, fromScale, fromUtc, isUtc}
-use Rattle.changes.specs.Ways.{Left}
+use Rattle.changes.specs.Meaning.{isUtc}
 use borrow.Author.Needs.{needs}
 use Rattle.changes.proofs.inner.from_time.Statement.{statement}
 use Rattle.changes.proofs.inner.from_time.Tie as tie
-
-enum-known-t : tie.Need-enum-known-t
-enum-known-t c = search needs
-
-from-tai-requires : tie.Need-from-tai-requires
-from-tai-requires c κs = search needs
-
-enum-known-t-2 : tie.Need-enum-known-t-2
-enum-known-t-2 c = search needs
 
 from-utc-requires : tie.Need-from-utc-requires
 from-utc-requires c κs =
     let k = c .before in
     let s = k .before .before .before in
-    let a = s .args in
-    subst (λ (z : ℤ). accepted (a .days .now) (a .offsets .now) z ≡ true) (sym (toZ-ofZ (s .fits .last)))
-    (s .pre (ap (λ (t : Time). isUtc (timeScale t)) (k .t2 .given .1)))
-
-enum-known-t-3 : tie.Need-enum-known-t-3
-enum-known-t-3 c = search needs
-
-from-gps-requires : tie.Need-from-gps-requires
-from-gps-requires c κs = search needs
+    rw (toZ-ofZ (s .fits .last)) (s .pre (ap (λ (t : Time). isUtc (timeScale t)) (k .t2 .given .1)))
 
 returns : tie.Need-returns
-returns c =
-    let k = c .before .before in
-    let a = k .before .before .before .args in
-    subst (λ (t : Time). Left (ofCount (timeScale t) (timeCount t) (fromScale (timeScale t) (a .days .now) (a .offsets .now) (a .last))) (c .from-tai .result)) (sym (k .t .given .1)) (c .from-tai .ensures)
+returns c = let k = c .before .before in rw (k .t .given .1) (c .from-tai .ensures)
 
 returns-2 : tie.Need-returns-2
 returns-2 c =
     let k = c .before .before in
     let s = k .before .before .before in
-    let a = s .args in
-    subst (λ (t : Time). Left (ofCount (timeScale t) (timeCount t) (fromScale (timeScale t) (a .days .now) (a .offsets .now) (a .last))) (c .from-utc .result)) (sym (k .t2 .given .1))
-    (subst (λ (z : ℤ). Left (ofCount S.Utc (k .t2 .given .0 .0 .0) (fromUtc (a .days .now) (a .offsets .now) z)) (c .from-utc .result)) (toZ-ofZ (s .fits .last)) (c .from-utc .ensures))
+    rw (k .t2 .given .1) (rw (toZ-ofZ (s .fits .last)) at (c .from-utc .ensures))
 
 returns-3 : tie.Need-returns-3
-returns-3 c =
-    let k = c .before .before in
-    let a = k .before .before .before .args in
-    subst (λ (t : Time). Left (ofCount (timeScale t) (timeCount t) (fromScale (timeScale t) (a .days .now) (a .offsets .now) (a .last))) (c .from-gps .result)) (sym (k .t3 .given .1)) (c .from-gps .ensures)
+returns-3 c = let k = c .before .before in rw (k .t3 .given .1) (c .from-gps .ensures)
 
 pub from-time-spec : {M : Type 1} → statement M
 from-time-spec =
     tie.close
     (tie.spec
-    enum-known-t
-    from-tai-requires
-    enum-known-t-2
+    (λ c. search needs)
+    (λ c κs. search needs)
+    (λ c. search needs)
     from-utc-requires
-    enum-known-t-3
-    from-gps-requires
+    (λ c. search needs)
+    (λ c κs. search needs)
     returns
     returns-2
     returns-3)

@@ -20,9 +20,6 @@ returns c = let a = c .before .before .before .before .args in left-early S.Utc 
 returns-2 : tie.Need-returns-2
 returns-2 c = let a = c .before .before .before .before .before .args in left-late S.Utc (a .t .0) (fromUtc (a .days .now) (a .offsets .now) (a .last)) refl (c .if2 .taken)
 
-place-of-day-requires : tie.Need-place-of-day-requires
-place-of-day-requires c κs = search needs
-
 -- the callee read the last day from its bits
 seen : (c : tie.After-place-of-day) → c .place-of-day .result ≡ placeOfDay (c .before .before .before .before .before .before .args .last)
 seen c = c .place-of-day .ensures ∙ ap placeOfDay (toZ-ofZ (c .before .before .before .before .before .before .fits .last))
@@ -33,9 +30,6 @@ returns-3 c =
     let s = c .before .before .before .before .before .before .before in
     let a = s .args in
     left-expired (a .days .now) (a .offsets .now) (a .last) (s .pre) (a .t .0) (p .before .before .if1 .left) (p .before .if2 .left) (omega (arith, seen p, c .if3 .taken))
-
-has-micro-requires : tie.Need-has-micro-requires
-has-micro-requires c κs = search needs
 
 returns-4 : tie.Need-returns-4
 returns-4 c =
@@ -51,12 +45,6 @@ offset-on-requires c κs =
     let s = c .before .before .before .before .before .before .before .before .before in
     let a = s .args in
     (usable (a .days .now) (a .offsets .now) (a .last) (s .pre), omega (arith, c .before .before .before .before .if2 .left))
-
-mul-t11 : tie.Need-mul-t11
-mul-t11 c = search needs
-
-add-t15 : tie.Need-add-t15
-add-t15 c = search needs
 
 small : (c : tie.After-offset-on) → c .offset-on .result < 100
 small c =
@@ -88,13 +76,13 @@ from-utc-spec =
     (tie.spec
     returns
     returns-2
-    place-of-day-requires
+    (λ c κs. search needs)
     returns-3
-    has-micro-requires
+    (λ c κs. search needs)
     returns-4
     offset-on-requires
-    mul-t11
-    add-t15
+    (λ c. search needs)
+    (λ c. search needs)
     mul-t16
     add-t17
     returns-5)

@@ -9,14 +9,8 @@ use Rattle.changes.proofs.inner.has_micro.Tie as tie
 returns : tie.Need-returns
 returns c = let a = c .before .args in has-plain (a .days .now) (dayAt (a .day)) (a .micro) (c .if1 .taken)
 
-add-is-step : tie.Need-add-is-step
-add-is-step c = search needs
-
-is-step-requires : tie.Need-is-step-requires
-is-step-requires c κs = search needs
-
 returns-2 : tie.Need-returns-2
 returns-2 c = let a = c .before .before .args in c .is-step .ensures ∙ has-sixty (a .days .now) (a .day) (a .micro) (c .before .if1 .left)
 
 pub has-micro-spec : {M : Type 1} → statement M
-has-micro-spec = tie.close (tie.spec returns add-is-step is-step-requires returns-2)
+has-micro-spec = tie.close (tie.spec returns (λ c. search needs) (λ c κs. search needs) returns-2)

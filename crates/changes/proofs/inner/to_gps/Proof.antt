@@ -4,12 +4,6 @@ use borrow.Author.Needs.{needs}
 use Rattle.changes.proofs.inner.to_gps.Statement.{statement}
 use Rattle.changes.proofs.inner.to_gps.Tie as tie
 
-mul-n : tie.Need-mul-n
-mul-n c = search needs
-
-sub-n : tie.Need-sub-n
-sub-n c = search needs
-
 returns : tie.Need-returns
 returns c = let b = c .before .before in gps-early (b .args .c .0) (b .pre) (c .if1 .taken)
 
@@ -20,4 +14,4 @@ returns-3 : tie.Need-returns-3
 returns-3 c = let b = c .before .before .before in gps-in (b .args .c .0) (b .pre) (c .before .if1 .left) (c .if2 .left)
 
 pub to-gps-spec : {M : Type 1} → statement M
-to-gps-spec = tie.close (tie.spec mul-n sub-n returns returns-2 returns-3)
+to-gps-spec = tie.close (tie.spec (λ c. search needs) (λ c. search needs) returns returns-2 returns-3)

@@ -1,84 +1,40 @@
 -- `changes::inner::to_scale` meets its contract, by the scale. Assumes nothing.
-use mathlib.Core.Path.{_≡_, sym, ap, subst, _∙_}
-use mathlib.Core.Bool.{true}
-use lib.IntN.{ℤ}
+use mathlib.Core.Path.{ap, _∙_}
 use mir.Facts.{toZ-ofZ}
-use Rattle.axis.specs.Meaning.{microsAt}
-use Rattle.scales.specs.Meaning.{outcome, dated}
-use Rattle.scales.specs.declared.Scale.{Scale}
-use Rattle.scales.specs.declared.Scale.the-variants as S
-use Rattle.leap.specs.Meaning.{accepted}
-use Rattle.changes.specs.Meaning.{toScale, toUtc, isUtc}
+use Rattle.changes.specs.Meaning.{isUtc}
 use borrow.Author.Needs.{needs}
 use Rattle.changes.proofs.inner.to_scale.Statement.{statement}
 use Rattle.changes.proofs.inner.to_scale.Tie as tie
 
-enum-told : tie.Need-enum-told
-enum-told c = search needs
-
-to-tai-requires : tie.Need-to-tai-requires
-to-tai-requires c κs = search needs
-
-dated-tai-requires : tie.Need-dated-tai-requires
-dated-tai-requires c κs = search needs
-
-enum-told-2 : tie.Need-enum-told-2
-enum-told-2 c = search needs
-
 to-utc-requires : tie.Need-to-utc-requires
 to-utc-requires c κs =
     let s = c .before .before .before in
-    let a = s .args in (
-      s .pre .0,
-      subst (λ (z : ℤ). accepted (a .days .now) (a .offsets .now) z ≡ true) (sym (toZ-ofZ (s .fits .last))) (s .pre .1 (ap isUtc (c .enum-told2 .given .1))),
-    )
-
-dated-utc-requires : tie.Need-dated-utc-requires
-dated-utc-requires c κs = search needs
-
-enum-told-3 : tie.Need-enum-told-3
-enum-told-3 c = search needs
-
-to-gps-requires : tie.Need-to-gps-requires
-to-gps-requires c κs = search needs
-
-dated-gps-requires : tie.Need-dated-gps-requires
-dated-gps-requires c κs = search needs
+    (s .pre .0, rw (toZ-ofZ (s .fits .last)) (s .pre .1 (ap isUtc (c .enum-told2 .given .1))))
 
 returns : tie.Need-returns
-returns c =
-    let k = c .before .before in
-    let a = k .before .before .before .args in
-    c .dated-tai .ensures ∙ c .before .to-tai .ensures ∙ ap (λ (s : Scale). dated s (outcome (toScale s (a .days .now) (a .offsets .now) (a .last) (microsAt (a .c .0))))) (sym (k .enum-told .given .1))
+returns c = rw (c .before .before .enum-told .given .1) (c .dated-tai .ensures ∙ c .before .to-tai .ensures)
 
 returns-2 : tie.Need-returns-2
 returns-2 c =
     let k = c .before .before in
-    let s = k .before .before .before in
-    let a = s .args in
-    c .dated-utc .ensures ∙ c .before .to-utc .ensures
-    ∙ ap (λ (z : ℤ). dated S.Utc (outcome (toUtc (a .days .now) (a .offsets .now) z (microsAt (a .c .0))))) (toZ-ofZ (s .fits .last))
-    ∙ ap (λ (s : Scale). dated s (outcome (toScale s (a .days .now) (a .offsets .now) (a .last) (microsAt (a .c .0))))) (sym (k .enum-told2 .given .1))
+    rw (k .enum-told2 .given .1) (c .dated-utc .ensures ∙ (rw (toZ-ofZ (k .before .before .before .fits .last)) at (c .before .to-utc .ensures)))
 
 returns-3 : tie.Need-returns-3
-returns-3 c =
-    let k = c .before .before in
-    let a = k .before .before .before .args in
-    c .dated-gps .ensures ∙ c .before .to-gps .ensures ∙ ap (λ (s : Scale). dated s (outcome (toScale s (a .days .now) (a .offsets .now) (a .last) (microsAt (a .c .0))))) (sym (k .enum-told3 .given .1))
+returns-3 c = rw (c .before .before .enum-told3 .given .1) (c .dated-gps .ensures ∙ c .before .to-gps .ensures)
 
 pub to-scale-spec : {M : Type 1} → statement M
 to-scale-spec =
     tie.close
     (tie.spec
-    enum-told
-    to-tai-requires
-    dated-tai-requires
-    enum-told-2
+    (λ c. search needs)
+    (λ c κs. search needs)
+    (λ c κs. search needs)
+    (λ c. search needs)
     to-utc-requires
-    dated-utc-requires
-    enum-told-3
-    to-gps-requires
-    dated-gps-requires
+    (λ c κs. search needs)
+    (λ c. search needs)
+    (λ c κs. search needs)
+    (λ c κs. search needs)
     returns
     returns-2
     returns-3)

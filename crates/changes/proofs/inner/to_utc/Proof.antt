@@ -12,9 +12,6 @@ use borrow.Author.Needs.{needs}
 use Rattle.changes.proofs.inner.to_utc.Statement.{statement}
 use Rattle.changes.proofs.inner.to_utc.Tie as tie
 
-place-of-day-requires : tie.Need-place-of-day-requires
-place-of-day-requires c κs = search needs
-
 -- the callee read the last day from its bits, and it lies in the span
 known : (c : tie.After-place-of-day) → (c .place-of-day .result ≡ placeOfDay (c .before .before .args .last)) × (c .place-of-day .result ≤ 76524)
 known c =
@@ -62,15 +59,6 @@ returns c =
     let a = s .args in
     utc-expired (a .c .0) (s .pre .0) (a .days .now) (a .offsets .now) (a .last) (s .pre .1) (omega (arith, limit (c .before), c .if1 .taken))
 
-mul-if2 : tie.Need-mul-if2
-mul-if2 c = search needs
-
-mul-if2-2 : tie.Need-mul-if2-2
-mul-if2-2 c = search needs
-
-add-if2 : tie.Need-add-if2
-add-if2 c = search needs
-
 returns-2 : tie.Need-returns-2
 returns-2 c =
     let s = c .before .before .before .before .before in
@@ -94,16 +82,16 @@ pub to-utc-spec : {M : Type 1} → statement M
 to-utc-spec =
     tie.close
     (tie.spec
-    place-of-day-requires
+    (λ c κs. search needs)
     add-next
     offset-on-requires
     mul-if1
     mul-if1-2
     add-if1
     returns
-    mul-if2
-    mul-if2-2
-    add-if2
+    (λ c. search needs)
+    (λ c. search needs)
+    (λ c. search needs)
     returns-2
     utc-at-requires
     returns-3)

@@ -7,20 +7,11 @@ use borrow.Author.Needs.{needs}
 use Rattle.changes.proofs.inner.uses_list.Statement.{statement}
 use Rattle.changes.proofs.inner.uses_list.Tie as tie
 
-code-requires : tie.Need-code-requires
-code-requires c κs = search needs
-
-code-requires-2 : tie.Need-code-requires-2
-code-requires-2 c κs = search needs
-
 returns : tie.Need-returns
 returns c =
     let b = c .before in
     let e : codeOf (b .before .before .args .from) ≡ 1 = sym (b .code2 .ensures) ∙ c .if1 .taken ∙ b .before .code .ensures in
     sym (rw (eq-eqb (codeOf (b .before .before .args .from)) 1 e))
-
-code-requires-3 : tie.Need-code-requires-3
-code-requires-3 c κs = search needs
 
 returns-2 : tie.Need-returns-2
 returns-2 c =
@@ -31,4 +22,4 @@ returns-2 c =
 
 pub uses-list-spec : {M : Type 1} → statement M
 uses-list-spec =
-    tie.close (tie.spec code-requires code-requires-2 returns code-requires-3 returns-2)
+    tie.close (tie.spec (λ c κs. search needs) (λ c κs. search needs) returns (λ c κs. search needs) returns-2)
