@@ -5,7 +5,8 @@ use mathlib.Core.List.{List}
 use Prim.Native.Nat.{ℕ}
 use native.Mathlib.Omega.{arith}
 use lib.IntN.{ℤ}
-use Rattle.scales.specs.Meaning.{andThen, inSpan, Judged, given, gives, Outcome, refused, answer, outcome, Moment, dated, numberOf, slip}
+use Rattle.scales.specs.Meaning.{inSpan, Judged, given, gives, Outcome, refused, answer, outcome, Moment, dated, numberOf, slip}
+use Rattle.scales.specs.Order.{onward, then-is}
 use Rattle.scales.specs.declared.Scale.{Scale}
 use Rattle.scales.specs.declared.Scale.the-variants as S
 use Rattle.scales.specs.declared.Record.{Record}
@@ -14,7 +15,7 @@ use Rattle.scales.specs.declared.Dated.the-variants as D
 use Rattle.text_read.specs.Meaning.{scaleIn, reading}
 use Rattle.text_read.specs.Stage.{recordMoment}
 use Rattle.text_read.specs.Judging.{sound, slip-answer, slip-refused}
-use Rattle.text_read.specs.In.{onward, then-is, into}
+use Rattle.text_read.specs.In.{into}
 use Rattle.lines.specs.Meaning.{dating}
 
 module _ (ds : List ℤ) (os : List ℕ) (e : ℤ) where

@@ -1,5 +1,5 @@
 -- Bytes moved to the front of their slice, one after another. Assumes nothing.
-use mathlib.Core.Path.{_≡_, refl, sym, ap, _∙_}
+use mathlib.Core.Path.{_≡_, refl, sym, ap, ap₂, _∙_}
 use mathlib.Core.Bool.{Bool, true, false}
 use mathlib.Core.List.{List, [], _∷_, _++_}
 use Prim.Native.Nat.{ℕ, zero, suc, _+_, _-_, _≤_, _<_, min}
@@ -10,8 +10,7 @@ use lib.Seq.{slice, take-all, take-take, length-take-le, getD-append-add, getD-d
 use borrow.Author.Tests.{leb-true, leb-false}
 use Rattle.octets.specs.Meaning.{onto}
 use Rattle.octets.specs.Place.{onto-room, onto-next}
-use Rattle.lines.specs.Meaning.{kept}
-use Rattle.lines.specs.Stage.{Put}
+use Rattle.lines.specs.Meaning.{kept, moved, keep}
 
 -- a part that ends further on begins the same
 take-slice : (f k t : ℕ) (l : List ℕ) → f + k ≤ t → take k (drop f (take t l)) ≡ take k (drop f l)
@@ -32,11 +31,12 @@ module _ (l : List ℕ) (from to : ℕ) where
   part-length : length (slice from to l) ≡ min to (length l) - from
   part-length = length-drop from (take to l) ∙ ap (λ (n : ℕ). n - from) (length-take to l)
 
-  pub kept-none : min to (length l) ≤ from → Put (kept l from to) l l 0
+  pub kept-none : min to (length l) ≤ from → moved 0 l ≡ keep l from to
+  unfolding keep
   kept-none h =
       let e : slice from to l ≡ [] = drop-of-length-le (take to l) {i = from} (omega (arith, length-take to l)) in
       let k : kept l from to ≡ [] = ap (take 32) e in
-      record { length-is = sym (ap length k); bytes-are = sym (ap (λ (x : List ℕ). onto x l) k ∙ onto-room [] l (omega arith)) }
+      ap₂ moved (sym (ap length k)) (sym (ap (λ (x : List ℕ). onto x l) k ∙ onto-room [] l (omega arith)))
 
   module _ (h : from < min to (length l)) (n : ℕ) (q : n ≡ min (min to (length l) - from) 32) where
     kept-is : kept l from to ≡ take n (drop from l)
@@ -59,10 +59,18 @@ module _ (l : List ℕ) (from to : ℕ) where
         swap : (i : ℕ) → i + from ≡ from + i
         swap i = omega arith
 
-    pub kept-all : (after : List ℕ) → after ≡ take n (drop from l) ++ drop n l → Put (kept l from to) l after n
+    pub kept-all : (after : List ℕ) → after ≡ take n (drop from l) ++ drop n l → moved n after ≡ keep l from to
+    unfolding keep
     kept-all after e =
         let t : length (take n (drop from l)) ≡ n = length-take-le n (drop from l) (omega (arith, length-drop from l)) in
-        record {
-          length-is = sym (ap length kept-is ∙ t);
-          bytes-are = e ∙ sym (ap (λ (x : List ℕ). onto x l) kept-is ∙ onto-room (take n (drop from l)) l (omega (arith, length-drop from l)) ∙ ap (λ (j : ℕ). take n (drop from l) ++ drop j l) t);
-        }
+        ap₂ moved (sym (ap length kept-is ∙ t))
+        (e
+        ∙ sym
+        (ap (λ (x : List ℕ). onto x l) kept-is
+        ∙ onto-room (take n (drop from l)) l (omega (arith, length-drop from l))
+        ∙ ap (λ (j : ℕ). take n (drop from l) ++ drop j l) t))
+
+-- no more than 32 bytes are kept
+pub kept-small : (l : List ℕ) (from to n : ℕ) (after : List ℕ) → moved n after ≡ keep l from to → n ≤ 32
+unfolding keep
+kept-small l from to n after e = let q : n ≡ length (kept l from to) = λ i. e i .length in omega (arith, length-take 32 (slice from to l))

@@ -4,3 +4,4 @@ pub mod Told
 pub mod Lines
 pub mod Kept
 pub mod Dates
+pub mod Same

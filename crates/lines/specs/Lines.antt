@@ -9,10 +9,11 @@ use lib.Dec.{eqb, ltb}
 use lib.IntN.{ℤ}
 use lib.ListN.{length, take, drop, getD, length-append, length-drop}
 use lib.Seq.{drop-cons, drop-drop, drop-length, length-take-le}
-use borrow.Author.Tests.{eq-eqb, ne-eqb, lt-ltb, le-ltb}
+use borrow.Author.Tests.{eq-eqb, ne-eqb, lt-ltb, le-ltb, ltb-false}
 use Rattle.octets.specs.Meaning.{onto}
 use Rattle.octets.specs.Place.{onto-room, length-onto, rest-onto}
-use Rattle.lines.specs.Meaning.{answerTo, answers, onBegun, wholeIn, bytesIn, roomFor, doneUnder, done}
+use Rattle.leap.specs.Meaning.{publishedDays, publishedOffsets, publishedLast}
+use Rattle.lines.specs.Meaning.{answerTo, answers, onBegun, wholeIn, bytesIn, roomFor, doneUnder, dateLines, done}
 use Rattle.lines.specs.Stage.{beforeNewline, Put}
 use Rattle.lines.specs.Told.{answer-small}
 use Rattle.lines.specs.declared.Progress.{Progress}
@@ -167,3 +168,50 @@ module _ (ds : List ℤ) (os : List ℕ) (e : ℤ) where
               to = omega (arith, small, p .length-is);
               same = ap length image ∙ length-onto (answers ds os e ls ++ a) out₀;
             }
+
+-- ---- what is dated stands in the input, and what is written in the lent slice
+whole-within : (s : List ℕ) → bytesIn (wholeIn s) ≤ length s
+unfolding bytesIn wholeIn
+whole-within [] = omega arith
+whole-within (b ∷ s) = go (eqb b 10) (wholeIn s) (whole-within s)
+  where
+    go : (x : Bool) (w : List (List ℕ)) → bytesIn w ≤ length s → bytesIn (cond x ([] ∷ w) (onBegun b w)) ≤ suc (length s)
+    go true w h = omega arith
+    go false [] h = omega arith
+    go false (l ∷ ls) h = omega arith
+
+module _ (ds : List ℤ) (os : List ℕ) (e : ℤ) where
+  room-within : (room : ℕ) (ls : List (List ℕ)) → bytesIn (roomFor ds os e room ls) ≤ bytesIn ls
+  unfolding bytesIn roomFor
+  room-within room [] = omega arith
+  room-within room (l ∷ ls) = go (ltb room 32) (room-within (room - length (answerTo ds os e l)) ls)
+    where
+      go : (x : Bool) → bytesIn (roomFor ds os e (room - length (answerTo ds os e l)) ls) ≤ bytesIn ls
+          → bytesIn (cond x [] (l ∷ roomFor ds os e (room - length (answerTo ds os e l)) ls)) ≤ bytesIn (l ∷ ls)
+      go true h = omega arith
+      go false h = omega arith
+
+  room-fits : (room : ℕ) (ls : List (List ℕ)) → length (answers ds os e (roomFor ds os e room ls)) ≤ room
+  unfolding answers roomFor
+  room-fits room [] = omega arith
+  room-fits room (l ∷ ls) = go (ltb room 32) refl (room-fits (room - length (answerTo ds os e l)) ls)
+    where
+      go : (x : Bool) → ltb room 32 ≡ x → length (answers ds os e (roomFor ds os e (room - length (answerTo ds os e l)) ls)) ≤ room - length (answerTo ds os e l)
+          → length (answers ds os e (cond x [] (l ∷ roomFor ds os e (room - length (answerTo ds os e l)) ls))) ≤ room
+      go true q h = omega arith
+      go false q h =
+          let r = roomFor ds os e (room - length (answerTo ds os e l)) ls in
+          omega (arith, ltb-false room 32 q, answer-small ds os e l, length-append (answerTo ds os e l) (answers ds os e r))
+
+module _ (input out : List ℕ) (p : Progress) (after : List ℕ) (q : done p after ≡ dateLines input out) where
+  pub consumed-within : p .consumed ≤ length input
+  unfolding dateLines
+  consumed-within =
+      let k : p .consumed ≡ bytesIn (roomFor publishedDays publishedOffsets publishedLast (length out) (wholeIn input)) = λ i. q i .consumed in
+      omega (arith, room-within publishedDays publishedOffsets publishedLast (length out) (wholeIn input), whole-within input)
+
+  pub written-within : p .written ≤ length out
+  unfolding dateLines
+  written-within =
+      let k : p .written ≡ length (answers publishedDays publishedOffsets publishedLast (roomFor publishedDays publishedOffsets publishedLast (length out) (wholeIn input))) = λ i. q i .written in
+      omega (arith, room-fits publishedDays publishedOffsets publishedLast (length out) (wholeIn input))

@@ -100,3 +100,13 @@ dateLines input out = doneUnder publishedDays publishedOffsets publishedLast inp
 -- ---- between two blocks: of a line that has begun 32 bytes are enough, since no form has as many
 abbrev pub kept : List ℕ → ℕ → ℕ → List ℕ
 kept buf from to = take 32 (slice from to buf)
+
+pub record Kept : Type 0 where
+  pub length : ℕ
+  pub bytes : List ℕ
+
+abbrev pub moved : ℕ → List ℕ → Kept
+moved n buf = record { length = n; bytes = buf }
+
+unfoldable pub keep : List ℕ → ℕ → ℕ → Kept
+keep buf from to = moved (length (kept buf from to)) (onto (kept buf from to) buf)

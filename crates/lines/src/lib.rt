@@ -8,7 +8,7 @@ ghost use Rattle.scales.specs.Meaning.{inSpan, numberOf};
 ghost use Rattle.leap.specs.Meaning.{accepted};
 ghost use Rattle.text_read.specs.Stage.{recordMoment};
 ghost use Rattle.text_write.specs.Meaning.{imageOf};
-ghost use Rattle.lines.specs.Meaning.{digit as digitOf, answerTo, done, doneUnder, dateLines, kept};
+ghost use Rattle.lines.specs.Meaning.{digit as digitOf, answerTo, done, doneUnder, dateLines, moved, keep};
 ghost use Rattle.lines.specs.Stage.{beforeNewline, refusedLine, Put};
 use scales::Dated;
 use scales::Record;
@@ -104,7 +104,6 @@ fn newline_from(s: &[u8], from: usize) -> usize
 fn date_under(input: &[u8], days: &[i64], offsets: &[u64], last: i64, out: &mut [u8]) -> Progress
     requires { ⌜ accepted (now days) (now offsets) last ≡ true ⌝ }
     ensures { λ r. ⌜ done r (now (out .exit)) ≡ doneUnder (now (days .entry)) (now (offsets .entry)) last (now (input .entry)) (now (out .entry)) ⌝ }
-    ensures { λ r. ⌜ (r .consumed ≤ length (now (input .entry))) × (r .written ≤ length (now (out .entry))) ⌝ }
 {
     let mut at = 0;
     let mut written = 0;
@@ -126,7 +125,6 @@ fn date_under(input: &[u8], days: &[i64], offsets: &[u64], last: i64, out: &mut 
 // the published list is accepted is a theorem: it is not tested here.
 pub fn date_lines(input: &[u8], out: &mut [u8]) -> Progress
     ensures { λ r. ⌜ done r (now (out .exit)) ≡ dateLines (now (input .entry)) (now (out .entry)) ⌝ }
-    ensures { λ r. ⌜ (r .consumed ≤ length (now (input .entry))) × (r .written ≤ length (now (out .entry))) ⌝ }
 {
     let days = leap::published_days();
     let offsets = leap::published_offsets();
@@ -143,8 +141,7 @@ fn least(a: usize, b: usize) -> usize
 
 // The line that has begun between two places, to the front: 32 bytes of it are enough, since no form has as many.
 pub fn keep(buf: &mut [u8], from: usize, to: usize) -> usize
-    ensures { λ r. ⌜ Put (kept (now (buf .entry)) from to) (now (buf .entry)) (now (buf .exit)) r ⌝ }
-    ensures { λ r. ⌜ r ≤ 32 ⌝ }
+    ensures { λ r. ⌜ moved r (now (buf .exit)) ≡ keep (now (buf .entry)) from to ⌝ }
 {
     let end = least(to, buf.len());
     if end <= from {

@@ -5,6 +5,7 @@ use mathlib.Core.List.{List}
 use Prim.Native.Nat.{ℕ}
 use lib.IntN.{ℤ, _+ℤ_}
 use Rattle.scales.specs.Meaning.{andThen, inSpan, Judged, given, gives, Outcome, refused, answer, outcome, Moment, dated, numberOf, momentAt, timeScale, timeCount}
+use Rattle.scales.specs.Order.{onward, then-is}
 use Rattle.scales.specs.declared.Scale.{Scale}
 use Rattle.scales.specs.declared.Scale.the-variants as S
 use Rattle.scales.specs.declared.Time.{Time}
@@ -19,15 +20,6 @@ use Rattle.text_read.specs.Stage.{takenScale, taking, ParsesText}
 use Rattle.text_read.specs.Judging.{list-passes}
 use Rattle.text_read.specs.declared.Parsed.{Parsed}
 use Rattle.text_read.specs.declared.Parsed.the-variants as P
-
-abbrev pub onward : {A B : Type 0} → (A → Judged B) → Outcome A → Outcome B
-onward k (refused n) = refused n
-onward k (answer a) = outcome (k a)
-
-pub then-is : {A B : Type 0} (j : Judged A) (k : A → Judged B) → outcome (andThen j k) ≡ onward k (outcome j)
-then-is (given true n rest) k = then-is rest k
-then-is (given false n rest) k = refl
-then-is (gives a) k = refl
 
 module _ (to : Scale) (ds : List ℤ) (os : List ℕ) (e : ℤ) where
   abbrev pub into : Scale → Moment → Judged Moment

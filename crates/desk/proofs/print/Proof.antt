@@ -1,21 +1,31 @@
 -- `desk::print` meets its contract. Assumes nothing.
 use mathlib.Core.Path.{sym}
 use native.Mathlib.Omega.{arith}
+use Prim.Native.Nat.{_≤_}
+use lib.ListN.{length}
 use lib.Seq.{length-take-le}
+use denote.Ref.{now}
+use Rattle.lines.specs.Lines.{consumed-within, written-within}
 use borrow.Author.Needs.{needs}
 use Rattle.desk.proofs.print.Statement.{statement}
 use Rattle.desk.proofs.print.Tie as tie
+
+-- what is written stands in the lent slice
+fits : (c : tie.After-date-lines) → c .date-lines .result .written ≤ length (c .date-lines .last .1 .0)
+fits c =
+    let x = c .before .before .before .before .args in
+    omega (arith, written-within (now (x .part)) (now (x .out)) (c .date-lines .result) (c .date-lines .last .1 .0) (c .date-lines .ensures))
 
 date-lines-requires : tie.Need-date-lines-requires
 date-lines-requires c κs = search needs
 
 slice-reshare-prefix-write-all : tie.Need-slice-reshare-prefix-write-all
-slice-reshare-prefix-write-all c = search needs
+slice-reshare-prefix-write-all c = fits (c .before .before)
 
 slice-aggregate-write-all : tie.Need-slice-aggregate-write-all
 slice-aggregate-write-all c =
     let d = c .before .before .before in
-    sym (length-take-le (d .date-lines .result .written) (d .date-lines .last .1 .0) (omega (arith, d .date-lines .ensures .1 .1)))
+    sym (length-take-le (d .date-lines .result .written) (d .date-lines .last .1 .0) (fits d))
 
 write-all-requires : tie.Need-write-all-requires
 write-all-requires c κs = search needs
@@ -36,7 +46,10 @@ same-length-2 : tie.Need-same-length-2
 same-length-2 c = search needs
 
 returns-2 : tie.Need-returns-2
-returns-2 c = search needs
+returns-2 c =
+    let d = c .before .before .before .before .before in
+    let x = d .before .before .before .before .args in
+    consumed-within (now (x .part)) (now (x .out)) (d .date-lines .result) (d .date-lines .last .1 .0) (d .date-lines .ensures)
 
 pub print-spec : {M : Type 1} → statement M
 print-spec =

@@ -2,6 +2,7 @@
 use mathlib.Core.Path.{sym}
 use denote.Ref.{now}
 use lib.Seq.{length-take-le}
+use Rattle.lines.specs.Kept.{kept-small}
 use borrow.Author.Needs.{needs}
 use Rattle.desk.proofs.print_lines.Statement.{statement}
 use Rattle.desk.proofs.print_lines.Tie as tie
@@ -34,7 +35,9 @@ same-length-4 : tie.Need-same-length-4
 same-length-4 c = search needs
 
 returns-2 : tie.Need-returns-2
-returns-2 c = search needs
+returns-2 c =
+    let k = c .before .before in
+    kept-small _ _ _ (k .keep .result) (k .keep .last .0) (k .keep .ensures)
 
 pub print-lines-spec : {M : Type 1} → statement M
 print-lines-spec =

@@ -36,11 +36,9 @@ unfolding dateLines
 returns c =
     let u = c .before .before in
     let o = u .before .before .before .before in
-    let x = o .before .before .before .before .args in (
-      u .date-under .ensures .0
-          ∙ ap₂ (λ (ds : List ℤ) (os : List ℕ). doneUnder ds os publishedLast (now (x .input)) (now (x .out))) (o .before .published-days .ensures) (o .published-offsets .ensures),
-      u .date-under .ensures .1,
-    )
+    let x = o .before .before .before .before .args in
+      u .date-under .ensures
+          ∙ ap₂ (λ (ds : List ℤ) (os : List ℕ). doneUnder ds os publishedLast (now (x .input)) (now (x .out))) (o .before .published-days .ensures) (o .published-offsets .ensures)
 
 pub date-lines-spec : {M : Type 1} → statement M
 date-lines-spec =

@@ -141,11 +141,9 @@ returns c =
     let l = c .before in
     let s = l .before .before .before .before in
     let x = s .args in
-    let u = l .loop .inv in (
-      full (now (x .days)) (now (x .offsets)) (seen (x .last)) (now (x .input)) (now (x .out)) (l .loop .at) (l .loop .written) (l .loop .out) u (omega (arith, u .same)) _ refl refl
-          ∙ ap (λ (z : ℤ). doneUnder (now (x .days)) (now (x .offsets)) z (now (x .input)) (now (x .out))) (toZ-ofZ (s .fits .last)),
-      (u .from, u .to),
-    )
+    let u = l .loop .inv in
+    full (now (x .days)) (now (x .offsets)) (seen (x .last)) (now (x .input)) (now (x .out)) (l .loop .at) (l .loop .written) (l .loop .out) u (omega (arith, u .same)) _ refl refl
+          ∙ ap (λ (z : ℤ). doneUnder (now (x .days)) (now (x .offsets)) z (now (x .input)) (now (x .out))) (toZ-ofZ (s .fits .last))
 
 same-length-2 : tie.Need-same-length-2 Inv-loop μ-loop
 same-length-2 c = c .before .before .before .loop .inv .same
@@ -156,12 +154,10 @@ returns-2 c =
     let l = f .before .before in
     let s = l .before .before .before .before in
     let x = s .args in
-    let u = l .loop .inv in (
-      ended (now (x .days)) (now (x .offsets)) (seen (x .last)) (now (x .input)) (now (x .out)) (l .loop .at) (l .loop .written) (l .loop .out) u
+    let u = l .loop .inv in
+    ended (now (x .days)) (now (x .offsets)) (seen (x .last)) (now (x .input)) (now (x .out)) (l .loop .at) (l .loop .written) (l .loop .out) u
           (omega (arith, f .newline-from .ensures, length-drop (l .loop .at) (now (x .input)))) _ refl refl
-          ∙ ap (λ (z : ℤ). doneUnder (now (x .days)) (now (x .offsets)) z (now (x .input)) (now (x .out))) (toZ-ofZ (s .fits .last)),
-      (u .from, u .to),
-    )
+          ∙ ap (λ (z : ℤ). doneUnder (now (x .days)) (now (x .offsets)) z (now (x .input)) (now (x .out))) (toZ-ofZ (s .fits .last))
 
 pub date-under-spec : {M : Type 1} → statement M
 date-under-spec =

@@ -23,7 +23,7 @@ returns : tie.Need-returns Inv-loop μ-loop
 returns c =
     let l = c .before in
     let x = l .before .before .args in
-    (kept-none (now (x .buf)) (x .from) (x .to) (omega (arith, l .least .ensures)), omega arith)
+    kept-none (now (x .buf)) (x .from) (x .to) (omega (arith, l .least .ensures))
 
 sub-least : tie.Need-sub-least Inv-loop μ-loop
 sub-least c = omega arith
@@ -72,7 +72,7 @@ returns-2 c =
     let e = m .before .before in
     let x = e .before .before .args in
     let j : p .loop .i ≡ m .least2 .result = omega arith in
-    (kept-all (now (x .buf)) (x .from) (x .to) (omega arith) (m .least2 .result) (omega arith) (p .loop .buf) (p .loop .inv .2 ∙ rw j), omega arith)
+    kept-all (now (x .buf)) (x .from) (x .to) (omega arith) (m .least2 .result) (omega arith) (p .loop .buf) (p .loop .inv .2 ∙ rw j)
 
 pub keep-spec : {M : Type 1} → statement M
 keep-spec =
