@@ -6,9 +6,6 @@ use Rattle.axis.proofs.Cross.{less-fits, less-is}
 use Rattle.axis.proofs.day_at.Statement.{statement}
 use Rattle.axis.proofs.day_at.Tie as tie
 
-cast-result : tie.Need-cast-result
-cast-result c = search needs
-
 sub-result : tie.Need-sub-result
 sub-result c = less-fits 39999 (c .args .place) (omega arith) (lit≤ tt)
 
@@ -16,4 +13,4 @@ returns : tie.Need-returns
 returns c = less-is 39999 (c .args .place) (omega arith) (lit≤ tt)
 
 pub day-at-spec : {M : Type 1} → statement M
-day-at-spec = tie.close (tie.spec cast-result sub-result returns)
+day-at-spec = tie.close (tie.spec (λ c. search needs) sub-result returns)

@@ -14,9 +14,6 @@ returns c =
     let e : 8640000000000000 ≡ min (c .before .args .place) 8640000000000000 = omega arith in
     ap microsAt e
 
-cast-result : tie.Need-cast-result
-cast-result c = search needs
-
 sub-result : tie.Need-sub-result
 sub-result c = less-fits 3455999999999999 (c .before .args .place) (omega arith) (lit≤ tt)
 
@@ -27,4 +24,4 @@ returns-2 c =
     less-is 3455999999999999 m (omega arith) (lit≤ tt) ∙ ap microsAt e
 
 pub micros-at-spec : {M : Type 1} → statement M
-micros-at-spec = tie.close (tie.spec returns cast-result sub-result returns-2)
+micros-at-spec = tie.close (tie.spec returns (λ c. search needs) sub-result returns-2)

@@ -21,20 +21,8 @@ Inv-loop days t i₀ i = (i ≤ length days) × (allFirsts days ≡ allFirsts (d
 abbrev μ-loop : tie.MeasureT-loop
 μ-loop days t i₀ i = length days - i
 
-table-requires : tie.Need-table-requires Inv-loop μ-loop
-table-requires c κs = search needs
-
 loop-holds : tie.Need-loop-holds Inv-loop μ-loop
 loop-holds c = (omega arith, refl)
-
-mul-is-first : tie.Need-mul-is-first Inv-loop μ-loop
-mul-is-first c = search needs
-
-shared-slice-copy-out-is-first : tie.Need-shared-slice-copy-out-is-first Inv-loop μ-loop
-shared-slice-copy-out-is-first c = search needs
-
-is-first-requires : tie.Need-is-first-requires Inv-loop μ-loop
-is-first-requires c κs = search needs
 
 -- the answer is that of the day at i and of those after it
 step : (c : tie.After-is-first Inv-loop μ-loop) → let l = c .before .before .before .before in let s = l .before .before .args .days .now in
@@ -49,12 +37,6 @@ step c =
 
 returns : tie.Need-returns Inv-loop μ-loop
 returns c = rw (step (c .before), not-true (c .before .is-first .result) (c .if1 .taken))
-
-add-i : tie.Need-add-i Inv-loop μ-loop
-add-i c = search needs
-
-loop-less : tie.Need-loop-less Inv-loop μ-loop
-loop-less c = omega arith
 
 loop-again : tie.Need-loop-again Inv-loop μ-loop
 loop-again c = (
@@ -74,13 +56,13 @@ all-firsts-spec =
     (tie.spec
     Inv-loop
     μ-loop
-    table-requires
+    (λ c κs. search needs)
     loop-holds
-    mul-is-first
-    shared-slice-copy-out-is-first
-    is-first-requires
+    (λ c. search needs)
+    (λ c. search needs)
+    (λ c κs. search needs)
     returns
-    add-i
-    loop-less
+    (λ c. search needs)
+    (λ c. omega arith)
     loop-again
     returns-2)

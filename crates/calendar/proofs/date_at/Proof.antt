@@ -10,18 +10,6 @@ use Rattle.calendar.proofs.Near.{near-here, near-after}
 use Rattle.calendar.proofs.date_at.Statement.{statement}
 use Rattle.calendar.proofs.date_at.Tie as tie
 
-month-near-requires : tie.Need-month-near-requires
-month-near-requires c κs = search needs
-
-mul-wide : tie.Need-mul-wide
-mul-wide c = search needs
-
-element-copy-out-wide : tie.Need-element-copy-out-wide
-element-copy-out-wide c = search needs
-
-wide-requires : tie.Need-wide-requires
-wide-requires c κs = search needs
-
 entry : (c : tie.After-wide) → c .wide .result ≡ firstDay (c .before .before .month-near .result)
 entry c = let s = c .before .before in c .wide .ensures ∙ s .before .pre .0 .entry (s .month-near .result) (omega arith)
 
@@ -46,15 +34,6 @@ after c = let s = c .before .before .before in
 
 sub-h : tie.Need-sub-h
 sub-h c = after c .0
-
-mul-wide-2 : tie.Need-mul-wide-2
-mul-wide-2 c = search needs
-
-element-copy-out-wide-2 : tie.Need-element-copy-out-wide-2
-element-copy-out-wide-2 c = search needs
-
-wide-requires-2 : tie.Need-wide-requires-2
-wide-requires-2 c κs = search needs
 
 entry-2 : (c : tie.After-wide2) → c .wide2 .result ≡ firstDay (c .before .before .before .before .before .month-near .result - 1)
 entry-2 c = let s = c .before .before .before .before .before in
@@ -81,16 +60,16 @@ pub date-at-spec : {M : Type 1} → statement M
 date-at-spec =
     tie.close
     (tie.spec
-    month-near-requires
-    mul-wide
-    element-copy-out-wide
-    wide-requires
+    (λ c κs. search needs)
+    (λ c. search needs)
+    (λ c. search needs)
+    (λ c κs. search needs)
     date-in-requires
     returns
     sub-h
-    mul-wide-2
-    element-copy-out-wide-2
-    wide-requires-2
+    (λ c. search needs)
+    (λ c. search needs)
+    (λ c κs. search needs)
     sub-date-in
     date-in-requires-2
     returns-2)

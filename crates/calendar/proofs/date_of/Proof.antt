@@ -12,9 +12,6 @@ use Rattle.calendar.specs.declared.Date.{Date}
 use Rattle.calendar.proofs.date_of.Statement.{statement}
 use Rattle.calendar.proofs.date_of.Tie as tie
 
-place-of-day-requires : tie.Need-place-of-day-requires
-place-of-day-requires c κs = search needs
-
 -- the callee read the day from its bits
 seen : (c : tie.After-place-of-day) → c .place-of-day .result ≡ placeOfDay (c .before .args .day)
 seen c = c .place-of-day .ensures ∙ ap placeOfDay (toZ-ofZ (c .before .fits .day))
@@ -24,12 +21,6 @@ returns c = let b = c .before in date-early (b .before .args .day) (omega (arith
 
 returns-2 : tie.Need-returns-2
 returns-2 c = let b = c .before .before in date-late (b .before .args .day) (omega (arith, seen b))
-
-table-requires : tie.Need-table-requires
-table-requires c κs = search needs
-
-date-at-requires : tie.Need-date-at-requires
-date-at-requires c κs = search needs
 
 returns-3 : tie.Need-returns-3
 returns-3 c =
@@ -42,4 +33,4 @@ returns-3 c =
 pub date-of-spec : {M : Type 1} → statement M
 date-of-spec =
     tie.close
-    (tie.spec place-of-day-requires returns returns-2 table-requires date-at-requires returns-3)
+    (tie.spec (λ c κs. search needs) returns returns-2 (λ c κs. search needs) (λ c κs. search needs) returns-3)

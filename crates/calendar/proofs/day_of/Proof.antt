@@ -17,9 +17,6 @@ use Rattle.calendar.specs.Dates.{real, date-located, located-span}
 use Rattle.calendar.proofs.day_of.Statement.{statement}
 use Rattle.calendar.proofs.day_of.Tie as tie
 
-is-date-requires : tie.Need-is-date-requires
-is-date-requires c κs = search needs
-
 returns : tie.Need-returns
 returns c = let b = c .before in day-lacks (b .before .args .date) (sym (b .is-date .ensures) ∙ not-true (b .is-date .result) (c .if1 .taken))
 
@@ -32,9 +29,6 @@ returns-2 c = let b = c .before in day-early (b .before .before .args .date) (is
 returns-3 : tie.Need-returns-3
 returns-3 c = let b = c .before .before in day-late (b .before .before .args .date) (is-real b) (c .if3 .taken)
 
-mul-k : tie.Need-mul-k
-mul-k c = search needs
-
 located : (c : tie.Else3) → let t = c .before .before .before .before .args .date in
     Located (daysToDate t) (monthsTo (t .year) (t .month)) (t .day - 1)
 located c = let b = c .before .before in let t = b .before .before .args .date in
@@ -46,17 +40,11 @@ sub-k c = let b = c .before .before .before in real (b .before .before .args .da
 add-k : tie.Need-add-k
 add-k c = omega (arith, located (c .before) .early)
 
-table-requires : tie.Need-table-requires
-table-requires c κs = search needs
-
 mul-wide : tie.Need-mul-wide
 mul-wide c = omega (arith, located (c .before .before) .early)
 
 array-read-wide : tie.Need-array-read-wide
 array-read-wide c = omega (arith, located (c .before .before) .early)
-
-wide-requires : tie.Need-wide-requires
-wide-requires c κs = search needs
 
 entry : (c : tie.After-wide) → let t = c .before .before .before .before .before .before .before .args .date in
     c .wide .result ≡ firstDay (monthsTo (t .year) (t .month))
@@ -80,9 +68,6 @@ add-day-at c = omega (arith, small (c .before))
 cast-day-at : tie.Need-cast-day-at
 cast-day-at c = omega (arith, small (c .before))
 
-day-at-requires : tie.Need-day-at-requires
-day-at-requires c κs = search needs
-
 returns-4 : tie.Need-returns-4
 returns-4 c =
     let w = c .before .before in
@@ -99,20 +84,20 @@ pub day-of-spec : {M : Type 1} → statement M
 day-of-spec =
     tie.close
     (tie.spec
-    is-date-requires
+    (λ c κs. search needs)
     returns
     returns-2
     returns-3
-    mul-k
+    (λ c. search needs)
     sub-k
     add-k
-    table-requires
+    (λ c κs. search needs)
     mul-wide
     array-read-wide
-    wide-requires
+    (λ c κs. search needs)
     sub-n
     add-n
     add-day-at
     cast-day-at
-    day-at-requires
+    (λ c κs. search needs)
     returns-4)

@@ -22,9 +22,6 @@ returns-4 : tie.Need-returns-4
 unfolding isDate
 returns-4 c = let t = c .before .before .before .before .args .date in rw (le-leb (t .year) 9999 (omega arith), le-leb 1 (t .month) (omega arith), le-leb (t .month) 12 (omega arith), lt-leb 1 (t .day) (omega arith))
 
-month-length-requires : tie.Need-month-length-requires
-month-length-requires c κs = search needs
-
 returns-5 : tie.Need-returns-5
 unfolding isDate
 returns-5 c = let t = c .before .before .before .before .before .args .date in
@@ -32,4 +29,4 @@ returns-5 c = let t = c .before .before .before .before .before .args .date in
 
 pub is-date-spec : {M : Type 1} → statement M
 is-date-spec =
-    tie.close (tie.spec returns returns-2 returns-3 returns-4 month-length-requires returns-5)
+    tie.close (tie.spec returns returns-2 returns-3 returns-4 (λ c κs. search needs) returns-5)

@@ -12,9 +12,6 @@ use Rattle.calendar.proofs.Near.{near-is}
 use Rattle.calendar.proofs.is_first.Statement.{statement}
 use Rattle.calendar.proofs.is_first.Tie as tie
 
-place-of-day-requires : tie.Need-place-of-day-requires
-place-of-day-requires c κs = search needs
-
 -- the callee read the day from its bits
 seen : (c : tie.After-place-of-day) → c .place-of-day .result ≡ placeOfDay (c .before .args .day)
 seen c = c .place-of-day .ensures ∙ ap placeOfDay (toZ-ofZ (c .before .fits .day))
@@ -24,18 +21,6 @@ returns c = let b = c .before in sym (first-early (b .before .args .day) (omega 
 
 returns-2 : tie.Need-returns-2
 returns-2 c = let b = c .before .before in sym (first-late (b .before .args .day) (omega (arith, seen b)))
-
-month-near-requires : tie.Need-month-near-requires
-month-near-requires c κs = search needs
-
-mul-wide : tie.Need-mul-wide
-mul-wide c = search needs
-
-element-copy-out-wide : tie.Need-element-copy-out-wide
-element-copy-out-wide c = search needs
-
-wide-requires : tie.Need-wide-requires
-wide-requires c κs = search needs
 
 returns-3 : tie.Need-returns-3
 returns-3 c =
@@ -53,11 +38,11 @@ pub is-first-spec : {M : Type 1} → statement M
 is-first-spec =
     tie.close
     (tie.spec
-    place-of-day-requires
+    (λ c κs. search needs)
     returns
     returns-2
-    month-near-requires
-    mul-wide
-    element-copy-out-wide
-    wide-requires
+    (λ c κs. search needs)
+    (λ c. search needs)
+    (λ c. search needs)
+    (λ c κs. search needs)
     returns-3)

@@ -7,9 +7,6 @@ use Rattle.calendar.specs.Meaning.{monthLength}
 use Rattle.calendar.proofs.month_length.Statement.{statement}
 use Rattle.calendar.proofs.month_length.Tie as tie
 
-is-leap-requires : tie.Need-is-leap-requires
-is-leap-requires c κs = search needs
-
 returns : tie.Need-returns
 unfolding monthLength
 returns c = rw (c .before .before .match .keys1, sym (c .before .is-leap .ensures) ∙ c .if1 .taken)
@@ -36,4 +33,4 @@ returns-4 c =
     )
 
 pub month-length-spec : {M : Type 1} → statement M
-month-length-spec = tie.close (tie.spec is-leap-requires returns returns-2 returns-3 returns-4)
+month-length-spec = tie.close (tie.spec (λ c κs. search needs) returns returns-2 returns-3 returns-4)

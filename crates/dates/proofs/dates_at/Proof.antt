@@ -11,26 +11,8 @@ Inv-loop page₀ n places at₀ i₀ page at i = i ≤ length places
 abbrev μ-loop : tie.MeasureT-loop
 μ-loop page₀ n places at₀ i₀ page at i = length places - i
 
-loop-holds : tie.Need-loop-holds Inv-loop μ-loop
-loop-holds c = omega arith
-
-mul-dated : tie.Need-mul-dated Inv-loop μ-loop
-mul-dated c = omega arith
-
-shared-slice-read-dated : tie.Need-shared-slice-read-dated Inv-loop μ-loop
-shared-slice-read-dated c = omega arith
-
 dated-requires : tie.Need-dated-requires Inv-loop μ-loop
 dated-requires c κs = tt
-
-add-i : tie.Need-add-i Inv-loop μ-loop
-add-i c = omega arith
-
-loop-less : tie.Need-loop-less Inv-loop μ-loop
-loop-less c = omega arith
-
-loop-again : tie.Need-loop-again Inv-loop μ-loop
-loop-again c = omega arith
 
 returns : tie.Need-returns Inv-loop μ-loop
 returns c = tt
@@ -41,11 +23,11 @@ dates-at-spec =
     (tie.spec
     Inv-loop
     μ-loop
-    loop-holds
-    mul-dated
-    shared-slice-read-dated
+    (λ c. omega arith)
+    (λ c. omega arith)
+    (λ c. omega arith)
     dated-requires
-    add-i
-    loop-less
-    loop-again
+    (λ c. omega arith)
+    (λ c. omega arith)
+    (λ c. omega arith)
     returns)

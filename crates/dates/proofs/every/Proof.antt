@@ -10,20 +10,8 @@ Inv-loop page₀ n₀ place₀ page n place = place ≤ 76527
 abbrev μ-loop : tie.MeasureT-loop
 μ-loop page₀ n₀ place₀ page n place = 76527 - place
 
-loop-holds : tie.Need-loop-holds Inv-loop μ-loop
-loop-holds c = omega arith
-
 dated-requires : tie.Need-dated-requires Inv-loop μ-loop
 dated-requires c κs = tt
-
-add-place : tie.Need-add-place Inv-loop μ-loop
-add-place c = omega arith
-
-loop-less : tie.Need-loop-less Inv-loop μ-loop
-loop-less c = omega arith
-
-loop-again : tie.Need-loop-again Inv-loop μ-loop
-loop-again c = omega arith
 
 flush-requires : tie.Need-flush-requires Inv-loop μ-loop
 flush-requires c κs = tt
@@ -37,10 +25,10 @@ every-spec =
     (tie.spec
     Inv-loop
     μ-loop
-    loop-holds
+    (λ c. omega arith)
     dated-requires
-    add-place
-    loop-less
-    loop-again
+    (λ c. omega arith)
+    (λ c. omega arith)
+    (λ c. omega arith)
     flush-requires
     returns)

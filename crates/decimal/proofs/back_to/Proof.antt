@@ -9,9 +9,6 @@ use borrow.Author.Needs.{needs}
 use Rattle.decimal.proofs.back_to.Statement.{statement}
 use Rattle.decimal.proofs.back_to.Tie as tie
 
-place-of-day-requires : tie.Need-place-of-day-requires
-place-of-day-requires c κs = search needs
-
 -- the callee read the day from its bits
 seen : (c : tie.After-place-of-day) → c .place-of-day .result ≡ placeOfDay (c .before .args .day)
 seen c = c .place-of-day .ensures ∙ ap placeOfDay (toZ-ofZ {w = w64} {z = c .before .args .day} (c .before .fits .day))
@@ -23,4 +20,4 @@ returns : tie.Need-returns
 returns c = ap (λ (n : ℕ). 40000 - n) (seen c)
 
 pub back-to-spec : {M : Type 1} → statement M
-back-to-spec = tie.close (tie.spec place-of-day-requires sub-result returns)
+back-to-spec = tie.close (tie.spec (λ c κs. search needs) sub-result returns)

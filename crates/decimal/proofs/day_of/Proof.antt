@@ -9,12 +9,6 @@ use borrow.Author.Needs.{needs}
 use Rattle.decimal.proofs.day_of.Statement.{statement}
 use Rattle.decimal.proofs.day_of.Tie as tie
 
-sub-quotient : tie.Need-sub-quotient
-sub-quotient c = search needs
-
-quotient-requires : tie.Need-quotient-requires
-quotient-requires c κs = search needs
-
 returns : tie.Need-returns
 returns c = subst (λ (z : ℤ). DayOf z (c .quotient .result)) (place-before (c .before .before .args .n) (c .before .if1 .taken)) (c .quotient .ensures)
 
@@ -26,4 +20,4 @@ returns-2 c = subst (λ (z : ℤ). DayOf z (c .quotient2 .result)) (place-after 
 
 pub day-of-spec : {M : Type 1} → statement M
 day-of-spec =
-    tie.close (tie.spec sub-quotient quotient-requires returns quotient-requires-2 returns-2)
+    tie.close (tie.spec (λ c. search needs) (λ c κs. search needs) returns quotient-requires-2 returns-2)

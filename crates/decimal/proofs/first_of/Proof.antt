@@ -5,24 +5,6 @@ use borrow.Author.Needs.{needs}
 use Rattle.decimal.proofs.first_of.Statement.{statement}
 use Rattle.decimal.proofs.first_of.Tie as tie
 
-enum-told : tie.Need-enum-told
-enum-told c = search needs
-
-back-to-requires : tie.Need-back-to-requires
-back-to-requires c κs = search needs
-
-enum-told-2 : tie.Need-enum-told-2
-enum-told-2 c = search needs
-
-back-to-requires-2 : tie.Need-back-to-requires-2
-back-to-requires-2 c κs = search needs
-
-enum-told-3 : tie.Need-enum-told-3
-enum-told-3 c = search needs
-
-back-to-requires-3 : tie.Need-back-to-requires-3
-back-to-requires-3 c κs = search needs
-
 returns : tie.Need-returns
 returns c = c .back-to .ensures ∙ sym (ap firstOf (c .before .enum-told .given .1))
 
@@ -36,12 +18,12 @@ pub first-of-spec : {M : Type 1} → statement M
 first-of-spec =
     tie.close
     (tie.spec
-    enum-told
-    back-to-requires
-    enum-told-2
-    back-to-requires-2
-    enum-told-3
-    back-to-requires-3
+    (λ c. search needs)
+    (λ c κs. search needs)
+    (λ c. search needs)
+    (λ c κs. search needs)
+    (λ c. search needs)
+    (λ c κs. search needs)
     returns
     returns-2
     returns-3)

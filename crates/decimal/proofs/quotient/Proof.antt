@@ -4,13 +4,10 @@ use borrow.Author.Needs.{needs}
 use Rattle.decimal.proofs.quotient.Statement.{statement}
 use Rattle.decimal.proofs.quotient.Tie as tie
 
-held-requires : tie.Need-held-requires
-held-requires c κs = search needs
-
 returns : tie.Need-returns
 returns c =
     let z = c .before in
     quotient-is (z .args .neg) (z .args .n) (c .held .result) (c .held .ensures) (z .pre .0) (z .pre .1)
 
 pub quotient-spec : {M : Type 1} → statement M
-quotient-spec = tie.close (tie.spec held-requires returns)
+quotient-spec = tie.close (tie.spec (λ c κs. search needs) returns)

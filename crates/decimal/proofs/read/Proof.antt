@@ -28,21 +28,6 @@ unfolding readOf
 at x s t r w e =
     ap (λ (y : Record). slip (D.At y)) (e ∙ told-record (H.Decimal x s) t w) ∙ sym (rw (w .finite, w .inside))
 
-take-requires : tie.Need-take-requires
-take-requires c κs = search needs
-
-enum-known-s : tie.Need-enum-known-s
-enum-known-s c = search needs
-
-enum-known-s-2 : tie.Need-enum-known-s-2
-enum-known-s-2 c = search needs
-
-enum-known-t : tie.Need-enum-known-t
-enum-known-t c = search needs
-
-to-record-requires : tie.Need-to-record-requires
-to-record-requires c κs = search needs
-
 returns : tie.Need-returns
 returns c =
     let b = c .before .before .before in
@@ -73,11 +58,11 @@ pub read-spec : {M : Type 1} → statement M
 read-spec =
     tie.close
     (tie.spec
-    take-requires
-    enum-known-s
-    enum-known-s-2
-    enum-known-t
-    to-record-requires
+    (λ c κs. search needs)
+    (λ c. search needs)
+    (λ c. search needs)
+    (λ c. search needs)
+    (λ c κs. search needs)
     returns
     returns-2
     returns-3)

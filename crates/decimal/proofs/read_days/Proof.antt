@@ -15,13 +15,10 @@ returns c = sym (at-nan (c .before .args .first) (c .before .args .day) (c .if1 
 float-to-bits-read-bits : tie.Need-float-to-bits-read-bits
 float-to-bits-read-bits c = no-nan (c .before .args .day) (c .if1 .left)
 
-read-bits-requires : tie.Need-read-bits-requires
-read-bits-requires c κs = search needs
-
 returns-2 : tie.Need-returns-2
 returns-2 c =
     let z = c .before .before in
     c .read-bits .ensures ∙ ap (λ (y : Float). found (z .args .first) y) (ofBits-toBits binary64 (z .args .day) (subst T (sym (z .good .1 .0 .1)) tt))
 
 pub read-days-spec : {M : Type 1} → statement M
-read-days-spec = tie.close (tie.spec returns float-to-bits-read-bits read-bits-requires returns-2)
+read-days-spec = tie.close (tie.spec returns float-to-bits-read-bits (λ c κs. search needs) returns-2)

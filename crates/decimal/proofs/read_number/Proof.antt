@@ -12,21 +12,6 @@ use borrow.Author.Needs.{needs}
 use Rattle.decimal.proofs.read_number.Statement.{statement}
 use Rattle.decimal.proofs.read_number.Tie as tie
 
-sub-below : tie.Need-sub-below
-sub-below c = search needs
-
-below-requires : tie.Need-below-requires
-below-requires c κs = search needs
-
-sub-scaled : tie.Need-sub-scaled
-sub-scaled c = search needs
-
-sub-scaled-2 : tie.Need-sub-scaled-2
-sub-scaled-2 c = search needs
-
-scaled-requires : tie.Need-scaled-requires
-scaled-requires c κs = search needs
-
 -- before day 0, in the span
 early : (c : tie.After-scaled) → let a = c .before .before .before .before .args in inside (a .first) true (a .q) (2 ^ a .sh) ≡ true
 early c =
@@ -61,18 +46,6 @@ returns-2 c =
     (ap (λ (t : Bool). inside (a .first) t (a .q) (2 ^ a .sh)) (b .before .if1 .taken)
     ∙ one-less (a .first) (a .q) (a .sh) (z .pre .4) (z .pre .2) ∙ sym (b .below .ensures) ∙ c .if2 .left))
 
-below-requires-2 : tie.Need-below-requires-2
-below-requires-2 c κs = search needs
-
-sub-scaled-3 : tie.Need-sub-scaled-3
-sub-scaled-3 c = search needs
-
-scaled-requires-2 : tie.Need-scaled-requires-2
-scaled-requires-2 c κs = search needs
-
-add-t15 : tie.Need-add-t15
-add-t15 c = search needs
-
 returns-3 : tie.Need-returns-3
 returns-3 c =
     let b = c .before .before in
@@ -92,17 +65,17 @@ pub read-number-spec : {M : Type 1} → statement M
 read-number-spec =
     tie.close
     (tie.spec
-    sub-below
-    below-requires
-    sub-scaled
-    sub-scaled-2
-    scaled-requires
+    (λ c. search needs)
+    (λ c κs. search needs)
+    (λ c. search needs)
+    (λ c. search needs)
+    (λ c κs. search needs)
     sub-t11
     returns
     returns-2
-    below-requires-2
-    sub-scaled-3
-    scaled-requires-2
-    add-t15
+    (λ c κs. search needs)
+    (λ c. search needs)
+    (λ c κs. search needs)
+    (λ c. search needs)
     returns-3
     returns-4)

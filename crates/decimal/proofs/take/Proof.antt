@@ -6,18 +6,6 @@ use borrow.Author.Needs.{needs}
 use Rattle.decimal.proofs.take.Statement.{statement}
 use Rattle.decimal.proofs.take.Tie as tie
 
-enum-known-h : tie.Need-enum-known-h
-enum-known-h c = search needs
-
-take-record-requires : tie.Need-take-record-requires
-take-record-requires c κs = search needs
-
-enum-known-h-2 : tie.Need-enum-known-h-2
-enum-known-h-2 c = search needs
-
-take-decimal-requires : tie.Need-take-decimal-requires
-take-decimal-requires c κs = search needs
-
 returns : tie.Need-returns
 returns c = subst (λ (h : Handed). Took h (c .take-record .result)) (sym (c .before .before .h .given .1)) (c .take-record .ensures)
 
@@ -28,9 +16,9 @@ pub take-spec : {M : Type 1} → statement M
 take-spec =
     tie.close
     (tie.spec
-    enum-known-h
-    take-record-requires
-    enum-known-h-2
-    take-decimal-requires
+    (λ c. search needs)
+    (λ c κs. search needs)
+    (λ c. search needs)
+    (λ c κs. search needs)
     returns
     returns-2)

@@ -12,9 +12,6 @@ use borrow.Author.Needs.{needs}
 use Rattle.decimal.proofs.take_decimal.Statement.{statement}
 use Rattle.decimal.proofs.take_decimal.Tie as tie
 
-first-of-requires : tie.Need-first-of-requires
-first-of-requires c κs = search needs
-
 read-days-requires : tie.Need-read-days-requires
 read-days-requires c κs = subst (λ (n : ℕ). (0 < n) × (n ≤ 36525)) (sym (c .first-of .ensures)) (first-in (c .before .args .scale))
 
@@ -23,15 +20,6 @@ tells : (c : tie.After-read-days) {r : Reading} → c .read-days .result ≡ r �
 tells c e =
     let a = c .before .before .args in
     subst (Found (a .day) (a .scale)) (sym (c .read-days .ensures ∙ ap (λ (n : ℕ). found n (a .day)) (c .before .first-of .ensures)) ∙ e) (found-is (a .day) (a .scale))
-
-enum-told : tie.Need-enum-told
-enum-told c = search needs
-
-enum-told-2 : tie.Need-enum-told-2
-enum-told-2 c = search needs
-
-enum-known-n : tie.Need-enum-known-n
-enum-known-n c = search needs
 
 time-of-requires : tie.Need-time-of-requires
 time-of-requires c κs =
@@ -72,11 +60,11 @@ pub take-decimal-spec : {M : Type 1} → statement M
 take-decimal-spec =
     tie.close
     (tie.spec
-    first-of-requires
+    (λ c κs. search needs)
     read-days-requires
-    enum-told
-    enum-told-2
-    enum-known-n
+    (λ c. search needs)
+    (λ c. search needs)
+    (λ c. search needs)
     time-of-requires
     returns
     returns-2

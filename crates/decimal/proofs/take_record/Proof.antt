@@ -6,15 +6,6 @@ use borrow.Author.Needs.{needs}
 use Rattle.decimal.proofs.take_record.Statement.{statement}
 use Rattle.decimal.proofs.take_record.Tie as tie
 
-to-time-requires : tie.Need-to-time-requires
-to-time-requires c κs = search needs
-
-enum-known-t : tie.Need-enum-known-t
-enum-known-t c = search needs
-
-enum-known-s : tie.Need-enum-known-s
-enum-known-s c = search needs
-
 returns : tie.Need-returns
 returns c =
     let b = c .before .before .before in
@@ -28,4 +19,4 @@ returns-2 c =
 
 pub take-record-spec : {M : Type 1} → statement M
 take-record-spec =
-    tie.close (tie.spec to-time-requires enum-known-t enum-known-s returns returns-2)
+    tie.close (tie.spec (λ c κs. search needs) (λ c. search needs) (λ c. search needs) returns returns-2)

@@ -9,21 +9,6 @@ use borrow.Author.Needs.{needs}
 use Rattle.decimal.proofs.time_of.Statement.{statement}
 use Rattle.decimal.proofs.time_of.Tie as tie
 
-enum-told : tie.Need-enum-told
-enum-told c = search needs
-
-enum-told-2 : tie.Need-enum-told-2
-enum-told-2 c = search needs
-
-mul-t6 : tie.Need-mul-t6
-mul-t6 c = search needs
-
-add-t8 : tie.Need-add-t8
-add-t8 c = search needs
-
-enum-told-3 : tie.Need-enum-told-3
-enum-told-3 c = search needs
-
 returns : tie.Need-returns
 returns c =
     let a = c .before .before .args in
@@ -42,4 +27,4 @@ returns-3 c =
 pub time-of-spec : {M : Type 1} → statement M
 time-of-spec =
     tie.close
-    (tie.spec enum-told enum-told-2 mul-t6 add-t8 enum-told-3 returns returns-2 returns-3)
+    (tie.spec (λ c. search needs) (λ c. search needs) (λ c. search needs) (λ c. search needs) (λ c. search needs) returns returns-2 returns-3)

@@ -5,18 +5,6 @@ use borrow.Author.Needs.{needs}
 use Rattle.decimal.proofs.write.Statement.{statement}
 use Rattle.decimal.proofs.write.Tie as tie
 
-take-requires : tie.Need-take-requires
-take-requires c κs = search needs
-
-enum-told : tie.Need-enum-told
-enum-told c = search needs
-
-enum-told-2 : tie.Need-enum-told-2
-enum-told-2 c = search needs
-
-enum-known-t : tie.Need-enum-known-t
-enum-known-t c = search needs
-
 write-time-requires : tie.Need-write-time-requires
 write-time-requires c κs =
     let b = c .before .before .before in
@@ -51,10 +39,10 @@ pub write-spec : {M : Type 1} → statement M
 write-spec =
     tie.close
     (tie.spec
-    take-requires
-    enum-told
-    enum-told-2
-    enum-known-t
+    (λ c κs. search needs)
+    (λ c. search needs)
+    (λ c. search needs)
+    (λ c. search needs)
     write-time-requires
     returns
     returns-2

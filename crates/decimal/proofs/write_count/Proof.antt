@@ -6,23 +6,8 @@ use borrow.Author.Needs.{needs}
 use Rattle.decimal.proofs.write_count.Statement.{statement}
 use Rattle.decimal.proofs.write_count.Tie as tie
 
-rem-micro : tie.Need-rem-micro
-rem-micro c = search needs
-
 returns : tie.Need-returns
 returns c = let a = c .before .args in image-no (dayAt (a .count / a .bound)) (a .count % a .bound) (c .if1 .taken)
-
-div-day-of : tie.Need-div-day-of
-div-day-of c = search needs
-
-mul-day-of : tie.Need-mul-day-of
-mul-day-of c = search needs
-
-add-day-of : tie.Need-add-day-of
-add-day-of c = search needs
-
-day-of-requires : tie.Need-day-of-requires
-day-of-requires c κs = search needs
 
 returns-2 : tie.Need-returns-2
 returns-2 c = let a = c .before .before .args in image-at (a .count / a .bound) (a .count % a .bound) (c .day-of .result) (c .before .if1 .left) (c .day-of .ensures)
@@ -30,4 +15,4 @@ returns-2 c = let a = c .before .before .args in image-at (a .count / a .bound) 
 pub write-count-spec : {M : Type 1} → statement M
 write-count-spec =
     tie.close
-    (tie.spec rem-micro returns div-day-of mul-day-of add-day-of day-of-requires returns-2)
+    (tie.spec (λ c. search needs) returns (λ c. search needs) (λ c. search needs) (λ c. search needs) (λ c κs. search needs) returns-2)

@@ -16,20 +16,11 @@ small e h = subst (λ (x : Time). timeCount x / bound (timeScale x) < 100000) e 
 back : {t u : Time} (r : Decimal) → t ≡ u → Imaged (bound (timeScale u)) (timeCount u) r → Imaged (bound (timeScale t)) (timeCount t) r
 back r e i = subst (λ (x : Time). Imaged (bound (timeScale x)) (timeCount x) r) (sym e) i
 
-enum-known-t : tie.Need-enum-known-t
-enum-known-t c = search needs
-
 write-count-requires : tie.Need-write-count-requires
 write-count-requires c κs = (lit< tt, small (c .before .t .given .1) (c .before .before .before .pre))
 
-enum-known-t-2 : tie.Need-enum-known-t-2
-enum-known-t-2 c = search needs
-
 write-count-requires-2 : tie.Need-write-count-requires-2
 write-count-requires-2 c κs = (lit< tt, small (c .before .t2 .given .1) (c .before .before .before .pre))
-
-enum-known-t-3 : tie.Need-enum-known-t-3
-enum-known-t-3 c = search needs
 
 write-count-requires-3 : tie.Need-write-count-requires-3
 write-count-requires-3 c κs = (lit< tt, small (c .before .t3 .given .1) (c .before .before .before .pre))
@@ -47,11 +38,11 @@ pub write-time-spec : {M : Type 1} → statement M
 write-time-spec =
     tie.close
     (tie.spec
-    enum-known-t
+    (λ c. search needs)
     write-count-requires
-    enum-known-t-2
+    (λ c. search needs)
     write-count-requires-2
-    enum-known-t-3
+    (λ c. search needs)
     write-count-requires-3
     returns
     returns-2

@@ -16,9 +16,6 @@ fits c =
     let x = c .before .before .before .before .args in
     omega (arith, written-within (now (x .part)) (now (x .out)) (c .date-lines .result) (c .date-lines .last .1 .0) (c .date-lines .ensures))
 
-date-lines-requires : tie.Need-date-lines-requires
-date-lines-requires c κs = search needs
-
 slice-reshare-prefix-write-all : tie.Need-slice-reshare-prefix-write-all
 slice-reshare-prefix-write-all c = fits (c .before .before)
 
@@ -26,24 +23,6 @@ slice-aggregate-write-all : tie.Need-slice-aggregate-write-all
 slice-aggregate-write-all c =
     let d = c .before .before .before in
     sym (length-take-le (d .date-lines .result .written) (d .date-lines .last .1 .0) (fits d))
-
-write-all-requires : tie.Need-write-all-requires
-write-all-requires c κs = search needs
-
-slice-aggregate-fail : tie.Need-slice-aggregate-fail
-slice-aggregate-fail c = search needs
-
-fail-requires : tie.Need-fail-requires
-fail-requires c κs = search needs
-
-same-length : tie.Need-same-length
-same-length c = search needs
-
-returns : tie.Need-returns
-returns c = search needs
-
-same-length-2 : tie.Need-same-length-2
-same-length-2 c = search needs
 
 returns-2 : tie.Need-returns-2
 returns-2 c =
@@ -55,13 +34,13 @@ pub print-spec : {M : Type 1} → statement M
 print-spec =
     tie.close
     (tie.spec
-    date-lines-requires
+    (λ c κs. search needs)
     slice-reshare-prefix-write-all
     slice-aggregate-write-all
-    write-all-requires
-    slice-aggregate-fail
-    fail-requires
-    same-length
-    returns
-    same-length-2
+    (λ c κs. search needs)
+    (λ c. search needs)
+    (λ c κs. search needs)
+    (λ c. search needs)
+    (λ c. search needs)
+    (λ c. search needs)
     returns-2)

@@ -27,12 +27,6 @@ same-length-2 c = omega (arith, c .before .before .before .before .before .befor
 returns : tie.Need-returns Inv-loop μ-loop
 returns c = tt
 
-sub-turns : tie.Need-sub-turns Inv-loop μ-loop
-sub-turns c = omega arith
-
-loop-less : tie.Need-loop-less Inv-loop μ-loop
-loop-less c = omega arith
-
 loop-again : tie.Need-loop-again Inv-loop μ-loop
 loop-again c = let l = c .before .before .before .before .before .before .before .before .before .before in (c .before .before .before .before .before .before .read-block .ensures, omega (arith, l .loop .inv .1), omega (arith, l .loop .inv .2))
 
@@ -56,8 +50,8 @@ run-spec =
     same-length
     same-length-2
     returns
-    sub-turns
-    loop-less
+    (λ c. omega arith)
+    (λ c. omega arith)
     loop-again
     same-length-3
     same-length-4

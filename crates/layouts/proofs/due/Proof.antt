@@ -9,30 +9,6 @@ use borrow.Author.Needs.{needs}
 use Rattle.layouts.proofs.due.Statement.{statement}
 use Rattle.layouts.proofs.due.Tie as tie
 
-take-requires : tie.Need-take-requires
-take-requires c κs = search needs
-
-enum-told : tie.Need-enum-told
-enum-told c = search needs
-
-enum-told-2 : tie.Need-enum-told-2
-enum-told-2 c = search needs
-
-enum-known-t : tie.Need-enum-known-t
-enum-known-t c = search needs
-
-scale-requires : tie.Need-scale-requires
-scale-requires c κs = search needs
-
-code-requires : tie.Need-code-requires
-code-requires c κs = search needs
-
-code-requires-2 : tie.Need-code-requires-2
-code-requires-2 c κs = search needs
-
-count-requires : tie.Need-count-requires
-count-requires c κs = search needs
-
 -- the time that was taken, and the two codes
 told : (c : tie.After-t) → Told (c .before .before .before .args .h) (c .t .given .0 .0)
 told c = let b = c .before .before in told-at (b .before .args .h) (b .take .result) (b .take .ensures) (c .t .given .0 .0) (c .t .given .1)
@@ -72,14 +48,14 @@ pub due-spec : {M : Type 1} → statement M
 due-spec =
     tie.close
     (tie.spec
-    take-requires
-    enum-told
-    enum-told-2
-    enum-known-t
-    scale-requires
-    code-requires
-    code-requires-2
-    count-requires
+    (λ c κs. search needs)
+    (λ c. search needs)
+    (λ c. search needs)
+    (λ c. search needs)
+    (λ c κs. search needs)
+    (λ c κs. search needs)
+    (λ c κs. search needs)
+    (λ c κs. search needs)
     returns
     returns-2
     returns-3

@@ -6,17 +6,8 @@ use borrow.Author.Needs.{needs}
 use Rattle.layouts.proofs.fraction_at.Statement.{statement}
 use Rattle.layouts.proofs.fraction_at.Tie as tie
 
-mul-result : tie.Need-mul-result
-mul-result c = search needs
-
-add-result : tie.Need-add-result
-add-result c = search needs
-
-cast-result : tie.Need-cast-result
-cast-result c = search needs
-
 returns : tie.Need-returns
 returns c = sym (last-is rounding 16 (c .args .micros) (c .pre))
 
 pub fraction-at-spec : {M : Type 1} → statement M
-fraction-at-spec = tie.close (tie.spec mul-result add-result cast-result returns)
+fraction-at-spec = tie.close (tie.spec (λ c. search needs) (λ c. search needs) (λ c. search needs) returns)

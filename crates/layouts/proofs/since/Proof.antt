@@ -11,21 +11,6 @@ use borrow.Author.Needs.{needs}
 use Rattle.layouts.proofs.since.Statement.{statement}
 use Rattle.layouts.proofs.since.Tie as tie
 
-cast-day-at : tie.Need-cast-day-at
-cast-day-at c = search needs
-
-add-day-at : tie.Need-add-day-at
-add-day-at c = search needs
-
-day-at-requires : tie.Need-day-at-requires
-day-at-requires c κs = search needs
-
-new-requires : tie.Need-new-requires
-new-requires c κs = search needs
-
-judged-requires : tie.Need-judged-requires
-judged-requires c κs = search needs
-
 returns : tie.Need-returns
 returns c =
     let n = c .before in
@@ -39,4 +24,4 @@ returns c =
 pub since-spec : {M : Type 1} → statement M
 since-spec =
     tie.close
-    (tie.spec cast-day-at add-day-at day-at-requires new-requires judged-requires returns)
+    (tie.spec (λ c. search needs) (λ c. search needs) (λ c κs. search needs) (λ c κs. search needs) (λ c κs. search needs) returns)

@@ -8,16 +8,10 @@ use Rattle.leap.proofs.follows.Tie as tie
 returns : tie.Need-returns
 returns c = rw (le-ltb (c .before .args .s) (c .before .args .d) (c .if1 .taken))
 
-add-if2 : tie.Need-add-if2
-add-if2 c = search needs
-
 returns-2 : tie.Need-returns-2
 returns-2 c =
     let a = c .before .before .args in
     rw (lt-ltb (a .s) (a .d) (c .before .if1 .left), ne-eqb (a .p) (a .o + 1) (c .if2 .taken))
-
-add-result : tie.Need-add-result
-add-result c = search needs
 
 returns-3 : tie.Need-returns-3
 returns-3 c =
@@ -25,4 +19,4 @@ returns-3 c =
     rw (lt-ltb (a .s) (a .d) (c .before .if1 .left), eq-eqb (a .p) (a .o + 1) (c .if2 .left))
 
 pub follows-spec : {M : Type 1} → statement M
-follows-spec = tie.close (tie.spec returns add-if2 returns-2 add-result returns-3)
+follows-spec = tie.close (tie.spec returns (λ c. search needs) returns-2 (λ c. search needs) returns-3)

@@ -20,9 +20,6 @@ returns-2 c = let a = c .before .before .before .args in accept-long (a .days .n
 returns-3 : tie.Need-returns-3
 returns-3 c = let a = c .before .before .before .before .args in accept-uneven (a .days .now) (a .offsets .now) (a .last) (c .if3 .taken)
 
-place-of-day-requires : tie.Need-place-of-day-requires
-place-of-day-requires c κs = search needs
-
 -- the callee read the day from its bits
 seen : (c : tie.After-place-of-day) → c .place-of-day .result ≡ placeOfDay (c .before .before .before .before .before .args .last)
 seen c = c .place-of-day .ensures ∙ ap placeOfDay (toZ-ofZ (c .before .before .before .before .before .fits .last))
@@ -33,20 +30,11 @@ returns-4 c = let a = c .before .before .before .before .before .before .args in
 returns-5 : tie.Need-returns-5
 returns-5 c = let a = c .before .before .before .before .before .before .before .args in accept-late (a .days .now) (a .offsets .now) (a .last) (omega (arith, seen (c .before .before), c .if5 .taken))
 
-step-day-requires : tie.Need-step-day-requires
-step-day-requires c κs = search needs
-
 returns-6 : tie.Need-returns-6
 returns-6 c = let a = c .before .before .before .before .before .before .before .before .before .args in accept-other-day (a .days .now) (a .offsets .now) (a .last) (λ q. c .if6 .taken (c .before .step-day .ensures ∙ q))
 
-shared-slice-read-if7 : tie.Need-shared-slice-read-if7
-shared-slice-read-if7 c = search needs
-
 returns-7 : tie.Need-returns-7
 returns-7 c = let a = c .before .before .before .before .before .before .before .before .before .before .before .args in accept-other-offset (a .days .now) (a .offsets .now) (a .last) (c .if7 .taken)
-
-all-firsts-requires : tie.Need-all-firsts-requires
-all-firsts-requires c κs = search needs
 
 returns-8 : tie.Need-returns-8
 returns-8 c =
@@ -86,14 +74,14 @@ is-accepted-spec =
     returns
     returns-2
     returns-3
-    place-of-day-requires
+    (λ c κs. search needs)
     returns-4
     returns-5
-    step-day-requires
+    (λ c κs. search needs)
     returns-6
-    shared-slice-read-if7
+    (λ c. search needs)
     returns-7
-    all-firsts-requires
+    (λ c κs. search needs)
     returns-8
     steps-follow-requires
     returns-9)

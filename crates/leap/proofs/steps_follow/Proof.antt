@@ -22,12 +22,6 @@ abbrev μ-loop : tie.MeasureT-loop
 loop-holds : tie.Need-loop-holds Inv-loop μ-loop
 loop-holds c = (omega arith, omega arith, refl)
 
-step-day-requires : tie.Need-step-day-requires Inv-loop μ-loop
-step-day-requires c κs = omega arith
-
-mul-p : tie.Need-mul-p Inv-loop μ-loop
-mul-p c = search needs
-
 shared-slice-read-p : tie.Need-shared-slice-read-p Inv-loop μ-loop
 shared-slice-read-p c = let l = c .before .before .before in omega (arith, l .before .before .pre .even)
 
@@ -64,9 +58,6 @@ returns c = sym (step (c .before) ∙ rw (not-true (c .before .follows .result) 
 add-i : tie.Need-add-i Inv-loop μ-loop
 add-i c = let l = c .before .before .before .before .before in omega (arith, l .before .before .pre .few)
 
-loop-less : tie.Need-loop-less Inv-loop μ-loop
-loop-less c = omega arith
-
 loop-again : tie.Need-loop-again Inv-loop μ-loop
 loop-again c =
     let b = c .before in
@@ -96,12 +87,12 @@ steps-follow-spec =
     Inv-loop
     μ-loop
     loop-holds
-    step-day-requires
-    mul-p
+    (λ c κs. omega arith)
+    (λ c. search needs)
     shared-slice-read-p
     follows-requires
     returns
     add-i
-    loop-less
+    (λ c. omega arith)
     loop-again
     returns-2)

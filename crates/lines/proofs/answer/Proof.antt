@@ -36,12 +36,6 @@ told c t q =
     let x = c .before .before .before .before .args in
     line-answer (now (x .days)) (now (x .offsets)) (x .last) (now (x .line)) t (ap slip (sym q) ∙ said c)
 
-read-in-requires : tie.Need-read-in-requires
-read-in-requires c κs = search needs
-
-enum-known-t : tie.Need-enum-known-t
-enum-known-t c = search needs
-
 print-requires : tie.Need-print-requires
 print-requires c κs =
     let g = c .before .before .t .given in
@@ -53,15 +47,6 @@ print-requires c κs =
       s .pre .1,
     )
 
-enum-known-f : tie.Need-enum-known-f
-enum-known-f c = search needs
-
-refuse-requires : tie.Need-refuse-requires
-refuse-requires c κs = search needs
-
-same-length : tie.Need-same-length
-same-length c = search needs
-
 returns : tie.Need-returns
 returns c =
     let g = c .before .before .before .before .before .t .given in
@@ -71,9 +56,6 @@ returns c =
     subst (λ (image : List ℕ). Put image (now (x .out)) (c .before .before .print .last .1 .0) (c .before .before .print .result))
     (ap (λ (z : Scale). imageOf F.PrefixedMicros z (recordMoment (g .0 .0)) ++ (10 ∷ [])) (k .0) ∙ answer-is (now (x .days)) (now (x .offsets)) (x .last) (now (x .line)) (answer (recordMoment (g .0 .0))) (k .1))
     (c .before .before .print .ensures)
-
-same-length-2 : tie.Need-same-length-2
-same-length-2 c = search needs
 
 returns-2 : tie.Need-returns-2
 returns-2 c =
@@ -89,12 +71,12 @@ pub answer-spec : {M : Type 1} → statement M
 answer-spec =
     tie.close
     (tie.spec
-    read-in-requires
-    enum-known-t
+    (λ c κs. search needs)
+    (λ c. search needs)
     print-requires
-    enum-known-f
-    refuse-requires
-    same-length
+    (λ c. search needs)
+    (λ c κs. search needs)
+    (λ c. search needs)
     returns
-    same-length-2
+    (λ c. search needs)
     returns-2)

@@ -103,9 +103,6 @@ part-answer-start-2 c =
     let l = c .before .before .before .before in
     omega (arith, l .loop .inv .to, l .loop .inv .same)
 
-part-answer-end-2 : tie.Need-part-answer-end-2 Inv-loop μ-loop
-part-answer-end-2 c = omega arith
-
 answer-requires : tie.Need-answer-requires Inv-loop μ-loop
 answer-requires c κs =
     let l = c .before .before .before .before .before in
@@ -143,7 +140,7 @@ returns c =
     let x = s .args in
     let u = l .loop .inv in
     full (now (x .days)) (now (x .offsets)) (seen (x .last)) (now (x .input)) (now (x .out)) (l .loop .at) (l .loop .written) (l .loop .out) u (omega (arith, u .same)) _ refl refl
-          ∙ ap (λ (z : ℤ). doneUnder (now (x .days)) (now (x .offsets)) z (now (x .input)) (now (x .out))) (toZ-ofZ (s .fits .last))
+    ∙ ap (λ (z : ℤ). doneUnder (now (x .days)) (now (x .offsets)) z (now (x .input)) (now (x .out))) (toZ-ofZ (s .fits .last))
 
 same-length-2 : tie.Need-same-length-2 Inv-loop μ-loop
 same-length-2 c = c .before .before .before .loop .inv .same
@@ -156,8 +153,8 @@ returns-2 c =
     let x = s .args in
     let u = l .loop .inv in
     ended (now (x .days)) (now (x .offsets)) (seen (x .last)) (now (x .input)) (now (x .out)) (l .loop .at) (l .loop .written) (l .loop .out) u
-          (omega (arith, f .newline-from .ensures, length-drop (l .loop .at) (now (x .input)))) _ refl refl
-          ∙ ap (λ (z : ℤ). doneUnder (now (x .days)) (now (x .offsets)) z (now (x .input)) (now (x .out))) (toZ-ofZ (s .fits .last))
+    (omega (arith, f .newline-from .ensures, length-drop (l .loop .at) (now (x .input)))) _ refl refl
+    ∙ ap (λ (z : ℤ). doneUnder (now (x .days)) (now (x .offsets)) z (now (x .input)) (now (x .out))) (toZ-ofZ (s .fits .last))
 
 pub date-under-spec : {M : Type 1} → statement M
 date-under-spec =
@@ -173,7 +170,7 @@ date-under-spec =
     part-answer-end
     sub-answer-2
     part-answer-start-2
-    part-answer-end-2
+    (λ c. omega arith)
     answer-requires
     add-written
     add-at

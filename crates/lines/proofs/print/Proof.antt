@@ -6,15 +6,6 @@ use borrow.Author.Needs.{needs}
 use Rattle.lines.proofs.print.Statement.{statement}
 use Rattle.lines.proofs.print.Tie as tie
 
-write-record-requires : tie.Need-write-record-requires
-write-record-requires c κs = search needs
-
-slice-write-out : tie.Need-slice-write-out
-slice-write-out c = search needs
-
-same-length : tie.Need-same-length
-same-length c = search needs
-
 returns : tie.Need-returns
 returns c =
     let w = c .before .before in
@@ -23,4 +14,4 @@ returns c =
     printed (x .t .scale) (recordMoment (x .t)) (now (x .out)) (s .pre .1) (w .write-record .result) (w .write-record .last .1 .1 .0) (w .write-record .ensures)
 
 pub print-spec : {M : Type 1} → statement M
-print-spec = tie.close (tie.spec write-record-requires slice-write-out same-length returns)
+print-spec = tie.close (tie.spec (λ c κs. search needs) (λ c. search needs) (λ c. search needs) returns)

@@ -12,21 +12,6 @@ use borrow.Author.Needs.{needs}
 use Rattle.lines.proofs.refuse.Statement.{statement}
 use Rattle.lines.proofs.refuse.Tie as tie
 
-number-requires : tie.Need-number-requires
-number-requires c κs = search needs
-
-digit-requires : tie.Need-digit-requires
-digit-requires c κs = search needs
-
-slice-aggregate-put : tie.Need-slice-aggregate-put
-slice-aggregate-put c = search needs
-
-put-requires : tie.Need-put-requires
-put-requires c κs = search needs
-
-same-length : tie.Need-same-length
-same-length c = search needs
-
 returns : tie.Need-returns
 returns c =
     let q = c .before .before in
@@ -35,18 +20,6 @@ returns c =
     let x = n .before .before .args in
     subst (λ (r : List ℕ). Put (refusedLine (numberOf (x .f))) (now (x .out)) r 10) (sym (q .put .ensures .1))
     (one-digit (numberOf (x .f)) (d .digit .result) (now (x .out)) (d .digit .ensures ∙ ap digit (n .number .ensures)) (omega arith))
-
-digit-requires-2 : tie.Need-digit-requires-2
-digit-requires-2 c κs = search needs
-
-slice-aggregate-put-2 : tie.Need-slice-aggregate-put-2
-slice-aggregate-put-2 c = search needs
-
-put-requires-2 : tie.Need-put-requires-2
-put-requires-2 c κs = search needs
-
-same-length-2 : tie.Need-same-length-2
-same-length-2 c = search needs
 
 returns-2 : tie.Need-returns-2
 returns-2 c =
@@ -62,14 +35,14 @@ pub refuse-spec : {M : Type 1} → statement M
 refuse-spec =
     tie.close
     (tie.spec
-    number-requires
-    digit-requires
-    slice-aggregate-put
-    put-requires
-    same-length
+    (λ c κs. search needs)
+    (λ c κs. search needs)
+    (λ c. search needs)
+    (λ c κs. search needs)
+    (λ c. search needs)
     returns
-    digit-requires-2
-    slice-aggregate-put-2
-    put-requires-2
-    same-length-2
+    (λ c κs. search needs)
+    (λ c. search needs)
+    (λ c κs. search needs)
+    (λ c. search needs)
     returns-2)

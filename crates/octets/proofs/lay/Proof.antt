@@ -27,17 +27,8 @@ loop-holds c =
       sym (ap (λ (n : ℕ). c .args .v / 256 ^ n) (sub-self (length o)) ∙ div-one (c .args .v)),
     )
 
-sub-i : tie.Need-sub-i Inv-loop μ-loop
-sub-i c = omega arith
-
 cast-out : tie.Need-cast-out Inv-loop μ-loop
 cast-out c = record { fits = omega arith }
-
-slice-write-out : tie.Need-slice-write-out Inv-loop μ-loop
-slice-write-out c = omega arith
-
-loop-less : tie.Need-loop-less Inv-loop μ-loop
-loop-less c = omega arith
 
 loop-again : tie.Need-loop-again Inv-loop μ-loop
 loop-again c =
@@ -63,10 +54,10 @@ lay-spec =
     Inv-loop
     μ-loop
     loop-holds
-    sub-i
+    (λ c. omega arith)
     cast-out
-    slice-write-out
-    loop-less
+    (λ c. omega arith)
+    (λ c. omega arith)
     loop-again
     same-length
     returns)

@@ -8,15 +8,6 @@ use borrow.Author.Needs.{needs}
 use Rattle.rack.proofs.correlate.Statement.{statement}
 use Rattle.rack.proofs.correlate.Tie as tie
 
-scale-named-requires : tie.Need-scale-named-requires
-scale-named-requires c κs = search needs
-
-enum-known-scale : tie.Need-enum-known-scale
-enum-known-scale c = search needs
-
-enum-told : tie.Need-enum-told
-enum-told c = search needs
-
 returns : tie.Need-returns
 returns c =
     let d = c .before .before in
@@ -35,4 +26,4 @@ returns-2 c =
 
 pub correlate-spec : {M : Type 1} → statement M
 correlate-spec =
-    tie.close (tie.spec scale-named-requires enum-known-scale enum-told returns returns-2)
+    tie.close (tie.spec (λ c κs. search needs) (λ c. search needs) (λ c. search needs) returns returns-2)

@@ -10,15 +10,6 @@ use borrow.Author.Needs.{needs}
 use Rattle.rack.proofs.decimal_out.Statement.{statement}
 use Rattle.rack.proofs.decimal_out.Tie as tie
 
-enum-known-d : tie.Need-enum-known-d
-enum-known-d c = search needs
-
-enum-known-d-2 : tie.Need-enum-known-d-2
-enum-known-d-2 c = search needs
-
-number-requires : tie.Need-number-requires
-number-requires c κs = search needs
-
 returns : tie.Need-returns
 returns c = sym (ap (λ (x : Decimal). decimalOut (decimalSlip x)) (c .before .d .given .1))
 
@@ -30,4 +21,4 @@ returns-2 c =
 
 pub decimal-out-spec : {M : Type 1} → statement M
 decimal-out-spec =
-    tie.close (tie.spec enum-known-d enum-known-d-2 number-requires returns returns-2)
+    tie.close (tie.spec (λ c. search needs) (λ c. search needs) (λ c κs. search needs) returns returns-2)

@@ -13,21 +13,9 @@ use borrow.Author.Needs.{needs}
 use Rattle.rack.proofs.hand.Statement.{statement}
 use Rattle.rack.proofs.hand.Tie as tie
 
-scale-named-requires : tie.Need-scale-named-requires
-scale-named-requires c κs = search needs
-
-enum-known-scale : tie.Need-enum-known-scale
-enum-known-scale c = search needs
-
-enum-told : tie.Need-enum-told
-enum-told c = search needs
-
 returns : tie.Need-returns
 returns c = let b = c .before .before in
     hand-scale (b .before .args .h) (sym (b .scale-named .ensures) ∙ c .enum-told .given .1)
-
-new-requires : tie.Need-new-requires
-new-requires c κs = search needs
 
 returns-2 : tie.Need-returns-2
 returns-2 c =
@@ -56,11 +44,11 @@ pub hand-spec : {M : Type 1} → statement M
 hand-spec =
     tie.close
     (tie.spec
-    scale-named-requires
-    enum-known-scale
-    enum-told
+    (λ c κs. search needs)
+    (λ c. search needs)
+    (λ c. search needs)
     returns
-    new-requires
+    (λ c κs. search needs)
     returns-2
     returns-3
     returns-4)

@@ -9,18 +9,6 @@ use borrow.Author.Needs.{needs}
 use Rattle.rack.proofs.tick_out.Statement.{statement}
 use Rattle.rack.proofs.tick_out.Tie as tie
 
-enum-known-t : tie.Need-enum-known-t
-enum-known-t c = search needs
-
-cast-t5 : tie.Need-cast-t5
-cast-t5 c = search needs
-
-enum-known-t-2 : tie.Need-enum-known-t-2
-enum-known-t-2 c = search needs
-
-number-requires : tie.Need-number-requires
-number-requires c κs = search needs
-
 returns : tie.Need-returns
 returns c = sym (ap (λ (x : Ticked). tickOut (tickSlip x)) (c .before .before .t .given .1))
 
@@ -31,4 +19,4 @@ returns-2 c =
 
 pub tick-out-spec : {M : Type 1} → statement M
 tick-out-spec =
-    tie.close (tie.spec enum-known-t cast-t5 enum-known-t-2 number-requires returns returns-2)
+    tie.close (tie.spec (λ c. search needs) (λ c. search needs) (λ c. search needs) (λ c κs. search needs) returns returns-2)

@@ -12,21 +12,6 @@ use borrow.Author.Needs.{needs}
 use Rattle.rack.proofs.time_out.Statement.{statement}
 use Rattle.rack.proofs.time_out.Tie as tie
 
-enum-known-d : tie.Need-enum-known-d
-enum-known-d c = search needs
-
-code-requires : tie.Need-code-requires
-code-requires c κs = search needs
-
-enum-known-d-2 : tie.Need-enum-known-d-2
-enum-known-d-2 c = search needs
-
-number-requires : tie.Need-number-requires
-number-requires c κs = search needs
-
-code-requires-2 : tie.Need-code-requires-2
-code-requires-2 c κs = search needs
-
 returns : tie.Need-returns
 returns c =
     let d = c .before .before .before in
@@ -45,10 +30,10 @@ pub time-out-spec : {M : Type 1} → statement M
 time-out-spec =
     tie.close
     (tie.spec
-    enum-known-d
-    code-requires
-    enum-known-d-2
-    number-requires
-    code-requires-2
+    (λ c. search needs)
+    (λ c κs. search needs)
+    (λ c. search needs)
+    (λ c κs. search needs)
+    (λ c κs. search needs)
     returns
     returns-2)

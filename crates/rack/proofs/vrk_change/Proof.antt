@@ -12,38 +12,11 @@ use borrow.Author.Needs.{needs}
 use Rattle.rack.proofs.vrk_change.Statement.{statement}
 use Rattle.rack.proofs.vrk_change.Tie as tie
 
-scale-named-requires : tie.Need-scale-named-requires
-scale-named-requires c κs = search needs
-
-enum-known-to : tie.Need-enum-known-to
-enum-known-to c = search needs
-
-enum-told : tie.Need-enum-told
-enum-told c = search needs
-
 returns : tie.Need-returns
 returns c =
     let b = c .before .before in
     let a = b .before .before .args in
     change-unknown (a .time) (a .to-scale) (now (a .days)) (now (a .offsets)) (a .last) (sym (b .scale-named .ensures) ∙ c .enum-told .given .1)
-
-hand-requires : tie.Need-hand-requires
-hand-requires c κs = search needs
-
-enum-known-h : tie.Need-enum-known-h
-enum-known-h c = search needs
-
-change-requires : tie.Need-change-requires
-change-requires c κs = search needs
-
-time-out-requires : tie.Need-time-out-requires
-time-out-requires c κs = search needs
-
-enum-told-2 : tie.Need-enum-told-2
-enum-told-2 c = search needs
-
-code-requires : tie.Need-code-requires
-code-requires c κs = search needs
 
 returns-2 : tie.Need-returns-2
 returns-2 c =
@@ -76,15 +49,15 @@ pub vrk-change-spec : {M : Type 1} → statement M
 vrk-change-spec =
     tie.close
     (tie.spec
-    scale-named-requires
-    enum-known-to
-    enum-told
+    (λ c κs. search needs)
+    (λ c. search needs)
+    (λ c. search needs)
     returns
-    hand-requires
-    enum-known-h
-    change-requires
-    time-out-requires
-    enum-told-2
-    code-requires
+    (λ c κs. search needs)
+    (λ c. search needs)
+    (λ c κs. search needs)
+    (λ c κs. search needs)
+    (λ c. search needs)
+    (λ c κs. search needs)
     returns-2
     returns-3)

@@ -6,21 +6,6 @@ use borrow.Author.Needs.{needs}
 use Rattle.rack.proofs.vrk_decimal_read.Statement.{statement}
 use Rattle.rack.proofs.vrk_decimal_read.Tie as tie
 
-scale-named-requires : tie.Need-scale-named-requires
-scale-named-requires c κs = search needs
-
-enum-known-s : tie.Need-enum-known-s
-enum-known-s c = search needs
-
-read-requires : tie.Need-read-requires
-read-requires c κs = search needs
-
-time-out-requires : tie.Need-time-out-requires
-time-out-requires c κs = search needs
-
-enum-told : tie.Need-enum-told
-enum-told c = search needs
-
 returns : tie.Need-returns
 returns c =
     let r = c .before in
@@ -40,10 +25,10 @@ pub vrk-decimal-read-spec : {M : Type 1} → statement M
 vrk-decimal-read-spec =
     tie.close
     (tie.spec
-    scale-named-requires
-    enum-known-s
-    read-requires
-    time-out-requires
-    enum-told
+    (λ c κs. search needs)
+    (λ c. search needs)
+    (λ c κs. search needs)
+    (λ c κs. search needs)
+    (λ c. search needs)
     returns
     returns-2)

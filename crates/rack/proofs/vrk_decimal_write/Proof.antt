@@ -8,21 +8,6 @@ use borrow.Author.Needs.{needs}
 use Rattle.rack.proofs.vrk_decimal_write.Statement.{statement}
 use Rattle.rack.proofs.vrk_decimal_write.Tie as tie
 
-hand-requires : tie.Need-hand-requires
-hand-requires c κs = search needs
-
-enum-known-h : tie.Need-enum-known-h
-enum-known-h c = search needs
-
-write-requires : tie.Need-write-requires
-write-requires c κs = search needs
-
-decimal-out-requires : tie.Need-decimal-out-requires
-decimal-out-requires c κs = search needs
-
-enum-told : tie.Need-enum-told
-enum-told c = search needs
-
 returns : tie.Need-returns
 returns c =
     let w = c .before in
@@ -42,10 +27,10 @@ pub vrk-decimal-write-spec : {M : Type 1} → statement M
 vrk-decimal-write-spec =
     tie.close
     (tie.spec
-    hand-requires
-    enum-known-h
-    write-requires
-    decimal-out-requires
-    enum-told
+    (λ c κs. search needs)
+    (λ c. search needs)
+    (λ c κs. search needs)
+    (λ c κs. search needs)
+    (λ c. search needs)
     returns
     returns-2)

@@ -9,9 +9,6 @@ use borrow.Author.Needs.{needs}
 use Rattle.rack.proofs.vrk_list_accepted.Statement.{statement}
 use Rattle.rack.proofs.vrk_list_accepted.Tie as tie
 
-is-accepted-requires : tie.Need-is-accepted-requires
-is-accepted-requires c κs = search needs
-
 returns : tie.Need-returns
 returns c =
     let b = c .before in
@@ -29,4 +26,4 @@ returns-2 c =
     (sym (ap (λ (z : ℤ). accepted (now (a .days)) (now (a .offsets)) z) (toZ-ofZ (s .fits .last))) ∙ sym (b .is-accepted .ensures) ∙ c .if1 .left))
 
 pub vrk-list-accepted-spec : {M : Type 1} → statement M
-vrk-list-accepted-spec = tie.close (tie.spec is-accepted-requires returns returns-2)
+vrk-list-accepted-spec = tie.close (tie.spec (λ c κs. search needs) returns returns-2)

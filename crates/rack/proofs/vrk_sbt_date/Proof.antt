@@ -9,15 +9,6 @@ use borrow.Author.Needs.{needs}
 use Rattle.rack.proofs.vrk_sbt_date.Statement.{statement}
 use Rattle.rack.proofs.vrk_sbt_date.Tie as tie
 
-correlate-requires : tie.Need-correlate-requires
-correlate-requires c κs = search needs
-
-date-requires : tie.Need-date-requires
-date-requires c κs = search needs
-
-time-out-requires : tie.Need-time-out-requires
-time-out-requires c κs = search needs
-
 returns : tie.Need-returns
 unfolding sbtDate
 returns c =
@@ -31,4 +22,4 @@ returns c =
     ∙ ap₂ (λ (x : Correlation) (z : ℤ). dateOf x (a .tick) z (a .receipt-micro)) (k .correlate .ensures) (toZ-ofZ (s .fits .receipt-day)))
 
 pub vrk-sbt-date-spec : {M : Type 1} → statement M
-vrk-sbt-date-spec = tie.close (tie.spec correlate-requires date-requires time-out-requires returns)
+vrk-sbt-date-spec = tie.close (tie.spec (λ c κs. search needs) (λ c κs. search needs) (λ c κs. search needs) returns)

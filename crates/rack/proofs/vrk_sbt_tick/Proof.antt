@@ -8,24 +8,6 @@ use borrow.Author.Needs.{needs}
 use Rattle.rack.proofs.vrk_sbt_tick.Statement.{statement}
 use Rattle.rack.proofs.vrk_sbt_tick.Tie as tie
 
-hand-requires : tie.Need-hand-requires
-hand-requires c κs = search needs
-
-enum-known-h : tie.Need-enum-known-h
-enum-known-h c = search needs
-
-correlate-requires : tie.Need-correlate-requires
-correlate-requires c κs = search needs
-
-tick-of-requires : tie.Need-tick-of-requires
-tick-of-requires c κs = search needs
-
-tick-out-requires : tie.Need-tick-out-requires
-tick-out-requires c κs = search needs
-
-enum-told : tie.Need-enum-told
-enum-told c = search needs
-
 returns : tie.Need-returns
 returns c =
     let t = c .before in
@@ -47,11 +29,11 @@ pub vrk-sbt-tick-spec : {M : Type 1} → statement M
 vrk-sbt-tick-spec =
     tie.close
     (tie.spec
-    hand-requires
-    enum-known-h
-    correlate-requires
-    tick-of-requires
-    tick-out-requires
-    enum-told
+    (λ c κs. search needs)
+    (λ c. search needs)
+    (λ c κs. search needs)
+    (λ c κs. search needs)
+    (λ c κs. search needs)
+    (λ c. search needs)
     returns
     returns-2)

@@ -15,18 +15,6 @@ use borrow.Author.Needs.{needs}
 use Rattle.text_read.proofs.read.Statement.{statement}
 use Rattle.text_read.proofs.read.Tie as tie
 
-parse-requires : tie.Need-parse-requires
-parse-requires c κs = search needs
-
-enum-known-f : tie.Need-enum-known-f
-enum-known-f c = search needs
-
-enum-known-t : tie.Need-enum-known-t
-enum-known-t c = search needs
-
-lacks-list-requires : tie.Need-lacks-list-requires
-lacks-list-requires c κs = search needs
-
 returns : tie.Need-returns
 returns c =
     let l = c .before in
@@ -66,10 +54,10 @@ pub read-spec : {M : Type 1} → statement M
 read-spec =
     tie.close
     (tie.spec
-    parse-requires
-    enum-known-f
-    enum-known-t
-    lacks-list-requires
+    (λ c κs. search needs)
+    (λ c. search needs)
+    (λ c. search needs)
+    (λ c κs. search needs)
     returns
     read-time-requires
     returns-2

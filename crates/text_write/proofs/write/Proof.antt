@@ -15,12 +15,6 @@ use borrow.Author.Needs.{needs}
 use Rattle.text_write.proofs.write.Statement.{statement}
 use Rattle.text_write.proofs.write.Tie as tie
 
-take-requires : tie.Need-take-requires
-take-requires c κs = search needs
-
-lacks-list-requires : tie.Need-lacks-list-requires
-lacks-list-requires c κs = search needs
-
 returns : tie.Need-returns
 returns c =
     let l = c .before in
@@ -38,9 +32,6 @@ write-time-requires c κs =
     let x = l .before .before .before .before .args in
     not-lacking (usesIn (l .before .take .result)) (accepted (now (x .days)) (now (x .offsets)) (toZ w64 (ofZ w64 (x .last)))) (sym (l .lacks-list .ensures) ∙ e .if1 .left)
 
-same-length : tie.Need-same-length
-same-length c = search needs
-
 returns-2 : tie.Need-returns-2
 returns-2 c =
     let t = c .before .before .before .before .before .before in
@@ -53,4 +44,4 @@ returns-2 c =
 pub write-spec : {M : Type 1} → statement M
 write-spec =
     tie.close
-    (tie.spec take-requires lacks-list-requires returns write-time-requires same-length returns-2)
+    (tie.spec (λ c κs. search needs) (λ c κs. search needs) returns write-time-requires (λ c. search needs) returns-2)

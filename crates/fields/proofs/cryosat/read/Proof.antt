@@ -16,9 +16,6 @@ returns : tie.Need-returns
 unfolding read
 returns c = refuses empty (reading (now (c .before .before .args .b))) R.Length (here (ne-eqb _ 8 (c .if1 .taken)))
 
-front-requires : tie.Need-front-requires
-front-requires c κs = search needs
-
 returns-2 : tie.Need-returns-2
 unfolding read
 returns-2 c =
@@ -26,4 +23,4 @@ returns-2 c =
     ap slip (c .front .ensures) ∙ rw (eq-eqb (length s) 8 (c .before .if1 .left)) (front-is s (inLimits (part s 2 4) (part s 6 2)))
 
 pub read-spec : {M : Type 1} → statement M
-read-spec = tie.close (tie.spec returns front-requires returns-2)
+read-spec = tie.close (tie.spec returns (λ c κs. search needs) returns-2)

@@ -11,35 +11,11 @@ use borrow.Author.Needs.{needs}
 use Rattle.fields.proofs.cryosat.write.Statement.{statement}
 use Rattle.fields.proofs.cryosat.write.Tie as tie
 
-in-limits-requires : tie.Need-in-limits-requires
-in-limits-requires c κs = search needs
-
 returns : tie.Need-returns
 unfolding write
 returns c =
     let a = c .before .before .before .args in
     keeps (now (a .out)) (writing (a .f) (now (a .out))) R.Field (here (sym (c .before .in-limits .ensures) ∙ not-true _ (c .if1 .taken)))
-
-cast-place-two : tie.Need-cast-place-two
-cast-place-two c = search needs
-
-cast-place-two-2 : tie.Need-cast-place-two-2
-cast-place-two-2 c = search needs
-
-mul-place-two : tie.Need-mul-place-two
-mul-place-two c = search needs
-
-cast-place-two-3 : tie.Need-cast-place-two-3
-cast-place-two-3 c = search needs
-
-add-place-two : tie.Need-add-place-two
-add-place-two c = search needs
-
-place-two-requires : tie.Need-place-two-requires
-place-two-requires c κs = search needs
-
-same-length : tie.Need-same-length
-same-length c = search needs
 
 returns-2 : tie.Need-returns-2
 unfolding write
@@ -57,13 +33,13 @@ pub write-spec : {M : Type 1} → statement M
 write-spec =
     tie.close
     (tie.spec
-    in-limits-requires
+    (λ c κs. search needs)
     returns
-    cast-place-two
-    cast-place-two-2
-    mul-place-two
-    cast-place-two-3
-    add-place-two
-    place-two-requires
-    same-length
+    (λ c. search needs)
+    (λ c. search needs)
+    (λ c. search needs)
+    (λ c. search needs)
+    (λ c. search needs)
+    (λ c κs. search needs)
+    (λ c. search needs)
     returns-2)

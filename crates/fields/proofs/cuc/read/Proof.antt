@@ -13,18 +13,6 @@ returns : tie.Need-returns
 unfolding read
 returns c = refuses empty (reading (now (c .before .before .args .b))) R.Length (here (ne-eqb _ 6 (c .if1 .taken)))
 
-part-requires : tie.Need-part-requires
-part-requires c κs = search needs
-
-cast-t6 : tie.Need-cast-t6
-cast-t6 c = search needs
-
-part-requires-2 : tie.Need-part-requires-2
-part-requires-2 c κs = search needs
-
-cast-t8 : tie.Need-cast-t8
-cast-t8 c = search needs
-
 returns-2 : tie.Need-returns-2
 unfolding read
 returns-2 c =
@@ -33,4 +21,4 @@ returns-2 c =
     rw (c .before .part .ensures .0, c .part2 .ensures .0) (answers empty (reading s) (fieldsOf s) (next (eq-eqb _ 6 (l .if1 .left)) last))
 
 pub read-spec : {M : Type 1} → statement M
-read-spec = tie.close (tie.spec returns part-requires cast-t6 part-requires-2 cast-t8 returns-2)
+read-spec = tie.close (tie.spec returns (λ c κs. search needs) (λ c. search needs) (λ c κs. search needs) (λ c. search needs) returns-2)

@@ -14,9 +14,6 @@ returns : tie.Need-returns
 unfolding read
 returns c = refuses 0 (reading (now (c .before .before .args .b))) R.Length (here (ne-eqb _ 6 (c .if1 .taken)))
 
-part-requires : tie.Need-part-requires
-part-requires c κs = search needs
-
 returns-2 : tie.Need-returns-2
 unfolding read
 returns-2 c =
@@ -24,4 +21,4 @@ returns-2 c =
     rw (c .part .ensures .0) (answers 0 (reading s) (part s 0 6) (next (eq-eqb _ 6 (c .before .if1 .left)) last))
 
 pub read-spec : {M : Type 1} → statement M
-read-spec = tie.close (tie.spec returns part-requires returns-2)
+read-spec = tie.close (tie.spec returns (λ c κs. search needs) returns-2)

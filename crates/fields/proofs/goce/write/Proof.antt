@@ -18,12 +18,6 @@ returns : tie.Need-returns
 unfolding write
 returns c = let a = c .before .before .args in keeps (now (a .out)) (writing (a .count) (now (a .out))) R.Field (here (le-ltb (a .count) (2 ^ 48) (c .if1 .taken)))
 
-place-requires : tie.Need-place-requires
-place-requires c κs = search needs
-
-same-length : tie.Need-same-length
-same-length c = search needs
-
 returns-2 : tie.Need-returns-2
 unfolding write
 returns-2 c =
@@ -33,4 +27,4 @@ returns-2 c =
     p .place .ensures ∙ goes-on (now (a .out)) (placing (field 6 (a .count)) (now (a .out))) (ltb (a .count) (2 ^ 48)) 3 (lt-ltb (a .count) (2 ^ 48) (l .if1 .left))
 
 pub write-spec : {M : Type 1} → statement M
-write-spec = tie.close (tie.spec returns place-requires same-length returns-2)
+write-spec = tie.close (tie.spec returns (λ c κs. search needs) (λ c. search needs) returns-2)

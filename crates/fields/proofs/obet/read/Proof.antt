@@ -15,18 +15,12 @@ returns : tie.Need-returns
 unfolding read
 returns c = refuses 0 (reading (now (c .before .before .args .b))) R.Length (here (ne-eqb _ 8 (c .if1 .taken)))
 
-part-requires : tie.Need-part-requires
-part-requires c κs = search needs
-
 returns-2 : tie.Need-returns-2
 unfolding read
 returns-2 c =
     let l = c .before .before in
     let s = now (l .before .before .args .b) in
     refuses 0 (reading s) R.Marker (later (eq-eqb _ 8 (l .if1 .left)) (here (ne-eqb (part s 0 1) marker (λ e. c .if2 .taken (c .before .part .ensures .0 ∙ e)))))
-
-part-requires-2 : tie.Need-part-requires-2
-part-requires-2 c κs = search needs
 
 returns-3 : tie.Need-returns-3
 unfolding read
@@ -39,4 +33,4 @@ returns-3 c =
     (next (eq-eqb _ 8 (l .if1 .left)) (next (eq-eqb (part s 0 1) marker (sym (p .part .ensures .0) ∙ c .before .if2 .left)) last)))
 
 pub read-spec : {M : Type 1} → statement M
-read-spec = tie.close (tie.spec returns part-requires returns-2 part-requires-2 returns-3)
+read-spec = tie.close (tie.spec returns (λ c κs. search needs) returns-2 (λ c κs. search needs) returns-3)

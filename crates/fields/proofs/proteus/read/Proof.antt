@@ -16,9 +16,6 @@ returns : tie.Need-returns
 unfolding read
 returns c = refuses empty (reading (now (c .before .before .args .b))) R.Length (here (ne-eqb _ 8 (c .if1 .taken)))
 
-part-requires : tie.Need-part-requires
-part-requires c κs = search needs
-
 returns-2 : tie.Need-returns-2
 unfolding read
 returns-2 c =
@@ -26,9 +23,6 @@ returns-2 c =
     let s = now (l .before .before .args .b) in
     refuses empty (reading s) R.Marker
     (later (eq-eqb _ 8 (l .if1 .left)) (here (ne-eqb (zerosIn (part s 0 2)) 0 (λ e. c .if2 .taken (ap zerosIn (c .before .part .ensures .0) ∙ e)))))
-
-part-requires-2 : tie.Need-part-requires-2
-part-requires-2 c κs = search needs
 
 returns-3 : tie.Need-returns-3
 unfolding read
@@ -41,18 +35,6 @@ returns-3 c =
     (later (eq-eqb _ 8 (l .if1 .left))
     (later (eq-eqb (zerosIn (part s 0 2)) 0 (ap zerosIn (sym (e .before .part .ensures .0)) ∙ e .if2 .left))
     (here (lt-leb (part s 2 4) 604799 (omega arith)))))
-
-part-requires-3 : tie.Need-part-requires-3
-part-requires-3 c κs = search needs
-
-cast-t12 : tie.Need-cast-t12
-cast-t12 c = search needs
-
-cast-t13 : tie.Need-cast-t13
-cast-t13 c = search needs
-
-cast-t14 : tie.Need-cast-t14
-cast-t14 c = search needs
 
 returns-4 : tie.Need-returns-4
 unfolding read
@@ -74,12 +56,12 @@ read-spec =
     tie.close
     (tie.spec
     returns
-    part-requires
+    (λ c κs. search needs)
     returns-2
-    part-requires-2
+    (λ c κs. search needs)
     returns-3
-    part-requires-3
-    cast-t12
-    cast-t13
-    cast-t14
+    (λ c κs. search needs)
+    (λ c. search needs)
+    (λ c. search needs)
+    (λ c. search needs)
     returns-4)

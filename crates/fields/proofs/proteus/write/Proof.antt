@@ -10,12 +10,6 @@ use borrow.Author.Needs.{needs}
 use Rattle.fields.proofs.proteus.write.Statement.{statement}
 use Rattle.fields.proofs.proteus.write.Tie as tie
 
-cast-week : tie.Need-cast-week
-cast-week c = search needs
-
-cast-second : tie.Need-cast-second
-cast-second c = search needs
-
 returns : tie.Need-returns
 unfolding write
 returns c =
@@ -29,24 +23,6 @@ returns-2 c =
     let a = l .before .before .before .before .args in
     keeps (now (a .out)) (writing (a .f) (now (a .out))) R.Field
     (here (over-second _ _ (lt-ltb (a .f .week) 4096 (l .if1 .left)) (lt-leb (a .f .second) 604799 (c .if2 .taken))))
-
-head-requires : tie.Need-head-requires
-head-requires c κs = search needs
-
-mul-place-two : tie.Need-mul-place-two
-mul-place-two c = search needs
-
-cast-place-two : tie.Need-cast-place-two
-cast-place-two c = search needs
-
-add-place-two : tie.Need-add-place-two
-add-place-two c = search needs
-
-place-two-requires : tie.Need-place-two-requires
-place-two-requires c κs = search needs
-
-same-length : tie.Need-same-length
-same-length c = search needs
 
 returns-3 : tie.Need-returns-3
 unfolding write
@@ -65,14 +41,14 @@ pub write-spec : {M : Type 1} → statement M
 write-spec =
     tie.close
     (tie.spec
-    cast-week
-    cast-second
+    (λ c. search needs)
+    (λ c. search needs)
     returns
     returns-2
-    head-requires
-    mul-place-two
-    cast-place-two
-    add-place-two
-    place-two-requires
-    same-length
+    (λ c κs. search needs)
+    (λ c. search needs)
+    (λ c. search needs)
+    (λ c. search needs)
+    (λ c κs. search needs)
+    (λ c. search needs)
     returns-3)

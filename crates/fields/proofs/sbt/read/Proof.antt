@@ -13,12 +13,6 @@ returns : tie.Need-returns
 unfolding read
 returns c = refuses empty (reading (now (c .before .before .args .b))) R.Length (here (ne-eqb _ 4 (c .if1 .taken)))
 
-part-requires : tie.Need-part-requires
-part-requires c κs = search needs
-
-cast-t6 : tie.Need-cast-t6
-cast-t6 c = search needs
-
 returns-2 : tie.Need-returns-2
 unfolding read
 returns-2 c =
@@ -26,4 +20,4 @@ returns-2 c =
     rw (c .part .ensures .0) (answers empty (reading s) (tickOf s) (next (eq-eqb _ 4 (c .before .if1 .left)) last))
 
 pub read-spec : {M : Type 1} → statement M
-read-spec = tie.close (tie.spec returns part-requires cast-t6 returns-2)
+read-spec = tie.close (tie.spec returns (λ c κs. search needs) (λ c. search needs) returns-2)

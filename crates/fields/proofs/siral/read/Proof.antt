@@ -16,21 +16,6 @@ returns : tie.Need-returns
 unfolding read
 returns c = refuses empty (reading (now (c .before .before .args .b))) R.Length (here (ne-eqb _ 10 (c .if1 .taken)))
 
-front-requires : tie.Need-front-requires
-front-requires c κs = search needs
-
-enum-known-f : tie.Need-enum-known-f
-enum-known-f c = search needs
-
-part-requires : tie.Need-part-requires
-part-requires c κs = search needs
-
-cast-t10 : tie.Need-cast-t10
-cast-t10 c = search needs
-
-enum-known-r : tie.Need-enum-known-r
-enum-known-r c = search needs
-
 returns-2 : tie.Need-returns-2
 unfolding read
 returns-2 c =
@@ -54,10 +39,10 @@ read-spec =
     tie.close
     (tie.spec
     returns
-    front-requires
-    enum-known-f
-    part-requires
-    cast-t10
-    enum-known-r
+    (λ c κs. search needs)
+    (λ c. search needs)
+    (λ c κs. search needs)
+    (λ c. search needs)
+    (λ c. search needs)
     returns-2
     returns-3)

@@ -9,21 +9,6 @@ use borrow.Author.Needs.{needs}
 use Rattle.layouts.proofs.cryosat.read.Statement.{statement}
 use Rattle.layouts.proofs.cryosat.read.Tie as tie
 
-read-requires : tie.Need-read-requires
-read-requires c κs = search needs
-
-enum-known-f : tie.Need-enum-known-f
-enum-known-f c = search needs
-
-micros-requires : tie.Need-micros-requires
-micros-requires c κs = search needs
-
-since-requires : tie.Need-since-requires
-since-requires c κs = search needs
-
-enum-known-r : tie.Need-enum-known-r
-enum-known-r c = search needs
-
 returns : tie.Need-returns
 unfolding read fieldsRead
 returns c =
@@ -46,10 +31,10 @@ pub read-spec : {M : Type 1} → statement M
 read-spec =
     tie.close
     (tie.spec
-    read-requires
-    enum-known-f
-    micros-requires
-    since-requires
-    enum-known-r
+    (λ c κs. search needs)
+    (λ c. search needs)
+    (λ c κs. search needs)
+    (λ c κs. search needs)
+    (λ c. search needs)
     returns
     returns-2)

@@ -8,21 +8,12 @@ use borrow.Author.Needs.{needs}
 use Rattle.layouts.proofs.cryosat.since_2000.Statement.{statement}
 use Rattle.layouts.proofs.cryosat.since_2000.Tie as tie
 
-due-requires : tie.Need-due-requires
-due-requires c κs = search needs
-
-enum-known-n : tie.Need-enum-known-n
-enum-known-n c = search needs
-
 -- the count that was taken
 known : (c : tie.After-n) → HeldIn S.Tai (c .before .before .before .args .h) (c .n .given .0 .0)
 known c = held-in S.Tai (c .before .before .before .args .h) (c .n .given .0 .0) (sym (ap countSlip (c .n .given .1)) ∙ c .before .before .due .ensures)
 
 returns : tie.Need-returns
 returns c = let k = c .before .before in cryosat-early (k .before .before .before .args .h) (k .n .given .0 .0) (known k) (c .if1 .taken)
-
-enum-known-r : tie.Need-enum-known-r
-enum-known-r c = search needs
 
 returns-2 : tie.Need-returns-2
 returns-2 c = let k = c .before .before in cryosat-at (k .before .before .before .args .h) (k .n .given .0 .0) (known k) (c .if1 .left)
@@ -35,4 +26,4 @@ returns-3 c =
 
 pub since-2000-spec : {M : Type 1} → statement M
 since-2000-spec =
-    tie.close (tie.spec due-requires enum-known-n returns enum-known-r returns-2 returns-3)
+    tie.close (tie.spec (λ c κs. search needs) (λ c. search needs) returns (λ c. search needs) returns-2 returns-3)

@@ -14,27 +14,12 @@ use borrow.Author.Needs.{needs}
 use Rattle.layouts.proofs.cryosat.write.Statement.{statement}
 use Rattle.layouts.proofs.cryosat.write.Tie as tie
 
-since-2000-requires : tie.Need-since-2000-requires
-since-2000-requires c κs = search needs
-
-enum-known-n : tie.Need-enum-known-n
-enum-known-n c = search needs
-
 -- the microseconds that were taken
 known : (c : tie.After-n) → slipOf 0 (some (c .n .given .0 .0)) ≡ valued 0 (outcome (since2000 (c .before .before .before .before .args .h)))
 known c = sym (ap countSlip (c .n .given .1)) ∙ c .before .before .since-2000 .ensures
 
 fields-at-requires : tie.Need-fields-at-requires
 fields-at-requires c κs = let k = c .before in cryosat-below (k .before .before .before .before .args .h) (k .n .given .0 .0) (known k)
-
-write-requires : tie.Need-write-requires
-write-requires c κs = search needs
-
-enum-known-r : tie.Need-enum-known-r
-enum-known-r c = search needs
-
-same-length : tie.Need-same-length
-same-length c = search needs
 
 returns : tie.Need-returns
 unfolding write fieldsWrite
@@ -61,11 +46,11 @@ pub write-spec : {M : Type 1} → statement M
 write-spec =
     tie.close
     (tie.spec
-    since-2000-requires
-    enum-known-n
+    (λ c κs. search needs)
+    (λ c. search needs)
     fields-at-requires
-    write-requires
-    enum-known-r
-    same-length
+    (λ c κs. search needs)
+    (λ c. search needs)
+    (λ c. search needs)
     returns
     returns-2)

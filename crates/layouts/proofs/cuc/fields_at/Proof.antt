@@ -6,14 +6,8 @@ use borrow.Author.Needs.{needs}
 use Rattle.layouts.proofs.cuc.fields_at.Statement.{statement}
 use Rattle.layouts.proofs.cuc.fields_at.Tie as tie
 
-cast-t3 : tie.Need-cast-t3
-cast-t3 c = search needs
-
-fraction-at-requires : tie.Need-fraction-at-requires
-fraction-at-requires c κs = search needs
-
 returns : tie.Need-returns
 returns c = ap {B = Fields} (λ (x : ℕ). record { seconds = c .before .args .n / 1000000; fraction = x }) (c .fraction-at .ensures)
 
 pub fields-at-spec : {M : Type 1} → statement M
-fields-at-spec = tie.close (tie.spec cast-t3 fraction-at-requires returns)
+fields-at-spec = tie.close (tie.spec (λ c. search needs) (λ c κs. search needs) returns)

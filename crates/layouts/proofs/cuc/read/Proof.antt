@@ -10,30 +10,6 @@ use borrow.Author.Needs.{needs}
 use Rattle.layouts.proofs.cuc.read.Statement.{statement}
 use Rattle.layouts.proofs.cuc.read.Tie as tie
 
-read-requires : tie.Need-read-requires
-read-requires c κs = search needs
-
-enum-known-f : tie.Need-enum-known-f
-enum-known-f c = search needs
-
-cast-n : tie.Need-cast-n
-cast-n c = search needs
-
-mul-n : tie.Need-mul-n
-mul-n c = search needs
-
-fraction-micros-requires : tie.Need-fraction-micros-requires
-fraction-micros-requires c κs = search needs
-
-add-n : tie.Need-add-n
-add-n c = search needs
-
-since-requires : tie.Need-since-requires
-since-requires c κs = search needs
-
-enum-known-r : tie.Need-enum-known-r
-enum-known-r c = search needs
-
 returns : tie.Need-returns
 unfolding read fieldsRead
 returns c =
@@ -56,13 +32,13 @@ pub read-spec : {M : Type 1} → statement M
 read-spec =
     tie.close
     (tie.spec
-    read-requires
-    enum-known-f
-    cast-n
-    mul-n
-    fraction-micros-requires
-    add-n
-    since-requires
-    enum-known-r
+    (λ c κs. search needs)
+    (λ c. search needs)
+    (λ c. search needs)
+    (λ c. search needs)
+    (λ c κs. search needs)
+    (λ c. search needs)
+    (λ c κs. search needs)
+    (λ c. search needs)
     returns
     returns-2)

@@ -17,12 +17,6 @@ use borrow.Author.Needs.{needs}
 use Rattle.layouts.proofs.cuc.write.Statement.{statement}
 use Rattle.layouts.proofs.cuc.write.Tie as tie
 
-due-requires : tie.Need-due-requires
-due-requires c κs = search needs
-
-enum-known-n : tie.Need-enum-known-n
-enum-known-n c = search needs
-
 -- the count that was taken
 taken : (c : tie.After-n) → slipOf 0 (some (c .n .given .0 .0)) ≡ valued 0 (outcome (dueIn S.Gps (c .before .before .before .before .args .h)))
 taken c = sym (ap countSlip (c .n .given .1)) ∙ c .before .before .due .ensures
@@ -35,15 +29,6 @@ sub-fields-at c = let k = c .before in cuc-from (k .before .before .before .befo
 
 fields-at-requires : tie.Need-fields-at-requires
 fields-at-requires c κs = let k = c .before in cuc-below (k .before .before .before .before .args .h) (k .n .given .0 .0) (known k)
-
-write-requires : tie.Need-write-requires
-write-requires c κs = search needs
-
-enum-known-r : tie.Need-enum-known-r
-enum-known-r c = search needs
-
-same-length : tie.Need-same-length
-same-length c = search needs
 
 returns : tie.Need-returns
 unfolding write fieldsWrite
@@ -71,12 +56,12 @@ pub write-spec : {M : Type 1} → statement M
 write-spec =
     tie.close
     (tie.spec
-    due-requires
-    enum-known-n
+    (λ c κs. search needs)
+    (λ c. search needs)
     sub-fields-at
     fields-at-requires
-    write-requires
-    enum-known-r
-    same-length
+    (λ c κs. search needs)
+    (λ c. search needs)
+    (λ c. search needs)
     returns
     returns-2)

@@ -6,19 +6,10 @@ use borrow.Author.Needs.{needs}
 use Rattle.layouts.proofs.proteus.fields_at.Statement.{statement}
 use Rattle.layouts.proofs.proteus.fields_at.Tie as tie
 
-cast-t4 : tie.Need-cast-t4
-cast-t4 c = search needs
-
-cast-t7 : tie.Need-cast-t7
-cast-t7 c = search needs
-
-fraction-at-requires : tie.Need-fraction-at-requires
-fraction-at-requires c κs = search needs
-
 returns : tie.Need-returns
 returns c =
     let a = c .before .args in
     ap {B = Fields} (λ (x : ℕ). record { week = a .n / 604800000000; h3 = a .h3; second = a .n / 1000000 % 604800; fraction = x }) (c .fraction-at .ensures)
 
 pub fields-at-spec : {M : Type 1} → statement M
-fields-at-spec = tie.close (tie.spec cast-t4 cast-t7 fraction-at-requires returns)
+fields-at-spec = tie.close (tie.spec (λ c. search needs) (λ c. search needs) (λ c κs. search needs) returns)

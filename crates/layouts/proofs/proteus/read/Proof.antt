@@ -13,45 +13,6 @@ use borrow.Author.Needs.{needs}
 use Rattle.layouts.proofs.proteus.read.Statement.{statement}
 use Rattle.layouts.proofs.proteus.read.Tie as tie
 
-read-requires : tie.Need-read-requires
-read-requires c κs = search needs
-
-enum-known-f : tie.Need-enum-known-f
-enum-known-f c = search needs
-
-cast-seconds : tie.Need-cast-seconds
-cast-seconds c = search needs
-
-mul-seconds : tie.Need-mul-seconds
-mul-seconds c = search needs
-
-cast-seconds-2 : tie.Need-cast-seconds-2
-cast-seconds-2 c = search needs
-
-add-seconds : tie.Need-add-seconds
-add-seconds c = search needs
-
-mul-n : tie.Need-mul-n
-mul-n c = search needs
-
-fraction-micros-requires : tie.Need-fraction-micros-requires
-fraction-micros-requires c κs = search needs
-
-add-n : tie.Need-add-n
-add-n c = search needs
-
-since-requires : tie.Need-since-requires
-since-requires c κs = search needs
-
-enum-known-r : tie.Need-enum-known-r
-enum-known-r c = search needs
-
-enum-known-r-2 : tie.Need-enum-known-r-2
-enum-known-r-2 c = search needs
-
-enum-known-r-3 : tie.Need-enum-known-r-3
-enum-known-r-3 c = search needs
-
 -- the fields that were read, and their time
 known : (c : tie.After-f) → slipOf empty (some (c .f .given .0 .0)) ≡ valued empty (outcome (reading (now (c .before .before .before .before .args .b))))
 unfolding fieldsRead
@@ -89,19 +50,19 @@ pub read-spec : {M : Type 1} → statement M
 read-spec =
     tie.close
     (tie.spec
-    read-requires
-    enum-known-f
-    cast-seconds
-    mul-seconds
-    cast-seconds-2
-    add-seconds
-    mul-n
-    fraction-micros-requires
-    add-n
-    since-requires
-    enum-known-r
-    enum-known-r-2
-    enum-known-r-3
+    (λ c κs. search needs)
+    (λ c. search needs)
+    (λ c. search needs)
+    (λ c. search needs)
+    (λ c. search needs)
+    (λ c. search needs)
+    (λ c. search needs)
+    (λ c κs. search needs)
+    (λ c. search needs)
+    (λ c κs. search needs)
+    (λ c. search needs)
+    (λ c. search needs)
+    (λ c. search needs)
     returns
     returns-2
     returns-3)

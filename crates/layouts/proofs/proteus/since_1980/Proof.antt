@@ -8,12 +8,6 @@ use borrow.Author.Needs.{needs}
 use Rattle.layouts.proofs.proteus.since_1980.Statement.{statement}
 use Rattle.layouts.proofs.proteus.since_1980.Tie as tie
 
-due-requires : tie.Need-due-requires
-due-requires c κs = search needs
-
-enum-known-n : tie.Need-enum-known-n
-enum-known-n c = search needs
-
 -- the count that was taken
 known : (c : tie.After-n) → HeldIn S.Utc (c .before .before .before .args .h) (c .n .given .0 .0)
 known c = held-in S.Utc (c .before .before .before .args .h) (c .n .given .0 .0) (sym (ap countSlip (c .n .given .1)) ∙ c .before .before .due .ensures)
@@ -26,15 +20,6 @@ returns-2 c = let k = c .before .before .before in proteus-late (k .before .befo
 
 returns-3 : tie.Need-returns-3
 returns-3 c = let k = c .before .before .before .before in proteus-sixty (k .before .before .before .args .h) (k .n .given .0 .0) (known k) (c .if3 .taken)
-
-mul-t14 : tie.Need-mul-t14
-mul-t14 c = search needs
-
-add-t15 : tie.Need-add-t15
-add-t15 c = search needs
-
-enum-known-r : tie.Need-enum-known-r
-enum-known-r c = search needs
 
 returns-4 : tie.Need-returns-4
 returns-4 c =
@@ -52,13 +37,13 @@ pub since-1980-spec : {M : Type 1} → statement M
 since-1980-spec =
     tie.close
     (tie.spec
-    due-requires
-    enum-known-n
+    (λ c κs. search needs)
+    (λ c. search needs)
     returns
     returns-2
     returns-3
-    mul-t14
-    add-t15
-    enum-known-r
+    (λ c. search needs)
+    (λ c. search needs)
+    (λ c. search needs)
     returns-4
     returns-5)

@@ -6,12 +6,9 @@ use borrow.Author.Needs.{needs}
 use Rattle.layouts.proofs.siral.fields_at.Statement.{statement}
 use Rattle.layouts.proofs.siral.fields_at.Tie as tie
 
-fields-at-requires : tie.Need-fields-at-requires
-fields-at-requires c κs = search needs
-
 returns : tie.Need-returns
 returns c =
     ap {B = Fields} (λ (f : Cryosat.Fields). record { day = f .day; millisecond = f .millisecond; microsecond = f .microsecond; extra = 0 }) (c .fields-at .ensures)
 
 pub fields-at-spec : {M : Type 1} → statement M
-fields-at-spec = tie.close (tie.spec fields-at-requires returns)
+fields-at-spec = tie.close (tie.spec (λ c κs. search needs) returns)

@@ -19,12 +19,6 @@ abbrev μ-loop : tie.MeasureT-loop
 loop-holds : tie.Need-loop-holds Inv-loop μ-loop
 loop-holds c = (omega arith, step-start (c .args .days .now) (dayAt (c .args .place)))
 
-sub-k : tie.Need-sub-k Inv-loop μ-loop
-sub-k c = omega arith
-
-step-day-requires : tie.Need-step-day-requires Inv-loop μ-loop
-step-day-requires c κs = omega arith
-
 returns : tie.Need-returns Inv-loop μ-loop
 returns c =
     let l = c .before .before .before in
@@ -33,9 +27,6 @@ returns c =
     step-here (a .days .now) (l .loop .i) (c .before .before .loop-test .taken) (l .loop .inv .0) (a .place) (l .before .pre .0) (l .before .pre .1)
     (sym r ∙ c .if1 .taken)
     ∙ l .loop .inv .1
-
-loop-less : tie.Need-loop-less Inv-loop μ-loop
-loop-less c = omega arith
 
 loop-again : tie.Need-loop-again Inv-loop μ-loop
 loop-again c =
@@ -61,9 +52,9 @@ is-step-spec =
     Inv-loop
     μ-loop
     loop-holds
-    sub-k
-    step-day-requires
+    (λ c. omega arith)
+    (λ c κs. omega arith)
     returns
-    loop-less
+    (λ c. omega arith)
     loop-again
     returns-2)

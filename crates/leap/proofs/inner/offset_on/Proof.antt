@@ -23,15 +23,6 @@ loop-holds c =
     let a = c .before .args in
     (omega arith, start (onOrBefore (dayAt (a .place))) 0 (a .days .now) (a .offsets .now) (c .before .pre .0 .even))
 
-sub-k : tie.Need-sub-k Inv-loop μ-loop
-sub-k c = omega arith
-
-step-day-requires : tie.Need-step-day-requires Inv-loop μ-loop
-step-day-requires c κs = omega arith
-
-mul-result : tie.Need-mul-result Inv-loop μ-loop
-mul-result c = search needs
-
 shared-slice-read-result : tie.Need-shared-slice-read-result Inv-loop μ-loop
 shared-slice-read-result c = let l = c .before .before .before .before in omega (arith, l .before .before .pre .0 .even)
 
@@ -44,9 +35,6 @@ returns c =
     offset-here (a .days .now) (a .offsets .now) (b .pre .0) (l .loop .i) (c .before .before .before .loop-test .taken) (l .loop .inv .0) (a .place) (b .pre .1)
     (subst (λ (n : ℕ). n ≤ a .place) r (c .before .if1 .taken))
     ∙ l .loop .inv .1
-
-loop-less : tie.Need-loop-less Inv-loop μ-loop
-loop-less c = omega arith
 
 loop-again : tie.Need-loop-again Inv-loop μ-loop
 loop-again c =
@@ -73,11 +61,11 @@ offset-on-spec =
     Inv-loop
     μ-loop
     loop-holds
-    sub-k
-    step-day-requires
-    mul-result
+    (λ c. omega arith)
+    (λ c κs. omega arith)
+    (λ c. search needs)
     shared-slice-read-result
     returns
-    loop-less
+    (λ c. omega arith)
     loop-again
     returns-2)

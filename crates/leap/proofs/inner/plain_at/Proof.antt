@@ -6,22 +6,10 @@ use borrow.Author.Needs.{needs}
 use Rattle.leap.proofs.inner.plain_at.Statement.{statement}
 use Rattle.leap.proofs.inner.plain_at.Tie as tie
 
-mul-u : tie.Need-mul-u
-mul-u c = search needs
-
-sub-u : tie.Need-sub-u
-sub-u c = search needs
-
-mul-t5 : tie.Need-mul-t5
-mul-t5 c = search needs
-
-add-t7 : tie.Need-add-t7
-add-t7 c = search needs
-
 returns : tie.Need-returns
 returns c =
     let u = c .args .t - c .args .p * 1000000 in
     rw (day-part 86401000000 (u / 86400000000) (u % 86400000000) (omega arith), micro-part 86401000000 (u / 86400000000) (u % 86400000000) (omega arith))
 
 pub plain-at-spec : {M : Type 1} → statement M
-plain-at-spec = tie.close (tie.spec mul-u sub-u mul-t5 add-t7 returns)
+plain-at-spec = tie.close (tie.spec (λ c. search needs) (λ c. search needs) (λ c. search needs) (λ c. search needs) returns)

@@ -7,27 +7,6 @@ use borrow.Author.Needs.{needs}
 use Rattle.leap.proofs.inner.sixty_at.Statement.{statement}
 use Rattle.leap.proofs.inner.sixty_at.Tie as tie
 
-sub-u : tie.Need-sub-u
-sub-u c = search needs
-
-mul-u : tie.Need-mul-u
-mul-u c = search needs
-
-sub-u-2 : tie.Need-sub-u-2
-sub-u-2 c = search needs
-
-sub-t5 : tie.Need-sub-t5
-sub-t5 c = search needs
-
-mul-t6 : tie.Need-mul-t6
-mul-t6 c = search needs
-
-add-t7 : tie.Need-add-t7
-add-t7 c = search needs
-
-add-t9 : tie.Need-add-t9
-add-t9 c = search needs
-
 returns : tie.Need-returns
 returns c =
     let a = c .args in
@@ -38,4 +17,4 @@ returns c =
     rw (e, day-part 86401000000 (a .s - 1) v h, micro-part 86401000000 (a .s - 1) v h)
 
 pub sixty-at-spec : {M : Type 1} → statement M
-sixty-at-spec = tie.close (tie.spec sub-u mul-u sub-u-2 sub-t5 mul-t6 add-t7 add-t9 returns)
+sixty-at-spec = tie.close (tie.spec (λ c. search needs) (λ c. search needs) (λ c. search needs) (λ c. search needs) (λ c. search needs) (λ c. search needs) (λ c. search needs) returns)

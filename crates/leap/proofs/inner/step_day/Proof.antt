@@ -9,15 +9,6 @@ use borrow.Author.Needs.{needs}
 use Rattle.leap.proofs.inner.step_day.Statement.{statement}
 use Rattle.leap.proofs.inner.step_day.Tie as tie
 
-mul-place-of-day : tie.Need-mul-place-of-day
-mul-place-of-day c = search needs
-
-shared-slice-copy-out-place-of-day : tie.Need-shared-slice-copy-out-place-of-day
-shared-slice-copy-out-place-of-day c = search needs
-
-place-of-day-requires : tie.Need-place-of-day-requires
-place-of-day-requires c κs = search needs
-
 returns : tie.Need-returns
 returns c =
     let a = c .before .before .args in
@@ -27,4 +18,4 @@ returns c =
 pub step-day-spec : {M : Type 1} → statement M
 step-day-spec =
     tie.close
-    (tie.spec mul-place-of-day shared-slice-copy-out-place-of-day place-of-day-requires returns)
+    (tie.spec (λ c. search needs) (λ c. search needs) (λ c κs. search needs) returns)

@@ -27,15 +27,6 @@ loop-holds c =
     let n = a .t .0 in
     (omega arith, start (begun (microsAt n)) (plain 10 (microsAt n)) (a .days .now) (a .offsets .now) (b .pre .0 .even))
 
-sub-k : tie.Need-sub-k Inv-loop μ-loop
-sub-k c = omega arith
-
-step-day-requires : tie.Need-step-day-requires Inv-loop μ-loop
-step-day-requires c κs = omega arith
-
-mul-p : tie.Need-mul-p Inv-loop μ-loop
-mul-p c = search needs
-
 shared-slice-read-p : tie.Need-shared-slice-read-p Inv-loop μ-loop
 shared-slice-read-p c = let l = c .before .before .before in omega (arith, l .before .before .pre .0 .even)
 
@@ -109,9 +100,6 @@ returns-2 c =
     (omega (arith, f .is, c .before .before .if1 .left)) (omega (arith, f .is, f .least, c .before .if2 .taken))
     ∙ l .loop .inv .1
 
-loop-less : tie.Need-loop-less Inv-loop μ-loop
-loop-less c = omega arith
-
 loop-again : tie.Need-loop-again Inv-loop μ-loop
 loop-again c =
     let k = c .before .before in
@@ -146,9 +134,9 @@ utc-at-spec =
     Inv-loop
     μ-loop
     loop-holds
-    sub-k
-    step-day-requires
-    mul-p
+    (λ c. omega arith)
+    (λ c κs. omega arith)
+    (λ c. search needs)
     shared-slice-read-p
     mul-start
     mul-start-2
@@ -158,7 +146,7 @@ utc-at-spec =
     add-if2
     sixty-at-requires
     returns-2
-    loop-less
+    (λ c. omega arith)
     loop-again
     plain-at-requires-2
     returns-3)

@@ -9,15 +9,6 @@ use borrow.Author.Needs.{needs}
 use Rattle.rack.proofs.bytes.count_out.Statement.{statement}
 use Rattle.rack.proofs.bytes.count_out.Tie as tie
 
-enum-known-c : tie.Need-enum-known-c
-enum-known-c c = search needs
-
-enum-known-c-2 : tie.Need-enum-known-c-2
-enum-known-c-2 c = search needs
-
-number-requires : tie.Need-number-requires
-number-requires c κs = search needs
-
 returns : tie.Need-returns
 returns c = sym (ap (λ (x : Counting). countOut (countSlip x)) (c .before .c .given .1))
 
@@ -27,4 +18,4 @@ returns-2 c =
     ∙ sym (ap (λ (x : Counting). countOut (countSlip x)) (c .before .before .c2 .given .1))
 
 pub count-out-spec : {M : Type 1} → statement M
-count-out-spec = tie.close (tie.spec enum-known-c enum-known-c-2 number-requires returns returns-2)
+count-out-spec = tie.close (tie.spec (λ c. search needs) (λ c. search needs) (λ c κs. search needs) returns returns-2)

@@ -5,14 +5,8 @@ use borrow.Author.Needs.{needs}
 use Rattle.rack.proofs.bytes.vrk_cryosat_read.Statement.{statement}
 use Rattle.rack.proofs.bytes.vrk_cryosat_read.Tie as tie
 
-read-requires : tie.Need-read-requires
-read-requires c κs = search needs
-
-time-out-requires : tie.Need-time-out-requires
-time-out-requires c κs = search needs
-
 returns : tie.Need-returns
 returns c = c .time-out .ensures ∙ ap timeOut (c .before .read .ensures)
 
 pub vrk-cryosat-read-spec : {M : Type 1} → statement M
-vrk-cryosat-read-spec = tie.close (tie.spec read-requires time-out-requires returns)
+vrk-cryosat-read-spec = tie.close (tie.spec (λ c κs. search needs) (λ c κs. search needs) returns)

@@ -5,14 +5,8 @@ use borrow.Author.Needs.{needs}
 use Rattle.rack.proofs.bytes.vrk_goce_read.Statement.{statement}
 use Rattle.rack.proofs.bytes.vrk_goce_read.Tie as tie
 
-read-requires : tie.Need-read-requires
-read-requires c κs = search needs
-
-count-out-requires : tie.Need-count-out-requires
-count-out-requires c κs = search needs
-
 returns : tie.Need-returns
 returns c = c .count-out .ensures ∙ ap countOut (c .before .read .ensures)
 
 pub vrk-goce-read-spec : {M : Type 1} → statement M
-vrk-goce-read-spec = tie.close (tie.spec read-requires count-out-requires returns)
+vrk-goce-read-spec = tie.close (tie.spec (λ c κs. search needs) (λ c κs. search needs) returns)

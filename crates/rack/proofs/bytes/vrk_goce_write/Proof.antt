@@ -4,17 +4,8 @@ use borrow.Author.Needs.{needs}
 use Rattle.rack.proofs.bytes.vrk_goce_write.Statement.{statement}
 use Rattle.rack.proofs.bytes.vrk_goce_write.Tie as tie
 
-write-requires : tie.Need-write-requires
-write-requires c κs = search needs
-
-written-out-requires : tie.Need-written-out-requires
-written-out-requires c κs = search needs
-
-same-length : tie.Need-same-length
-same-length c = search needs
-
 returns : tie.Need-returns
 returns c = let w = c .before .before .before in c .written-out .ensures (w .write .last .1 .0) ∙ w .write .ensures
 
 pub vrk-goce-write-spec : {M : Type 1} → statement M
-vrk-goce-write-spec = tie.close (tie.spec write-requires written-out-requires same-length returns)
+vrk-goce-write-spec = tie.close (tie.spec (λ c κs. search needs) (λ c κs. search needs) (λ c. search needs) returns)

@@ -19,24 +19,6 @@ at : (r : Record) (b : Bool) (s : ℕ) (z : ℤ) (n : ℕ) → s ≡ codeOf (r .
     record { refusal = 0; scale = s; day = z; micro = r .micro; h3 = n } ≡ proteusOut (slip (P.At r b))
 at r b s z n e f g = rw (e, f, g)
 
-read-requires : tie.Need-read-requires
-read-requires c κs = search needs
-
-enum-known-r : tie.Need-enum-known-r
-enum-known-r c = search needs
-
-code-requires : tie.Need-code-requires
-code-requires c κs = search needs
-
-bit-requires : tie.Need-bit-requires
-bit-requires c κs = search needs
-
-enum-known-f : tie.Need-enum-known-f
-enum-known-f c = search needs
-
-number-requires : tie.Need-number-requires
-number-requires c κs = search needs
-
 returns : tie.Need-returns
 returns c =
     let b = c .before in
@@ -56,11 +38,11 @@ pub vrk-proteus-read-spec : {M : Type 1} → statement M
 vrk-proteus-read-spec =
     tie.close
     (tie.spec
-    read-requires
-    enum-known-r
-    code-requires
-    bit-requires
-    enum-known-f
-    number-requires
+    (λ c κs. search needs)
+    (λ c. search needs)
+    (λ c κs. search needs)
+    (λ c κs. search needs)
+    (λ c. search needs)
+    (λ c κs. search needs)
     returns
     returns-2)

@@ -16,12 +16,6 @@ returns c =
     three (handedWriting (proteusWriting (a .h3)) (a .time)) (now (a .out))
     (either (known (a .time)) (here (lt-leb (a .h3) 1 (c .if1 .taken))))
 
-write-as-requires : tie.Need-write-as-requires
-write-as-requires c κs = search needs
-
-same-length : tie.Need-same-length
-same-length c = search needs
-
 returns-2 : tie.Need-returns-2
 unfolding writes
 returns-2 c =
@@ -32,4 +26,4 @@ returns-2 c =
 
 pub vrk-proteus-write-spec : {M : Type 1} → statement M
 vrk-proteus-write-spec =
-    tie.close (tie.spec returns write-as-requires same-length returns-2)
+    tie.close (tie.spec returns (λ c κs. search needs) (λ c. search needs) returns-2)

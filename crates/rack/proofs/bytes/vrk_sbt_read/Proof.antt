@@ -10,21 +10,6 @@ use borrow.Author.Needs.{needs}
 use Rattle.rack.proofs.bytes.vrk_sbt_read.Statement.{statement}
 use Rattle.rack.proofs.bytes.vrk_sbt_read.Tie as tie
 
-read-requires : tie.Need-read-requires
-read-requires c κs = search needs
-
-enum-known-tick : tie.Need-enum-known-tick
-enum-known-tick c = search needs
-
-cast-t6 : tie.Need-cast-t6
-cast-t6 c = search needs
-
-enum-known-f : tie.Need-enum-known-f
-enum-known-f c = search needs
-
-number-requires : tie.Need-number-requires
-number-requires c κs = search needs
-
 returns : tie.Need-returns
 returns c = let t = c .before .before in told slip sbtOut (t .tick .given .1) (t .before .before .read .ensures)
 
@@ -37,4 +22,4 @@ returns-2 c =
 pub vrk-sbt-read-spec : {M : Type 1} → statement M
 vrk-sbt-read-spec =
     tie.close
-    (tie.spec read-requires enum-known-tick cast-t6 enum-known-f number-requires returns returns-2)
+    (tie.spec (λ c κs. search needs) (λ c. search needs) (λ c. search needs) (λ c. search needs) (λ c κs. search needs) returns returns-2)

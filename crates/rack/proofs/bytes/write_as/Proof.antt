@@ -22,42 +22,6 @@ use Rattle.rack.proofs.bytes.write_as.Tie as tie
 arm : (h : Handed) (out : List ℕ) {l m : Layout} {v w : Written} {x y : List ℕ} → l ≡ m → w ≡ v → y ≡ x → wrote v x ≡ writes (writingOf m h) out → wrote w y ≡ writes (writingOf l h) out
 arm h out e f g p = rw (e, f, g) p
 
-hand-requires : tie.Need-hand-requires
-hand-requires c κs = search needs
-
-enum-known-h : tie.Need-enum-known-h
-enum-known-h c = search needs
-
-enum-told : tie.Need-enum-told
-enum-told c = search needs
-
-write-requires : tie.Need-write-requires
-write-requires c κs = search needs
-
-enum-told-2 : tie.Need-enum-told-2
-enum-told-2 c = search needs
-
-write-requires-2 : tie.Need-write-requires-2
-write-requires-2 c κs = search needs
-
-enum-told-3 : tie.Need-enum-told-3
-enum-told-3 c = search needs
-
-write-requires-3 : tie.Need-write-requires-3
-write-requires-3 c κs = search needs
-
-enum-known-layout : tie.Need-enum-known-layout
-enum-known-layout c = search needs
-
-write-requires-4 : tie.Need-write-requires-4
-write-requires-4 c κs = search needs
-
-written-out-requires : tie.Need-written-out-requires
-written-out-requires c κs = search needs
-
-enum-told-4 : tie.Need-enum-told-4
-enum-told-4 c = search needs
-
 same-length : tie.Need-same-length
 same-length c =
     ⊎-elim (λ v. search needs) (⊎-elim (λ v. search needs) (⊎-elim (λ v. search needs) (λ v. search needs))) (c .before .match2 .came)
@@ -88,18 +52,18 @@ pub write-as-spec : {M : Type 1} → statement M
 write-as-spec =
     tie.close
     (tie.spec
-    hand-requires
-    enum-known-h
-    enum-told
-    write-requires
-    enum-told-2
-    write-requires-2
-    enum-told-3
-    write-requires-3
-    enum-known-layout
-    write-requires-4
-    written-out-requires
-    enum-told-4
+    (λ c κs. search needs)
+    (λ c. search needs)
+    (λ c. search needs)
+    (λ c κs. search needs)
+    (λ c. search needs)
+    (λ c κs. search needs)
+    (λ c. search needs)
+    (λ c κs. search needs)
+    (λ c. search needs)
+    (λ c κs. search needs)
+    (λ c κs. search needs)
+    (λ c. search needs)
     same-length
     returns
     returns-2)

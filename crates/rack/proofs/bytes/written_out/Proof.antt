@@ -8,15 +8,6 @@ use borrow.Author.Needs.{needs}
 use Rattle.rack.proofs.bytes.written_out.Statement.{statement}
 use Rattle.rack.proofs.bytes.written_out.Tie as tie
 
-enum-known-w : tie.Need-enum-known-w
-enum-known-w c = search needs
-
-enum-known-w-2 : tie.Need-enum-known-w-2
-enum-known-w-2 c = search needs
-
-number-requires : tie.Need-number-requires
-number-requires c κs = search needs
-
 returns : tie.Need-returns
 returns c = λ (out : List ℕ). sym (ap (λ (x : Written). wrote x out) (c .before .w .given .1))
 
@@ -28,4 +19,4 @@ returns-2 c =
 
 pub written-out-spec : {M : Type 1} → statement M
 written-out-spec =
-    tie.close (tie.spec enum-known-w enum-known-w-2 number-requires returns returns-2)
+    tie.close (tie.spec (λ c. search needs) (λ c. search needs) (λ c κs. search needs) returns returns-2)

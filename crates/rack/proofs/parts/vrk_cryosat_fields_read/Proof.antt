@@ -10,24 +10,6 @@ use borrow.Author.Needs.{needs}
 use Rattle.rack.proofs.parts.vrk_cryosat_fields_read.Statement.{statement}
 use Rattle.rack.proofs.parts.vrk_cryosat_fields_read.Tie as tie
 
-read-requires : tie.Need-read-requires
-read-requires c κs = search needs
-
-enum-known-f : tie.Need-enum-known-f
-enum-known-f c = search needs
-
-cast-t6 : tie.Need-cast-t6
-cast-t6 c = search needs
-
-cast-t7 : tie.Need-cast-t7
-cast-t7 c = search needs
-
-enum-known-f-2 : tie.Need-enum-known-f-2
-enum-known-f-2 c = search needs
-
-number-requires : tie.Need-number-requires
-number-requires c κs = search needs
-
 returns : tie.Need-returns
 returns c = let f = c .before .before .before in told slip cryosatFields (f .f .given .1) (f .before .before .read .ensures)
 
@@ -41,11 +23,11 @@ pub vrk-cryosat-fields-read-spec : {M : Type 1} → statement M
 vrk-cryosat-fields-read-spec =
     tie.close
     (tie.spec
-    read-requires
-    enum-known-f
-    cast-t6
-    cast-t7
-    enum-known-f-2
-    number-requires
+    (λ c κs. search needs)
+    (λ c. search needs)
+    (λ c. search needs)
+    (λ c. search needs)
+    (λ c. search needs)
+    (λ c κs. search needs)
     returns
     returns-2)

@@ -21,21 +21,6 @@ returns c =
     (λ w. rw (le-ltb (a .microsecond) 65536 (leb-true 65536 (a .microsecond) (w .1 .taken)), and-false))
     (c .if1 .came)))
 
-cast-t8 : tie.Need-cast-t8
-cast-t8 c = search needs
-
-cast-t9 : tie.Need-cast-t9
-cast-t9 c = search needs
-
-write-requires : tie.Need-write-requires
-write-requires c κs = search needs
-
-written-out-requires : tie.Need-written-out-requires
-written-out-requires c κs = search needs
-
-same-length : tie.Need-same-length
-same-length c = search needs
-
 returns-2 : tie.Need-returns-2
 unfolding write
 returns-2 c =
@@ -50,9 +35,9 @@ vrk-cryosat-fields-write-spec =
     tie.close
     (tie.spec
     returns
-    cast-t8
-    cast-t9
-    write-requires
-    written-out-requires
-    same-length
+    (λ c. search needs)
+    (λ c. search needs)
+    (λ c κs. search needs)
+    (λ c κs. search needs)
+    (λ c. search needs)
     returns-2)

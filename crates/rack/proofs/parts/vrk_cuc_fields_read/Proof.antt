@@ -10,21 +10,6 @@ use borrow.Author.Needs.{needs}
 use Rattle.rack.proofs.parts.vrk_cuc_fields_read.Statement.{statement}
 use Rattle.rack.proofs.parts.vrk_cuc_fields_read.Tie as tie
 
-read-requires : tie.Need-read-requires
-read-requires c κs = search needs
-
-enum-known-f : tie.Need-enum-known-f
-enum-known-f c = search needs
-
-cast-t6 : tie.Need-cast-t6
-cast-t6 c = search needs
-
-enum-known-f-2 : tie.Need-enum-known-f-2
-enum-known-f-2 c = search needs
-
-number-requires : tie.Need-number-requires
-number-requires c κs = search needs
-
 returns : tie.Need-returns
 returns c = let f = c .before .before in told slip cucFields (f .f .given .1) (f .before .before .read .ensures)
 
@@ -37,4 +22,4 @@ returns-2 c =
 pub vrk-cuc-fields-read-spec : {M : Type 1} → statement M
 vrk-cuc-fields-read-spec =
     tie.close
-    (tie.spec read-requires enum-known-f cast-t6 enum-known-f-2 number-requires returns returns-2)
+    (tie.spec (λ c κs. search needs) (λ c. search needs) (λ c. search needs) (λ c. search needs) (λ c κs. search needs) returns returns-2)

@@ -17,18 +17,6 @@ returns c =
     three (cucFieldsWriting (a .seconds) (a .fraction)) (now (a .out))
     (here (le-ltb (a .fraction) 65536 (omega arith)))
 
-cast-t6 : tie.Need-cast-t6
-cast-t6 c = search needs
-
-write-requires : tie.Need-write-requires
-write-requires c κs = search needs
-
-written-out-requires : tie.Need-written-out-requires
-written-out-requires c κs = search needs
-
-same-length : tie.Need-same-length
-same-length c = search needs
-
 returns-2 : tie.Need-returns-2
 unfolding write
 returns-2 c =
@@ -40,4 +28,4 @@ returns-2 c =
 
 pub vrk-cuc-fields-write-spec : {M : Type 1} → statement M
 vrk-cuc-fields-write-spec =
-    tie.close (tie.spec returns cast-t6 write-requires written-out-requires same-length returns-2)
+    tie.close (tie.spec returns (λ c. search needs) (λ c κs. search needs) (λ c κs. search needs) (λ c. search needs) returns-2)

@@ -11,27 +11,6 @@ use borrow.Author.Needs.{needs}
 use Rattle.rack.proofs.parts.vrk_proteus_fields_read.Statement.{statement}
 use Rattle.rack.proofs.parts.vrk_proteus_fields_read.Tie as tie
 
-read-requires : tie.Need-read-requires
-read-requires c κs = search needs
-
-enum-known-f : tie.Need-enum-known-f
-enum-known-f c = search needs
-
-cast-t6 : tie.Need-cast-t6
-cast-t6 c = search needs
-
-bit-requires : tie.Need-bit-requires
-bit-requires c κs = search needs
-
-cast-t8 : tie.Need-cast-t8
-cast-t8 c = search needs
-
-enum-known-f-2 : tie.Need-enum-known-f-2
-enum-known-f-2 c = search needs
-
-number-requires : tie.Need-number-requires
-number-requires c κs = search needs
-
 returns : tie.Need-returns
 returns c =
     let b = c .before in
@@ -50,12 +29,12 @@ pub vrk-proteus-fields-read-spec : {M : Type 1} → statement M
 vrk-proteus-fields-read-spec =
     tie.close
     (tie.spec
-    read-requires
-    enum-known-f
-    cast-t6
-    bit-requires
-    cast-t8
-    enum-known-f-2
-    number-requires
+    (λ c κs. search needs)
+    (λ c. search needs)
+    (λ c. search needs)
+    (λ c κs. search needs)
+    (λ c. search needs)
+    (λ c. search needs)
+    (λ c κs. search needs)
     returns
     returns-2)

@@ -22,21 +22,6 @@ returns c =
     (λ w. rw (le-ltb (a .fraction) 65536 (leb-true 65536 (a .fraction) (w .2 .taken)), and-false, and-false)))
     (c .if1 .came)))
 
-cast-t10 : tie.Need-cast-t10
-cast-t10 c = search needs
-
-cast-t12 : tie.Need-cast-t12
-cast-t12 c = search needs
-
-write-requires : tie.Need-write-requires
-write-requires c κs = search needs
-
-written-out-requires : tie.Need-written-out-requires
-written-out-requires c κs = search needs
-
-same-length : tie.Need-same-length
-same-length c = search needs
-
 returns-2 : tie.Need-returns-2
 unfolding write
 returns-2 c =
@@ -51,9 +36,9 @@ vrk-proteus-fields-write-spec =
     tie.close
     (tie.spec
     returns
-    cast-t10
-    cast-t12
-    write-requires
-    written-out-requires
-    same-length
+    (λ c. search needs)
+    (λ c. search needs)
+    (λ c κs. search needs)
+    (λ c κs. search needs)
+    (λ c. search needs)
     returns-2)

@@ -9,12 +9,6 @@ use borrow.Author.Needs.{needs}
 use Rattle.rack.proofs.texts.vrk_text_read.Statement.{statement}
 use Rattle.rack.proofs.texts.vrk_text_read.Tie as tie
 
-read-requires : tie.Need-read-requires
-read-requires c κs = search needs
-
-time-out-requires : tie.Need-time-out-requires
-time-out-requires c κs = search needs
-
 returns : tie.Need-returns
 returns c =
     let r = c .before in
@@ -26,4 +20,4 @@ returns c =
     ∙ ap (λ (z : ℤ). readText (now (a .text)) (now (a .days)) (now (a .offsets)) z) (toZ-ofZ (s .fits .last)))
 
 pub vrk-text-read-spec : {M : Type 1} → statement M
-vrk-text-read-spec = tie.close (tie.spec read-requires time-out-requires returns)
+vrk-text-read-spec = tie.close (tie.spec (λ c κs. search needs) (λ c κs. search needs) returns)

@@ -14,39 +14,12 @@ use borrow.Author.Needs.{needs}
 use Rattle.rack.proofs.texts.vrk_text_write.Statement.{statement}
 use Rattle.rack.proofs.texts.vrk_text_write.Tie as tie
 
-form-named-requires : tie.Need-form-named-requires
-form-named-requires c κs = search needs
-
-enum-known-f : tie.Need-enum-known-f
-enum-known-f c = search needs
-
-enum-told : tie.Need-enum-told
-enum-told c = search needs
-
 returns : tie.Need-returns
 returns c =
     let n = c .before .before in
     let a = n .before .before .before .args in
     three (handedWriting (textWriting (a .form) (now (a .days)) (now (a .offsets)) (a .last)) (a .time)) (now (a .out))
     (either (known (a .time)) (here (form-bad (a .form) (sym (n .form-named .ensures) ∙ c .enum-told .given .1))))
-
-hand-requires : tie.Need-hand-requires
-hand-requires c κs = search needs
-
-enum-known-h : tie.Need-enum-known-h
-enum-known-h c = search needs
-
-write-requires : tie.Need-write-requires
-write-requires c κs = search needs
-
-written-out-requires : tie.Need-written-out-requires
-written-out-requires c κs = search needs
-
-enum-told-2 : tie.Need-enum-told-2
-enum-told-2 c = search needs
-
-same-length : tie.Need-same-length
-same-length c = search needs
 
 returns-2 : tie.Need-returns-2
 unfolding writeText
@@ -75,15 +48,15 @@ pub vrk-text-write-spec : {M : Type 1} → statement M
 vrk-text-write-spec =
     tie.close
     (tie.spec
-    form-named-requires
-    enum-known-f
-    enum-told
+    (λ c κs. search needs)
+    (λ c. search needs)
+    (λ c. search needs)
     returns
-    hand-requires
-    enum-known-h
-    write-requires
-    written-out-requires
-    enum-told-2
-    same-length
+    (λ c κs. search needs)
+    (λ c. search needs)
+    (λ c κs. search needs)
+    (λ c κs. search needs)
+    (λ c. search needs)
+    (λ c. search needs)
     returns-2
     returns-3)

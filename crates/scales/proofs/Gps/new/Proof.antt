@@ -9,18 +9,9 @@ use Rattle.scales.specs.declared.Scale.the-variants as S
 use Rattle.scales.proofs.Gps.new.Statement.{statement}
 use Rattle.scales.proofs.Gps.new.Tie as tie
 
-count-of-requires : tie.Need-count-of-requires
-count-of-requires c κs = search needs
-
 -- the callee read the day from its bits
 seen : (c : tie.After-count-of) → let a = c .before .args in c .count-of .result ≡ counted S.Gps (a .day) (a .micro)
 seen c = c .count-of .ensures ∙ ap (λ (d : ℤ). counted S.Gps d (c .before .args .micro)) (toZ-ofZ (c .before .fits .day))
-
-enum-known-n : tie.Need-enum-known-n
-enum-known-n c = search needs
-
-enum-told : tie.Need-enum-told
-enum-told c = search needs
 
 returns : tie.Need-returns
 returns c = let b = c .before .before .before in let a = b .before .args in
@@ -31,4 +22,4 @@ returns-2 c = let b = c .before .before in let a = b .before .args in
     count-out S.Gps (a .day) (a .micro) (sym (seen b) ∙ c .enum-told .given .1)
 
 pub new-spec : {M : Type 1} → statement M
-new-spec = tie.close (tie.spec count-of-requires enum-known-n enum-told returns returns-2)
+new-spec = tie.close (tie.spec (λ c κs. search needs) (λ c. search needs) (λ c. search needs) returns returns-2)

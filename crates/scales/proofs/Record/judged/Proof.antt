@@ -9,21 +9,12 @@ use Rattle.scales.specs.Counts.{counted-at, count-out}
 use Rattle.scales.proofs.Record.judged.Statement.{statement}
 use Rattle.scales.proofs.Record.judged.Tie as tie
 
-count-of-requires : tie.Need-count-of-requires
-count-of-requires c κs = search needs
-
 -- the callee read the day from its bits
 seen : (c : tie.After-count-of) → let r = c .before .before .args .self in c .count-of .result ≡ counted (r .scale) (r .day) (r .micro)
 seen c =
     let r = c .before .before .args .self in
     c .count-of .ensures
     ∙ ap (λ (d : ℤ). counted (r .scale) d (r .micro)) (toZ-ofZ {w = w64} {z = r .day} (record { sfits = c .before .struct-told .given .1 .0 .1 }))
-
-enum-told : tie.Need-enum-told
-enum-told c = search needs
-
-enum-told-2 : tie.Need-enum-told-2
-enum-told-2 c = search needs
 
 returns : tie.Need-returns
 returns c = let b = c .before .before in let r = b .before .before .args .self in
@@ -35,4 +26,4 @@ returns-2 c = let b = c .before .before in let r = b .before .before .args .self
     count-out (r .scale) (r .day) (r .micro) (sym (seen b) ∙ c .enum-told2 .given .1)
 
 pub judged-spec : {M : Type 1} → statement M
-judged-spec = tie.close (tie.spec count-of-requires enum-told enum-told-2 returns returns-2)
+judged-spec = tie.close (tie.spec (λ c κs. search needs) (λ c. search needs) (λ c. search needs) returns returns-2)

@@ -12,24 +12,12 @@ use Rattle.scales.specs.declared.Timed.the-variants as TD
 use Rattle.scales.proofs.Record.to_time.Statement.{statement}
 use Rattle.scales.proofs.Record.to_time.Tie as tie
 
-count-of-requires : tie.Need-count-of-requires
-count-of-requires c κs = search needs
-
 -- the callee read the day from its bits
 seen : (c : tie.After-count-of) → let r = c .before .before .args .self in c .count-of .result ≡ counted (r .scale) (r .day) (r .micro)
 seen c =
     let r = c .before .before .args .self in
     c .count-of .ensures
     ∙ ap (λ (d : ℤ). counted (r .scale) d (r .micro)) (toZ-ofZ {w = w64} {z = r .day} (record { sfits = c .before .struct-told .given .1 .0 .1 }))
-
-enum-known-n : tie.Need-enum-known-n
-enum-known-n c = search needs
-
-time-at-requires : tie.Need-time-at-requires
-time-at-requires c κs = search needs
-
-enum-told : tie.Need-enum-told
-enum-told c = search needs
 
 returns : tie.Need-returns
 returns c = let k = c .before .before in let b = k .before .before in let r = b .before .before .args .self in
@@ -44,4 +32,4 @@ returns-2 c = let b = c .before .before in let r = b .before .before .args .self
 pub to-time-spec : {M : Type 1} → statement M
 to-time-spec =
     tie.close
-    (tie.spec count-of-requires enum-known-n time-at-requires enum-told returns returns-2)
+    (tie.spec (λ c κs. search needs) (λ c. search needs) (λ c κs. search needs) (λ c. search needs) returns returns-2)

@@ -7,24 +7,6 @@ use Rattle.scales.specs.declared.Time.{Time}
 use Rattle.scales.proofs.Time.to_record.Statement.{statement}
 use Rattle.scales.proofs.Time.to_record.Tie as tie
 
-enum-known-self : tie.Need-enum-known-self
-enum-known-self c = search needs
-
-to-record-requires : tie.Need-to-record-requires
-to-record-requires c κs = search needs
-
-enum-known-self-2 : tie.Need-enum-known-self-2
-enum-known-self-2 c = search needs
-
-to-record-requires-2 : tie.Need-to-record-requires-2
-to-record-requires-2 c κs = search needs
-
-enum-known-self-3 : tie.Need-enum-known-self-3
-enum-known-self-3 c = search needs
-
-to-record-requires-3 : tie.Need-to-record-requires-3
-to-record-requires-3 c κs = search needs
-
 of : Time → Record
 of t = recordAt (timeScale t) (timeCount t)
 
@@ -44,12 +26,12 @@ pub to-record-spec : {M : Type 1} → statement M
 to-record-spec =
     tie.close
     (tie.spec
-    enum-known-self
-    to-record-requires
-    enum-known-self-2
-    to-record-requires-2
-    enum-known-self-3
-    to-record-requires-3
+    (λ c. search needs)
+    (λ c κs. search needs)
+    (λ c. search needs)
+    (λ c κs. search needs)
+    (λ c. search needs)
+    (λ c κs. search needs)
     returns
     returns-2
     returns-3)

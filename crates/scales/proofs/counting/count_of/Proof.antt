@@ -8,12 +8,6 @@ use Rattle.scales.specs.Counts.{count-early, count-late, count-over, cou
 use Rattle.scales.proofs.counting.count_of.Statement.{statement}
 use Rattle.scales.proofs.counting.count_of.Tie as tie
 
-span-of-requires : tie.Need-span-of-requires
-span-of-requires c κs = search needs
-
-place-of-day-requires : tie.Need-place-of-day-requires
-place-of-day-requires c κs = search needs
-
 -- the callee read the day from its bits
 seen : (c : tie.After-place-of-day) → c .place-of-day .result ≡ placeOfDay (c .before .before .args .day)
 seen c = c .place-of-day .ensures ∙ ap placeOfDay (toZ-ofZ (c .before .before .fits .day))
@@ -50,8 +44,8 @@ pub count-of-spec : {M : Type 1} → statement M
 count-of-spec =
     tie.close
     (tie.spec
-    span-of-requires
-    place-of-day-requires
+    (λ c κs. search needs)
+    (λ c κs. search needs)
     returns
     returns-2
     returns-3

@@ -15,9 +15,6 @@ use Rattle.scales.specs.declared.counting.Span.{Span}
 use Rattle.scales.proofs.counting.record_at.Statement.{statement}
 use Rattle.scales.proofs.counting.record_at.Tie as tie
 
-span-of-requires : tie.Need-span-of-requires
-span-of-requires c κs = search needs
-
 bound-is : (c : tie.After-span-of) → c .span-of .result .bound ≡ bound (c .before .args .scale)
 bound-is c = ap (λ (x : Span). x .bound) (c .span-of .ensures)
 
@@ -35,9 +32,6 @@ cast-day-at c =
     let h : 4294967296 * 86400000000 ≤ 4294967296 * b = mul-le-mul-left 4294967296 (whole c) in
     record { fits = div-lt-iff-lt-mul p .1 (omega arith) }
 
-day-at-requires : tie.Need-day-at-requires
-day-at-requires c κs = search needs
-
 rem-t6 : tie.Need-rem-t6
 rem-t6 c = omega (arith, whole (c .before))
 
@@ -50,4 +44,4 @@ returns c =
 
 pub record-at-spec : {M : Type 1} → statement M
 record-at-spec =
-    tie.close (tie.spec span-of-requires div-day-at cast-day-at day-at-requires rem-t6 returns)
+    tie.close (tie.spec (λ c κs. search needs) div-day-at cast-day-at (λ c κs. search needs) rem-t6 returns)

@@ -8,12 +8,6 @@ use Rattle.scales.specs.declared.counting.Span.{Span}
 use Rattle.scales.proofs.counting.span_from.Statement.{statement}
 use Rattle.scales.proofs.counting.span_from.Tie as tie
 
-place-of-day-requires : tie.Need-place-of-day-requires
-place-of-day-requires c κs = search needs
-
-place-of-day-requires-2 : tie.Need-place-of-day-requires-2
-place-of-day-requires-2 c κs = search needs
-
 returns : tie.Need-returns
 returns c =
     let b = c .before in
@@ -23,4 +17,4 @@ returns c =
     (c .place-of-day2 .ensures ∙ ap placeOfDay (toZ-ofZ (s .fits .last)))
 
 pub span-from-spec : {M : Type 1} → statement M
-span-from-spec = tie.close (tie.spec place-of-day-requires place-of-day-requires-2 returns)
+span-from-spec = tie.close (tie.spec (λ c κs. search needs) (λ c κs. search needs) returns)

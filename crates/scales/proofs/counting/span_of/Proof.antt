@@ -5,24 +5,6 @@ use Rattle.scales.specs.Place.{spanOf}
 use Rattle.scales.proofs.counting.span_of.Statement.{statement}
 use Rattle.scales.proofs.counting.span_of.Tie as tie
 
-enum-told : tie.Need-enum-told
-enum-told c = search needs
-
-span-from-requires : tie.Need-span-from-requires
-span-from-requires c κs = search needs
-
-enum-told-2 : tie.Need-enum-told-2
-enum-told-2 c = search needs
-
-span-from-requires-2 : tie.Need-span-from-requires-2
-span-from-requires-2 c κs = search needs
-
-enum-told-3 : tie.Need-enum-told-3
-enum-told-3 c = search needs
-
-span-from-requires-3 : tie.Need-span-from-requires-3
-span-from-requires-3 c κs = search needs
-
 returns : tie.Need-returns
 returns c = c .span-from .ensures ∙ sym (ap spanOf (c .before .enum-told .given .1))
 
@@ -36,12 +18,12 @@ pub span-of-spec : {M : Type 1} → statement M
 span-of-spec =
     tie.close
     (tie.spec
-    enum-told
-    span-from-requires
-    enum-told-2
-    span-from-requires-2
-    enum-told-3
-    span-from-requires-3
+    (λ c. search needs)
+    (λ c κs. search needs)
+    (λ c. search needs)
+    (λ c κs. search needs)
+    (λ c. search needs)
+    (λ c κs. search needs)
     returns
     returns-2
     returns-3)

@@ -6,15 +6,6 @@ use Rattle.scales.specs.declared.Scale.{Scale}
 use Rattle.scales.proofs.counting.time_at.Statement.{statement}
 use Rattle.scales.proofs.counting.time_at.Tie as tie
 
-enum-told : tie.Need-enum-told
-enum-told c = search needs
-
-enum-told-2 : tie.Need-enum-told-2
-enum-told-2 c = search needs
-
-enum-told-3 : tie.Need-enum-told-3
-enum-told-3 c = search needs
-
 returns : tie.Need-returns
 returns c = sym (ap (λ (s : Scale). timeAt s (c .before .before .args .count)) (c .enum-told .given .1))
 
@@ -25,4 +16,4 @@ returns-3 : tie.Need-returns-3
 returns-3 c = sym (ap (λ (s : Scale). timeAt s (c .before .before .args .count)) (c .enum-told3 .given .1))
 
 pub time-at-spec : {M : Type 1} → statement M
-time-at-spec = tie.close (tie.spec enum-told enum-told-2 enum-told-3 returns returns-2 returns-3)
+time-at-spec = tie.close (tie.spec (λ c. search needs) (λ c. search needs) (λ c. search needs) returns returns-2 returns-3)

@@ -6,12 +6,6 @@ use borrow.Author.Needs.{needs}
 use Rattle.text_read.proofs.fields.four.Statement.{statement}
 use Rattle.text_read.proofs.fields.four.Tie as tie
 
-two-requires : tie.Need-two-requires
-two-requires c κs = search needs
-
-two-requires-2 : tie.Need-two-requires-2
-two-requires-2 c κs = search needs
-
 returns : tie.Need-returns
 unfolding fourOf
 returns c =
@@ -26,12 +20,6 @@ returns-2 c =
     let y = twoOf (c .before .before .before .before .args .c) (c .before .before .before .before .args .d) in
     rw (lt-ltb x 100 (omega arith), le-ltb y 100 (omega arith))
 
-mul-result : tie.Need-mul-result
-mul-result c = search needs
-
-add-result : tie.Need-add-result
-add-result c = search needs
-
 returns-3 : tie.Need-returns-3
 unfolding fourOf
 returns-3 c =
@@ -42,4 +30,4 @@ returns-3 c =
 pub four-spec : {M : Type 1} → statement M
 four-spec =
     tie.close
-    (tie.spec two-requires two-requires-2 returns returns-2 mul-result add-result returns-3)
+    (tie.spec (λ c κs. search needs) (λ c κs. search needs) returns returns-2 (λ c. search needs) (λ c. search needs) returns-3)

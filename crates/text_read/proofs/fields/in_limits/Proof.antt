@@ -48,9 +48,6 @@ returns-7 c =
     let t = c .before .before .before .before .before .before .before .args .t in
     rw (le-leb (t .hour) 23 (omega arith), le-leb (t .minute) 59 (omega arith), lt-ltb (t .micro) 1000000 (omega arith), lt-leb (t .second) 59 (omega arith), eq-eqb (t .second) 60 (c .before .before .if5 .left), eq-eqb (t .hour) 23 (c .before .if6 .left), ne-eqb (t .minute) 59 (c .if7 .taken))
 
-is-utc-requires : tie.Need-is-utc-requires
-is-utc-requires c κs = search needs
-
 returns-8 : tie.Need-returns-8
 unfolding inLimits
 returns-8 c =
@@ -69,5 +66,5 @@ in-limits-spec =
     returns-5
     returns-6
     returns-7
-    is-utc-requires
+    (λ c κs. search needs)
     returns-8)

@@ -9,33 +9,9 @@ returns : tie.Need-returns
 unfolding microIn
 returns c = rw (lt-ltb _ _ (c .if1 .taken))
 
-shared-slice-read-if2 : tie.Need-shared-slice-read-if2
-shared-slice-read-if2 c = search needs
-
 returns-2 : tie.Need-returns-2
 unfolding microIn
 returns-2 c = rw (le-ltb _ _ (c .before .before .if1 .left), ne-eqb _ _ (c .if2 .taken))
-
-shared-slice-read-six : tie.Need-shared-slice-read-six
-shared-slice-read-six c = search needs
-
-shared-slice-read-six-2 : tie.Need-shared-slice-read-six-2
-shared-slice-read-six-2 c = search needs
-
-shared-slice-read-six-3 : tie.Need-shared-slice-read-six-3
-shared-slice-read-six-3 c = search needs
-
-shared-slice-read-six-4 : tie.Need-shared-slice-read-six-4
-shared-slice-read-six-4 c = search needs
-
-shared-slice-read-six-5 : tie.Need-shared-slice-read-six-5
-shared-slice-read-six-5 c = search needs
-
-shared-slice-read-six-6 : tie.Need-shared-slice-read-six-6
-shared-slice-read-six-6 c = search needs
-
-six-requires : tie.Need-six-requires
-six-requires c κs = search needs
 
 returns-3 : tie.Need-returns-3
 unfolding microIn
@@ -46,13 +22,13 @@ micro-in-spec =
     tie.close
     (tie.spec
     returns
-    shared-slice-read-if2
+    (λ c. search needs)
     returns-2
-    shared-slice-read-six
-    shared-slice-read-six-2
-    shared-slice-read-six-3
-    shared-slice-read-six-4
-    shared-slice-read-six-5
-    shared-slice-read-six-6
-    six-requires
+    (λ c. search needs)
+    (λ c. search needs)
+    (λ c. search needs)
+    (λ c. search needs)
+    (λ c. search needs)
+    (λ c. search needs)
+    (λ c κs. search needs)
     returns-3)

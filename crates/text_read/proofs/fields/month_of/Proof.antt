@@ -14,9 +14,6 @@ Inv-loop a b c t m₀ m = (1 ≤ m) × (m ≤ 13) × (seek (13 - m) m a b c ≡ 
 abbrev μ-loop : tie.MeasureT-loop
 μ-loop a b c t m₀ m = 13 - m
 
-month-names-requires : tie.Need-month-names-requires Inv-loop μ-loop
-month-names-requires c κs = search needs
-
 loop-holds : tie.Need-loop-holds Inv-loop μ-loop
 unfolding monthOf
 loop-holds c = (omega arith, omega arith, refl)
@@ -29,12 +26,6 @@ returns c =
     let m = c .before .before .before .before .loop .m in
     let g = c .before .before .before .before .before .before .args in
     rw (sym (c .before .is-named .ensures) ∙ c .if1 .taken) at (sym (seek-step m (g .a) (g .b) (g .c) (omega arith))) ∙ c .before .before .before .before .loop .inv .2
-
-add-m : tie.Need-add-m Inv-loop μ-loop
-add-m c = omega arith
-
-loop-less : tie.Need-loop-less Inv-loop μ-loop
-loop-less c = omega arith
 
 loop-again : tie.Need-loop-again Inv-loop μ-loop
 loop-again c =
@@ -54,11 +45,11 @@ month-of-spec =
     (tie.spec
     Inv-loop
     μ-loop
-    month-names-requires
+    (λ c κs. search needs)
     loop-holds
     is-named-requires
     returns
-    add-m
-    loop-less
+    (λ c. omega arith)
+    (λ c. omega arith)
     loop-again
     returns-2)

@@ -4,14 +4,8 @@ use borrow.Author.Needs.{needs}
 use Rattle.text_read.proofs.fields.prefix_scale.Statement.{statement}
 use Rattle.text_read.proofs.fields.prefix_scale.Tie as tie
 
-has-prefix-requires : tie.Need-has-prefix-requires
-has-prefix-requires c κs = search needs
-
 returns : tie.Need-returns
 returns c = rw (sym (c .before .has-prefix .ensures) ∙ c .if1 .taken)
-
-has-prefix-requires-2 : tie.Need-has-prefix-requires-2
-has-prefix-requires-2 c κs = search needs
 
 returns-2 : tie.Need-returns-2
 returns-2 c = rw (sym (c .before .before .before .has-prefix .ensures) ∙ c .before .before .if1 .left, sym (c .before .has-prefix2 .ensures) ∙ c .if2 .taken)
@@ -21,4 +15,4 @@ returns-3 c = rw (sym (c .before .before .before .has-prefix .ensures) ∙ c .be
 
 pub prefix-scale-spec : {M : Type 1} → statement M
 prefix-scale-spec =
-    tie.close (tie.spec has-prefix-requires returns has-prefix-requires-2 returns-2 returns-3)
+    tie.close (tie.spec (λ c κs. search needs) returns (λ c κs. search needs) returns-2 returns-3)

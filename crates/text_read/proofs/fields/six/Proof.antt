@@ -6,12 +6,6 @@ use borrow.Author.Needs.{needs}
 use Rattle.text_read.proofs.fields.six.Statement.{statement}
 use Rattle.text_read.proofs.fields.six.Tie as tie
 
-four-requires : tie.Need-four-requires
-four-requires c κs = search needs
-
-two-requires : tie.Need-two-requires
-two-requires c κs = search needs
-
 returns : tie.Need-returns
 unfolding sixOf
 returns c =
@@ -26,12 +20,6 @@ returns-2 c =
     let y = twoOf (c .before .before .before .before .args .e) (c .before .before .before .before .args .f) in
     rw (lt-ltb x 10000 (omega arith), le-ltb y 100 (omega arith))
 
-mul-result : tie.Need-mul-result
-mul-result c = search needs
-
-add-result : tie.Need-add-result
-add-result c = search needs
-
 returns-3 : tie.Need-returns-3
 unfolding sixOf
 returns-3 c =
@@ -42,4 +30,4 @@ returns-3 c =
 pub six-spec : {M : Type 1} → statement M
 six-spec =
     tie.close
-    (tie.spec four-requires two-requires returns returns-2 mul-result add-result returns-3)
+    (tie.spec (λ c κs. search needs) (λ c κs. search needs) returns returns-2 (λ c. search needs) (λ c. search needs) returns-3)

@@ -6,12 +6,6 @@ use borrow.Author.Needs.{needs}
 use Rattle.text_read.proofs.fields.two.Statement.{statement}
 use Rattle.text_read.proofs.fields.two.Tie as tie
 
-digit-requires : tie.Need-digit-requires
-digit-requires c κs = search needs
-
-digit-requires-2 : tie.Need-digit-requires-2
-digit-requires-2 c κs = search needs
-
 returns : tie.Need-returns
 unfolding twoOf
 returns c =
@@ -26,12 +20,6 @@ returns-2 c =
     let y = digitOf (c .before .before .before .before .args .b) in
     rw (lt-ltb x 10 (omega arith), le-ltb y 10 (omega arith))
 
-mul-result : tie.Need-mul-result
-mul-result c = search needs
-
-add-result : tie.Need-add-result
-add-result c = search needs
-
 returns-3 : tie.Need-returns-3
 unfolding twoOf
 returns-3 c =
@@ -42,4 +30,4 @@ returns-3 c =
 pub two-spec : {M : Type 1} → statement M
 two-spec =
     tie.close
-    (tie.spec digit-requires digit-requires-2 returns returns-2 mul-result add-result returns-3)
+    (tie.spec (λ c κs. search needs) (λ c κs. search needs) returns returns-2 (λ c. search needs) (λ c. search needs) returns-3)

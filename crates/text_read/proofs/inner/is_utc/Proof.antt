@@ -5,14 +5,8 @@ use borrow.Author.Needs.{needs}
 use Rattle.text_read.proofs.inner.is_utc.Statement.{statement}
 use Rattle.text_read.proofs.inner.is_utc.Tie as tie
 
-code-requires : tie.Need-code-requires
-code-requires c κs = search needs
-
-code-requires-2 : tie.Need-code-requires-2
-code-requires-2 c κs = search needs
-
 returns : tie.Need-returns
 returns c = ap₂ eqb (c .code2 .ensures) (c .before .code .ensures)
 
 pub is-utc-spec : {M : Type 1} → statement M
-is-utc-spec = tie.close (tie.spec code-requires code-requires-2 returns)
+is-utc-spec = tie.close (tie.spec (λ c κs. search needs) (λ c κs. search needs) returns)

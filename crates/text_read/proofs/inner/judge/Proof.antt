@@ -16,18 +16,6 @@ use borrow.Author.Needs.{needs}
 use Rattle.text_read.proofs.inner.judge.Statement.{statement}
 use Rattle.text_read.proofs.inner.judge.Tie as tie
 
-enum-known-t : tie.Need-enum-known-t
-enum-known-t c = search needs
-
-enum-known-t-2 : tie.Need-enum-known-t-2
-enum-known-t-2 c = search needs
-
-enum-known-t-3 : tie.Need-enum-known-t-3
-enum-known-t-3 c = search needs
-
-scale-requires : tie.Need-scale-requires
-scale-requires c κs = search needs
-
 change-requires : tie.Need-change-requires
 change-requires c κs =
     let g = c .before .before .t3 .given in
@@ -66,10 +54,10 @@ pub judge-spec : {M : Type 1} → statement M
 judge-spec =
     tie.close
     (tie.spec
-    enum-known-t
-    enum-known-t-2
-    enum-known-t-3
-    scale-requires
+    (λ c. search needs)
+    (λ c. search needs)
+    (λ c. search needs)
+    (λ c κs. search needs)
     change-requires
     returns
     returns-2

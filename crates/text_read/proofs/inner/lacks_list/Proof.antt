@@ -9,14 +9,8 @@ use borrow.Author.Needs.{needs}
 use Rattle.text_read.proofs.inner.lacks_list.Statement.{statement}
 use Rattle.text_read.proofs.inner.lacks_list.Tie as tie
 
-uses-list-requires : tie.Need-uses-list-requires
-uses-list-requires c κs = search needs
-
 returns : tie.Need-returns
 returns c = let u = c .before in sym (rw (sym (u .uses-list .ensures) ∙ not-true _ (c .if1 .taken)))
-
-is-accepted-requires : tie.Need-is-accepted-requires
-is-accepted-requires c κs = search needs
 
 returns-2 : tie.Need-returns-2
 returns-2 c =
@@ -27,4 +21,4 @@ returns-2 c =
     ∙ sym (rw (sym (u .uses-list .ensures) ∙ not-false _ (c .before .if1 .left)))
 
 pub lacks-list-spec : {M : Type 1} → statement M
-lacks-list-spec = tie.close (tie.spec uses-list-requires returns is-accepted-requires returns-2)
+lacks-list-spec = tie.close (tie.spec (λ c κs. search needs) returns (λ c κs. search needs) returns-2)

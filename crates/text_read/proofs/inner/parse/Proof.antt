@@ -19,9 +19,6 @@ use Rattle.text_read.proofs.inner.parse.Tie as tie
 long : (c : tie.Then1) → 24 ≤ length (now (c .before .before .before .args .text))
 long c = either-from (length (now (c .before .before .before .args .text))) 24 31 (lit≤ tt) (sym (c .before .is-either .ensures) ∙ c .if1 .taken)
 
-is-either-requires : tie.Need-is-either-requires
-is-either-requires c κs = search needs
-
 prefix-scale-requires : tie.Need-prefix-scale-requires
 prefix-scale-requires c κs = let h = long c in omega arith
 
@@ -42,9 +39,6 @@ sub-parse-body c = let h = long (c .before .before .before) in search needs
 part-parse-body-start : tie.Need-part-parse-body-start
 part-parse-body-start c = let h = long (c .before .before .before) in search needs
 
-part-parse-body-end : tie.Need-part-parse-body-end
-part-parse-body-end c = search needs
-
 parse-body-requires : tie.Need-parse-body-requires
 parse-body-requires c κs =
     let h = long (c .before .before .before .before) in
@@ -63,9 +57,6 @@ returns-2 c =
     (c .parse-body .result)
     (subst (λ (y : List ℕ). ParsesBody (prefixScale s) y (c .parse-body .result)) (rest-lent 4 s)
     (subst (λ (z : Scale). ParsesBody z (take (length s - 4) (drop 4 s)) (c .parse-body .result)) (p .prefix-scale .ensures) (c .parse-body .ensures)))
-
-is-either-requires-2 : tie.Need-is-either-requires-2
-is-either-requires-2 c κs = search needs
 
 parse-body-requires-2 : tie.Need-parse-body-requires-2
 parse-body-requires-2 c κs = either-from (length (now (c .before .before .before .before .before .args .text))) 20 27 (lit≤ tt) (sym (c .before .is-either2 .ensures) ∙ c .if3 .taken)
@@ -87,16 +78,16 @@ pub parse-spec : {M : Type 1} → statement M
 parse-spec =
     tie.close
     (tie.spec
-    is-either-requires
+    (λ c κs. search needs)
     prefix-scale-requires
     has-prefix-requires
     returns
     sub-parse-body
     part-parse-body-start
-    part-parse-body-end
+    (λ c. search needs)
     parse-body-requires
     returns-2
-    is-either-requires-2
+    (λ c κs. search needs)
     parse-body-requires-2
     returns-3
     returns-4)

@@ -44,26 +44,11 @@ known c =
       day = c .day-of .ensures ∙ ap (λ (t : Stamp). dayOfDate (t .date)) (m .stamp-in .ensures);
     }
 
-has-marks-requires : tie.Need-has-marks-requires
-has-marks-requires c κs = search needs
-
 returns : tie.Need-returns
 returns c = let x = c .before .before .before .args in body-marks (x .z) (now (x .s)) (sym (c .before .has-marks .ensures) ∙ not-true _ (c .if1 .taken))
 
-stamp-in-requires : tie.Need-stamp-in-requires
-stamp-in-requires c κs = search needs
-
-in-limits-requires : tie.Need-in-limits-requires
-in-limits-requires c κs = search needs
-
 returns-2 : tie.Need-returns-2
 returns-2 c = let l = c .before in let m = l .before in let x = m .before .before .before .before .args in body-limits (x .z) (now (x .s)) (ap (inLimits (x .z)) (sym (m .stamp-in .ensures)) ∙ sym (l .in-limits .ensures) ∙ not-true _ (c .if2 .taken))
-
-day-of-requires : tie.Need-day-of-requires
-day-of-requires c κs = search needs
-
-enum-known-day : tie.Need-enum-known-day
-enum-known-day c = search needs
 
 micro-of-requires : tie.Need-micro-of-requires
 micro-of-requires c κs =
@@ -72,18 +57,6 @@ micro-of-requires c κs =
     let x = d .before .before .before .before .before .before .before .before .args in
     let l = limited (x .z) (stampIn (now (x .s))) (k .limits) in
     rw (k .stamp) (omega arith, omega arith, omega arith, l .micro)
-
-new-requires : tie.Need-new-requires
-new-requires c κs = search needs
-
-take-requires : tie.Need-take-requires
-take-requires c κs = search needs
-
-enum-known-f : tie.Need-enum-known-f
-enum-known-f c = search needs
-
-number-requires : tie.Need-number-requires
-number-requires c κs = search needs
 
 returns-3 : tie.Need-returns-3
 returns-3 c =
@@ -122,18 +95,18 @@ pub parse-body-spec : {M : Type 1} → statement M
 parse-body-spec =
     tie.close
     (tie.spec
-    has-marks-requires
+    (λ c κs. search needs)
     returns
-    stamp-in-requires
-    in-limits-requires
+    (λ c κs. search needs)
+    (λ c κs. search needs)
     returns-2
-    day-of-requires
-    enum-known-day
+    (λ c κs. search needs)
+    (λ c. search needs)
     micro-of-requires
-    new-requires
-    take-requires
-    enum-known-f
-    number-requires
+    (λ c κs. search needs)
+    (λ c κs. search needs)
+    (λ c. search needs)
+    (λ c κs. search needs)
     returns-3
     returns-4
     returns-5)

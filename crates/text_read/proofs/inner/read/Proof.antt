@@ -11,18 +11,6 @@ use borrow.Author.Needs.{needs}
 use Rattle.text_read.proofs.inner.read.Statement.{statement}
 use Rattle.text_read.proofs.inner.read.Tie as tie
 
-parse-requires : tie.Need-parse-requires
-parse-requires c κs = search needs
-
-enum-known-f : tie.Need-enum-known-f
-enum-known-f c = search needs
-
-enum-known-t : tie.Need-enum-known-t
-enum-known-t c = search needs
-
-read-time-requires : tie.Need-read-time-requires
-read-time-requires c κs = search needs
-
 returns : tie.Need-returns
 returns c =
     let g = c .before .f .given in
@@ -43,4 +31,4 @@ returns-2 c =
 pub read-spec : {M : Type 1} → statement M
 read-spec =
     tie.close
-    (tie.spec parse-requires enum-known-f enum-known-t read-time-requires returns returns-2)
+    (tie.spec (λ c κs. search needs) (λ c. search needs) (λ c. search needs) (λ c κs. search needs) returns returns-2)

@@ -24,12 +24,6 @@ said c =
 judge-requires : tie.Need-judge-requires
 judge-requires c κs = let s = c .before in let x = s .args in λ h. subst (λ (z : ℤ). accepted (now (x .days)) (now (x .offsets)) z ≡ true) (sym (toZ-ofZ (s .fits .last))) (s .pre h)
 
-enum-known-r : tie.Need-enum-known-r
-enum-known-r c = search needs
-
-enum-known-f : tie.Need-enum-known-f
-enum-known-f c = search needs
-
 returns : tie.Need-returns
 returns c =
     let g = c .before .r .given in
@@ -45,4 +39,4 @@ returns-2 c =
     in-refused (takenScale (x .t)) (outcome (taking (x .t) (now (x .days)) (now (x .offsets)) (x .last))) (g .0 .0) (g .0 .1 .0) (ap slip (sym (g .1)) ∙ said j)
 
 pub read-time-spec : {M : Type 1} → statement M
-read-time-spec = tie.close (tie.spec judge-requires enum-known-r enum-known-f returns returns-2)
+read-time-spec = tie.close (tie.spec judge-requires (λ c. search needs) (λ c. search needs) returns returns-2)

@@ -13,15 +13,6 @@ use borrow.Author.Needs.{needs}
 use Rattle.text_read.proofs.inner.time_in.Statement.{statement}
 use Rattle.text_read.proofs.inner.time_in.Tie as tie
 
-enum-told : tie.Need-enum-told
-enum-told c = search needs
-
-enum-told-2 : tie.Need-enum-told-2
-enum-told-2 c = search needs
-
-enum-known-t : tie.Need-enum-known-t
-enum-known-t c = search needs
-
 change-requires : tie.Need-change-requires
 change-requires c κs =
     let s = c .before .before .before .before in
@@ -55,4 +46,4 @@ returns-3 c =
 pub time-in-spec : {M : Type 1} → statement M
 time-in-spec =
     tie.close
-    (tie.spec enum-told enum-told-2 enum-known-t change-requires returns returns-2 returns-3)
+    (tie.spec (λ c. search needs) (λ c. search needs) (λ c. search needs) change-requires returns returns-2 returns-3)

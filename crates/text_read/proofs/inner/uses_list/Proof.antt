@@ -6,27 +6,6 @@ use borrow.Author.Needs.{needs}
 use Rattle.text_read.proofs.inner.uses_list.Statement.{statement}
 use Rattle.text_read.proofs.inner.uses_list.Tie as tie
 
-enum-told : tie.Need-enum-told
-enum-told c = search needs
-
-enum-known-t : tie.Need-enum-known-t
-enum-known-t c = search needs
-
-is-utc-requires : tie.Need-is-utc-requires
-is-utc-requires c κs = search needs
-
-enum-known-t-2 : tie.Need-enum-known-t-2
-enum-known-t-2 c = search needs
-
-scale-requires : tie.Need-scale-requires
-scale-requires c κs = search needs
-
-is-utc-requires-2 : tie.Need-is-utc-requires-2
-is-utc-requires-2 c κs = search needs
-
-returns : tie.Need-returns
-returns c = search needs
-
 returns-2 : tie.Need-returns-2
 returns-2 c = c .is-utc .ensures ∙ sym (ap usesIn (c .before .before .t .given .1))
 
@@ -37,12 +16,12 @@ pub uses-list-spec : {M : Type 1} → statement M
 uses-list-spec =
     tie.close
     (tie.spec
-    enum-told
-    enum-known-t
-    is-utc-requires
-    enum-known-t-2
-    scale-requires
-    is-utc-requires-2
-    returns
+    (λ c. search needs)
+    (λ c. search needs)
+    (λ c κs. search needs)
+    (λ c. search needs)
+    (λ c κs. search needs)
+    (λ c κs. search needs)
+    (λ c. search needs)
     returns-2
     returns-3)

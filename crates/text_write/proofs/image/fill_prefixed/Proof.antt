@@ -19,33 +19,6 @@ use Rattle.text_write.proofs.image.fill_prefixed.Tie as tie
 returns : tie.Need-returns
 returns c = let x = c .before .before .args in prefix-short (x .z) (bodyOf (x .micros) (x .t)) (now (x .out)) (c .if1 .taken)
 
-sub-fill : tie.Need-sub-fill
-sub-fill c = search needs
-
-part-fill-start : tie.Need-part-fill-start
-part-fill-start c = search needs
-
-part-fill-end : tie.Need-part-fill-end
-part-fill-end c = search needs
-
-fill-requires : tie.Need-fill-requires
-fill-requires c κs = search needs
-
-enum-known-f : tie.Need-enum-known-f
-enum-known-f c = search needs
-
-enum-known-n : tie.Need-enum-known-n
-enum-known-n c = search needs
-
-prefix-requires : tie.Need-prefix-requires
-prefix-requires c κs = search needs
-
-slice-aggregate-put : tie.Need-slice-aggregate-put
-slice-aggregate-put c = search needs
-
-put-requires : tie.Need-put-requires
-put-requires c κs = search needs
-
 add-t22 : tie.Need-add-t22
 add-t22 c =
     let n = c .before .before .before .before .before .before .before in
@@ -57,9 +30,6 @@ add-t22 c =
     let q : wrote (W.Bytes (n .n .given .0 .0)) left ≡ putting y (drop 4 o) = ap (λ (w : Written). wrote w left) (sym (n .n .given .1)) ∙ i .fill .ensures ∙ ap (putting y) (rest-lent 4 o) in
     record { fits = omega (arith, rest-small (x .z) y o (i .before .before .if1 .left) left (n .n .given .0 .0) q, body-small (x .micros) (x .t)) }
 
-same-length : tie.Need-same-length
-same-length c = search needs
-
 returns-2 : tie.Need-returns-2
 returns-2 c =
     let i = c .before .before .before .before .before in
@@ -70,9 +40,6 @@ returns-2 c =
     let left = i .fill .last .1 .1 .0 in
     let q : wrote (W.Refused (g .0 .0)) left ≡ putting y (drop 4 o) = ap (λ (w : Written). wrote w left) (sym (g .1)) ∙ i .fill .ensures ∙ ap (putting y) (rest-lent 4 o) in
     ap (wrote (W.Refused (g .0 .0))) (rest-back 4 o left) ∙ prefix-none (x .z) y o (i .before .before .if1 .left) left (g .0 .0) q
-
-same-length-2 : tie.Need-same-length-2
-same-length-2 c = search needs
 
 returns-3 : tie.Need-returns-3
 returns-3 c =
@@ -91,17 +58,17 @@ fill-prefixed-spec =
     tie.close
     (tie.spec
     returns
-    sub-fill
-    part-fill-start
-    part-fill-end
-    fill-requires
-    enum-known-f
-    enum-known-n
-    prefix-requires
-    slice-aggregate-put
-    put-requires
+    (λ c. search needs)
+    (λ c. search needs)
+    (λ c. search needs)
+    (λ c κs. search needs)
+    (λ c. search needs)
+    (λ c. search needs)
+    (λ c κs. search needs)
+    (λ c. search needs)
+    (λ c κs. search needs)
     add-t22
-    same-length
+    (λ c. search needs)
     returns-2
-    same-length-2
+    (λ c. search needs)
     returns-3)

@@ -10,20 +10,11 @@ use borrow.Author.Needs.{needs}
 use Rattle.text_write.proofs.image.put.Statement.{statement}
 use Rattle.text_write.proofs.image.put.Tie as tie
 
-put-requires : tie.Need-put-requires
-put-requires c κs = search needs
-
-same-length : tie.Need-same-length
-same-length c = search needs
-
 returns : tie.Need-returns
 returns c =
     let p = c .before .before .before in
     let x = p .before .before .before .before .args in
     ap (wrote (W.Bytes (length (now (x .image))))) (p .put .ensures .1) ∙ put-done (now (x .image)) (now (x .out)) (sym (p .put .ensures .0) ∙ c .if1 .taken)
-
-same-length-2 : tie.Need-same-length-2
-same-length-2 c = search needs
 
 returns-2 : tie.Need-returns-2
 returns-2 c =
@@ -32,4 +23,4 @@ returns-2 c =
     ap (wrote (W.Refused R.Room)) (p .put .ensures .1) ∙ put-none (now (x .image)) (now (x .out)) (sym (p .put .ensures .0) ∙ c .if1 .left)
 
 pub put-spec : {M : Type 1} → statement M
-put-spec = tie.close (tie.spec put-requires same-length returns same-length-2 returns-2)
+put-spec = tie.close (tie.spec (λ c κs. search needs) (λ c. search needs) returns (λ c. search needs) returns-2)

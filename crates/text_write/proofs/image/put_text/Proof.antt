@@ -10,18 +10,6 @@ use borrow.Author.Needs.{needs}
 use Rattle.text_write.proofs.image.put_text.Statement.{statement}
 use Rattle.text_write.proofs.image.put_text.Tie as tie
 
-has-micros-requires : tie.Need-has-micros-requires
-has-micros-requires c κs = search needs
-
-shows-scale-requires : tie.Need-shows-scale-requires
-shows-scale-requires c κs = search needs
-
-fill-prefixed-requires : tie.Need-fill-prefixed-requires
-fill-prefixed-requires c κs = search needs
-
-same-length : tie.Need-same-length
-same-length c = search needs
-
 returns : tie.Need-returns
 returns c =
     let s = c .before .before .before .before .before in
@@ -29,12 +17,6 @@ returns c =
     c .before .before .fill-prefixed .ensures
     ∙ ap (λ (m : Bool). putting (prefixOf (x .z) ++ bodyOf m (x .t)) (now (x .out))) (s .before .has-micros .ensures)
     ∙ sym (rw (sym (s .shows-scale .ensures) ∙ c .before .before .before .before .if1 .taken))
-
-fill-requires : tie.Need-fill-requires
-fill-requires c κs = search needs
-
-same-length-2 : tie.Need-same-length-2
-same-length-2 c = search needs
 
 returns-2 : tie.Need-returns-2
 returns-2 c =
@@ -48,11 +30,11 @@ pub put-text-spec : {M : Type 1} → statement M
 put-text-spec =
     tie.close
     (tie.spec
-    has-micros-requires
-    shows-scale-requires
-    fill-prefixed-requires
-    same-length
+    (λ c κs. search needs)
+    (λ c κs. search needs)
+    (λ c κs. search needs)
+    (λ c. search needs)
     returns
-    fill-requires
-    same-length-2
+    (λ c κs. search needs)
+    (λ c. search needs)
     returns-2)

@@ -5,14 +5,8 @@ use borrow.Author.Needs.{needs}
 use Rattle.text_write.proofs.inner.has_image.Statement.{statement}
 use Rattle.text_write.proofs.inner.has_image.Tie as tie
 
-has-scale-requires : tie.Need-has-scale-requires
-has-scale-requires c κs = search needs
-
 returns : tie.Need-returns
 returns c = sym (rw (sym (c .before .has-scale .ensures) ∙ not-true _ (c .if1 .taken)))
-
-has-micros-requires : tie.Need-has-micros-requires
-has-micros-requires c κs = search needs
 
 returns-2 : tie.Need-returns-2
 returns-2 c = let s = c .before .before .before in sym (rw (sym (s .has-scale .ensures) ∙ not-false _ (c .before .before .if1 .left), sym (c .before .has-micros .ensures) ∙ c .if2 .taken))
@@ -22,4 +16,4 @@ returns-3 c = let s = c .before .before .before in sym (rw (sym (s .has-scale .e
 
 pub has-image-spec : {M : Type 1} → statement M
 has-image-spec =
-    tie.close (tie.spec has-scale-requires returns has-micros-requires returns-2 returns-3)
+    tie.close (tie.spec (λ c κs. search needs) returns (λ c κs. search needs) returns-2 returns-3)

@@ -9,15 +9,6 @@ use borrow.Author.Needs.{needs}
 use Rattle.text_write.proofs.inner.write.Statement.{statement}
 use Rattle.text_write.proofs.inner.write.Tie as tie
 
-take-requires : tie.Need-take-requires
-take-requires c κs = search needs
-
-write-time-requires : tie.Need-write-time-requires
-write-time-requires c κs = search needs
-
-same-length : tie.Need-same-length
-same-length c = search needs
-
 returns : tie.Need-returns
 returns c =
     let t = c .before .before .before .before in
@@ -28,4 +19,4 @@ returns c =
     ∙ write-took (t .take .result) (x .form) (now (x .days)) (now (x .offsets)) (x .last) (now (x .out)) (x .h) (t .take .ensures)
 
 pub write-spec : {M : Type 1} → statement M
-write-spec = tie.close (tie.spec take-requires write-time-requires same-length returns)
+write-spec = tie.close (tie.spec (λ c κs. search needs) (λ c κs. search needs) (λ c. search needs) returns)

@@ -18,22 +18,10 @@ use Rattle.text_write.proofs.inner.write_record.Tie as tie
 dated : (c : tie.After-date-of) → dateSlip (c .date-of .result) ≡ dateOfDay (c .before .before .before .before .before .args .r .day)
 dated c = c .date-of .ensures ∙ ap dateOfDay (toZ-ofZ {w = w64} {z = c .before .before .before .before .before .args .r .day} (record { sfits = c .before .struct-told .given .1 .0 .1 }))
 
-has-image-requires : tie.Need-has-image-requires
-has-image-requires c κs = search needs
-
 returns : tie.Need-returns
 returns c =
     let x = c .before .before .before .args in
     image-lacks (x .form) (x .r .scale) (recordMoment (x .r)) (now (x .out)) (sym (c .before .has-image .ensures) ∙ not-true _ (c .if1 .taken))
-
-date-of-requires : tie.Need-date-of-requires
-date-of-requires c κs = search needs
-
-enum-known-date : tie.Need-enum-known-date
-enum-known-date c = search needs
-
-stamp-of-requires : tie.Need-stamp-of-requires
-stamp-of-requires c κs = search needs
 
 put-text-requires : tie.Need-put-text-requires
 put-text-requires c κs =
@@ -41,12 +29,6 @@ put-text-requires c κs =
     let d = c .before .before .before .before .before in
     let x = d .before .before .before .before .before .args in
     rw (c .before .stamp-of .ensures) (month-in (x .r .day) (g .0 .0) (ap dateSlip (sym (g .1)) ∙ dated d))
-
-enum-known-f : tie.Need-enum-known-f
-enum-known-f c = search needs
-
-same-length : tie.Need-same-length
-same-length c = search needs
 
 returns-2 : tie.Need-returns-2
 returns-2 c =
@@ -69,13 +51,13 @@ pub write-record-spec : {M : Type 1} → statement M
 write-record-spec =
     tie.close
     (tie.spec
-    has-image-requires
+    (λ c κs. search needs)
     returns
-    date-of-requires
-    enum-known-date
-    stamp-of-requires
+    (λ c κs. search needs)
+    (λ c. search needs)
+    (λ c κs. search needs)
     put-text-requires
-    enum-known-f
-    same-length
+    (λ c. search needs)
+    (λ c. search needs)
     returns-2
     returns-3)

@@ -23,21 +23,12 @@ said c =
 judge-requires : tie.Need-judge-requires
 judge-requires c κs = let s = c .before .before in let x = s .args in λ h. subst (λ (z : ℤ). accepted (now (x .days)) (now (x .offsets)) z ≡ true) (sym (toZ-ofZ (s .fits .last))) (s .pre h)
 
-enum-known-r : tie.Need-enum-known-r
-enum-known-r c = search needs
-
 write-record-requires : tie.Need-write-record-requires
 write-record-requires c κs =
     let g = c .before .before .r .given in
     let j = c .before .before .before .before in
     let x = j .before .before .before .args in
     write-inside (x .t) (x .form) (now (x .days)) (now (x .offsets)) (x .last) (now (x .out)) (j .judge .result) (said j) (g .0 .0) (g .1)
-
-enum-known-f : tie.Need-enum-known-f
-enum-known-f c = search needs
-
-same-length : tie.Need-same-length
-same-length c = search needs
 
 returns : tie.Need-returns
 returns c =
@@ -58,9 +49,9 @@ write-time-spec =
     tie.close
     (tie.spec
     judge-requires
-    enum-known-r
+    (λ c. search needs)
     write-record-requires
-    enum-known-f
-    same-length
+    (λ c. search needs)
+    (λ c. search needs)
     returns
     returns-2)
