@@ -8,7 +8,7 @@ use lib.IntN.{ℤ}
 use lib.Ieee.{Float}
 use Rattle.scales.specs.declared.Handed.{Handed}
 use Rattle.scales.specs.declared.Handed.the-variants as H
-use Rattle.scales.specs.Meaning.{codeOf, scaleAt, given, outcome, Slip, dated, recordOf}
+use Rattle.scales.specs.Meaning.{codeOf, scaleAt, given, outcome, Slip, dated, recordOf, Judged, Moment}
 use Rattle.decimal.specs.Meaning.{reading, writing, DecimalSlip, Allowed}
 use Rattle.correlation.specs.Meaning.{TickSlip, ticked, dateOf, turning}
 use Rattle.correlation.specs.declared.Correlation.{Correlation}
@@ -76,11 +76,13 @@ sbtTick h c = tickOut (ticked (outcome (given (known h) 3 (turning (correlationO
 abbrev pub listAccepted : List ℤ → List ℕ → ℤ → ℕ
 listAccepted ds os e = cond (accepted ds os e) 1 0
 
+abbrev pub changingOf : VrkHanded → ℕ → List ℤ → List ℕ → ℤ → Judged Moment
+changingOf h c ds os e =
+    given (knownScale c && known h) 3
+    (changing (handedOf h) (scaleAt c) ds os e)
+
 unfoldable pub changed : VrkHanded → ℕ → List ℤ → List ℕ → ℤ → VrkTime
-changed h c ds os e =
-    timeOut (dated (scaleAt c) (outcome
-    (given (knownScale c && known h) 3
-    (changing (handedOf h) (scaleAt c) ds os e))))
+changed h c ds os e = timeOut (dated (scaleAt c) (outcome (changingOf h c ds os e)))
 
 -- ---- the inner answers
 unfoldable pub namedBy : ℕ → Named

@@ -87,11 +87,11 @@ numbers (gives a) = []
 abbrev pub order : List ℕ
 order = 1 ∷ 2 ∷ 3 ∷ 4 ∷ 5 ∷ 6 ∷ 7 ∷ 8 ∷ 9 ∷ 10 ∷ 11 ∷ 12 ∷ 13 ∷ []
 
--- numbers stand in an order: each is there, after the one before
+-- numbers stand in an order: each is there, and not before the one before
 abbrev pub standsIn : List ℕ → List ℕ → Bool
 standsIn [] os = true
 standsIn (n ∷ ns) [] = false
-standsIn (n ∷ ns) (o ∷ os) = cond (eqb n o) (standsIn ns os) (standsIn (n ∷ ns) os)
+standsIn (n ∷ ns) (o ∷ os) = cond (eqb n o) (standsIn ns (o ∷ os)) (standsIn (n ∷ ns) os)
 
 -- ---- what the desk hands back of a time: the number (0 for an answer), the scale, the day and the microsecond
 pub record Slip : Type 0 where

@@ -1,0 +1,5 @@
+pub mod Meaning
+pub mod First
+pub mod One
+pub mod OneForC
+pub mod Three

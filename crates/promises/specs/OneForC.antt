@@ -1,0 +1,157 @@
+-- Demand 1 of every function for C: the same rows, a number that stands for nothing among them (3). Assumes nothing.
+use mathlib.Core.Path.{_≡_, refl}
+use mathlib.Core.Bool.{true}
+use mathlib.Core.List.{List}
+use Prim.Native.Nat.{ℕ}
+use lib.Ieee.{Float}
+use lib.IntN.{ℤ}
+use Rattle.scales.specs.Meaning.{scaleAt, Judged, given, Outcome, outcome, numbers, order, standsIn, Moment, dated, Wrote, written}
+use Rattle.scales.specs.declared.Scale.{Scale}
+use Rattle.scales.specs.declared.Scale.the-variants as S
+use Rattle.scales.specs.declared.Tick.{Tick}
+use Rattle.decimal.specs.Meaning as Decimal
+use Rattle.changes.specs.Meaning as Changes
+use Rattle.leap_laws.proofs.Order.{any}
+use Rattle.correlation.specs.Meaning as Correlation
+use Rattle.fields.specs.Meaning.{valued}
+use Rattle.fields.specs.Cuc as CucFields
+use Rattle.fields.specs.Goce as GoceFields
+use Rattle.fields.specs.Obet as ObetFields
+use Rattle.fields.specs.Proteus as ProteusFields
+use Rattle.fields.specs.Cryosat as CryosatFields
+use Rattle.fields.specs.Siral as SiralFields
+use Rattle.fields.specs.Sbt as SbtFields
+use Rattle.layouts.specs.Cuc as Cuc
+use Rattle.layouts.specs.Proteus as Proteus
+use Rattle.layouts.specs.Cryosat as Cryosat
+use Rattle.layouts.specs.Siral as Siral
+use Rattle.text_read.specs.Meaning as TextRead
+use Rattle.rack.specs.Meaning as Rack
+use Rattle.rack.specs.Bytes as Bytes
+use Rattle.rack.specs.Parts as Parts
+use Rattle.rack.specs.Texts as Texts
+use Rattle.rack.specs.declared.VrkHanded.{VrkHanded}
+use Rattle.rack.specs.declared.VrkTime.{VrkTime}
+use Rattle.rack.specs.declared.VrkCount.{VrkCount}
+use Rattle.rack.specs.declared.VrkCorrelation.{VrkCorrelation}
+use Rattle.rack.specs.declared.bytes.VrkProteus.{VrkProteus}
+use Rattle.rack.specs.declared.parts.VrkCucFields.{VrkCucFields}
+use Rattle.rack.specs.declared.parts.VrkProteusFields.{VrkProteusFields}
+use Rattle.rack.specs.declared.parts.VrkCryosatFields.{VrkCryosatFields}
+use Rattle.rack.specs.declared.parts.VrkSiralFields.{VrkSiralFields}
+use Rattle.promises.specs.Meaning.{Kind, Promise}
+use Rattle.promises.specs.First.{promised}
+use Rattle.promises.specs.One.{Writes, writes}
+
+-- ---- the kinds of answers
+abbrev pub Times : Scale → VrkTime → Judged Moment → Type 0
+Times s r j = Promise (λ (o : Outcome Moment). Rack.timeOut (dated s o)) (λ (x : VrkTime). x .refusal) r j
+
+times : (s : Scale) (j : Judged Moment) → standsIn (numbers j) order ≡ true → Times s (Rack.timeOut (dated s (outcome j))) j
+times s j r = promised (record { of-refusal = λ n. refl; of-answer = λ a. refl }) j r
+
+abbrev pub Counts : VrkCount → Judged ℕ → Type 0
+Counts r j = Promise (λ (o : Outcome ℕ). Bytes.countOut (valued 0 o)) (λ (x : VrkCount). x .refusal) r j
+
+counts : (j : Judged ℕ) → standsIn (numbers j) order ≡ true → Counts (Bytes.countOut (valued 0 (outcome j))) j
+counts j r = promised (record { of-refusal = λ n. refl; of-answer = λ a. refl }) j r
+
+pub decimal-read : (x : Float) (c : ℕ) → Times (scaleAt c) (Rack.decimalRead x c) (given (Rack.knownScale c) 3 (Decimal.reading x (scaleAt c)))
+unfolding Rack.decimalRead
+decimal-read x c = times (scaleAt c) (given (Rack.knownScale c) 3 (Decimal.reading x (scaleAt c))) refl
+
+pub change : (h : VrkHanded) (c : ℕ) (ds : List ℤ) (os : List ℕ) (e : ℤ) → Times (scaleAt c) (Rack.changed h c ds os e) (Rack.changingOf h c ds os e)
+unfolding Rack.changed
+change h c ds os e = times (scaleAt c) (Rack.changingOf h c ds os e) (any (Rack.handedOf h) (scaleAt c) ds os e)
+
+pub sbt-date : (t : ℕ) (c : VrkCorrelation) (d : ℤ) (u : ℕ) → Times (Rack.correlationOf c .scale) (Rack.sbtDate t c d u) (Correlation.dating (Rack.correlationOf c) t d u)
+unfolding Rack.sbtDate Correlation.dateOf
+sbt-date t c d u = times (Rack.correlationOf c .scale) (Correlation.dating (Rack.correlationOf c) t d u) refl
+
+pub sbt-tick : (h : VrkHanded) (c : VrkCorrelation) → Promise (λ (o : Outcome ℕ). Rack.tickOut (Correlation.ticked o)) (λ (x : VrkCount). x .refusal) (Rack.sbtTick h c) (given (Rack.known h) 3 (Correlation.turning (Rack.correlationOf c) (Rack.handedOf h)))
+unfolding Rack.sbtTick
+sbt-tick h c = promised (record { of-refusal = λ n. refl; of-answer = λ a. refl }) (given (Rack.known h) 3 (Correlation.turning (Rack.correlationOf c) (Rack.handedOf h))) refl
+
+pub cuc-read : (s : List ℕ) → Times S.Gps (Rack.timeOut (Cuc.read s)) (Cuc.reading s)
+unfolding Cuc.read
+cuc-read s = times S.Gps (Cuc.reading s) refl
+
+pub cuc-write : (h : VrkHanded) (out : List ℕ) → Writes out (Bytes.writes (Bytes.handedWriting Cuc.writing h) out) (Bytes.handedWriting Cuc.writing h out)
+unfolding Bytes.writes
+cuc-write h out = writes out (Bytes.handedWriting Cuc.writing h out) refl
+
+pub cryosat-read : (s : List ℕ) → Times S.Tai (Rack.timeOut (Cryosat.read s)) (Cryosat.reading s)
+unfolding Cryosat.read
+cryosat-read s = times S.Tai (Cryosat.reading s) refl
+
+pub cryosat-write : (h : VrkHanded) (out : List ℕ) → Writes out (Bytes.writes (Bytes.handedWriting Cryosat.writing h) out) (Bytes.handedWriting Cryosat.writing h out)
+unfolding Bytes.writes
+cryosat-write h out = writes out (Bytes.handedWriting Cryosat.writing h out) refl
+
+pub siral-read : (s : List ℕ) → Times S.Tai (Rack.timeOut (Siral.read s)) (Siral.reading s)
+unfolding Siral.read
+siral-read s = times S.Tai (Siral.reading s) refl
+
+pub siral-write : (h : VrkHanded) (out : List ℕ) → Writes out (Bytes.writes (Bytes.handedWriting Siral.writing h) out) (Bytes.handedWriting Siral.writing h out)
+unfolding Bytes.writes
+siral-write h out = writes out (Bytes.handedWriting Siral.writing h out) refl
+
+pub proteus-read : (s : List ℕ) → Promise (λ (o : Outcome Proteus.Stamp). Bytes.proteusOut (Proteus.stamped o)) (λ (x : VrkProteus). x .refusal) (Bytes.proteusOut (Proteus.read s)) (Proteus.reading s)
+unfolding Proteus.read
+proteus-read s = promised (record { of-refusal = λ n. refl; of-answer = λ a. refl }) (Proteus.reading s) refl
+
+pub proteus-write : (h : VrkHanded) (b : ℕ) (out : List ℕ) → Writes out (Bytes.writes (Bytes.handedWriting (Bytes.proteusWriting b) h) out) (Bytes.handedWriting (Bytes.proteusWriting b) h out)
+unfolding Bytes.writes
+proteus-write h b out = writes out (Bytes.handedWriting (Bytes.proteusWriting b) h out) refl
+
+pub goce-read : (s : List ℕ) → Counts (Bytes.countOut (GoceFields.read s)) (GoceFields.reading s)
+unfolding GoceFields.read
+goce-read s = counts (GoceFields.reading s) refl
+
+pub obet-read : (s : List ℕ) → Counts (Bytes.countOut (ObetFields.read s)) (ObetFields.reading s)
+unfolding ObetFields.read
+obet-read s = counts (ObetFields.reading s) refl
+
+pub sbt-read : (s : List ℕ) → Promise (λ (o : Outcome Tick). Bytes.sbtOut (valued SbtFields.empty o)) (λ (x : VrkCount). x .refusal) (Bytes.sbtOut (SbtFields.read s)) (SbtFields.reading s)
+unfolding SbtFields.read
+sbt-read s = promised (record { of-refusal = λ n. refl; of-answer = λ a. refl }) (SbtFields.reading s) refl
+
+pub cuc-fields-read : (s : List ℕ) → Promise (λ (o : Outcome _). Parts.cucFields (valued CucFields.empty o)) (λ (x : VrkCucFields). x .refusal) (Parts.cucFields (CucFields.read s)) (CucFields.reading s)
+unfolding CucFields.read
+cuc-fields-read s = promised (record { of-refusal = λ n. refl; of-answer = λ a. refl }) (CucFields.reading s) refl
+
+pub cuc-fields-write : (seconds fraction : ℕ) (out : List ℕ) → Writes out (Bytes.writes (Parts.cucFieldsWriting seconds fraction) out) (Parts.cucFieldsWriting seconds fraction out)
+unfolding Bytes.writes
+cuc-fields-write seconds fraction out = writes out (Parts.cucFieldsWriting seconds fraction out) refl
+
+pub proteus-fields-read : (s : List ℕ) → Promise (λ (o : Outcome _). Parts.proteusFields (valued ProteusFields.empty o)) (λ (x : VrkProteusFields). x .refusal) (Parts.proteusFields (ProteusFields.read s)) (ProteusFields.reading s)
+unfolding ProteusFields.read
+proteus-fields-read s = promised (record { of-refusal = λ n. refl; of-answer = λ a. refl }) (ProteusFields.reading s) refl
+
+pub proteus-fields-write : (week h3 second fraction : ℕ) (out : List ℕ) → Writes out (Bytes.writes (Parts.proteusFieldsWriting week h3 second fraction) out) (Parts.proteusFieldsWriting week h3 second fraction out)
+unfolding Bytes.writes
+proteus-fields-write week h3 second fraction out = writes out (Parts.proteusFieldsWriting week h3 second fraction out) refl
+
+pub cryosat-fields-read : (s : List ℕ) → Promise (λ (o : Outcome _). Parts.cryosatFields (valued CryosatFields.empty o)) (λ (x : VrkCryosatFields). x .refusal) (Parts.cryosatFields (CryosatFields.read s)) (CryosatFields.reading s)
+unfolding CryosatFields.read
+cryosat-fields-read s = promised (record { of-refusal = λ n. refl; of-answer = λ a. refl }) (CryosatFields.reading s) refl
+
+pub cryosat-fields-write : (day millisecond microsecond : ℕ) (out : List ℕ) → Writes out (Bytes.writes (Parts.cryosatFieldsWriting day millisecond microsecond) out) (Parts.cryosatFieldsWriting day millisecond microsecond out)
+unfolding Bytes.writes
+cryosat-fields-write day millisecond microsecond out = writes out (Parts.cryosatFieldsWriting day millisecond microsecond out) refl
+
+pub siral-fields-read : (s : List ℕ) → Promise (λ (o : Outcome _). Parts.siralFields (valued SiralFields.empty o)) (λ (x : VrkSiralFields). x .refusal) (Parts.siralFields (SiralFields.read s)) (SiralFields.reading s)
+unfolding SiralFields.read
+siral-fields-read s = promised (record { of-refusal = λ n. refl; of-answer = λ a. refl }) (SiralFields.reading s) refl
+
+pub siral-fields-write : (day millisecond microsecond extra : ℕ) (out : List ℕ) → Writes out (Bytes.writes (Parts.siralFieldsWriting day millisecond microsecond extra) out) (Parts.siralFieldsWriting day millisecond microsecond extra out)
+unfolding Bytes.writes
+siral-fields-write day millisecond microsecond extra out = writes out (Parts.siralFieldsWriting day millisecond microsecond extra out) refl
+
+pub text-read : (s : List ℕ) (ds : List ℤ) (os : List ℕ) (e : ℤ) → Promise (λ (o : Outcome Moment). Rack.timeOut (TextRead.datedIn (TextRead.scaleIn s) o)) (λ (x : VrkTime). x .refusal) (Rack.timeOut (TextRead.readText s ds os e)) (TextRead.reading s ds os e)
+unfolding TextRead.readText
+text-read s ds os e = promised (record { of-refusal = λ n. refl; of-answer = λ a. refl }) (TextRead.reading s ds os e) refl
+
+pub text-write : (h : VrkHanded) (n : ℕ) (ds : List ℤ) (os : List ℕ) (e : ℤ) (out : List ℕ) → Writes out (Bytes.writes (Bytes.handedWriting (Texts.textWriting n ds os e) h) out) (Bytes.handedWriting (Texts.textWriting n ds os e) h out)
+unfolding Bytes.writes
+text-write h n ds os e out = writes out (Bytes.handedWriting (Texts.textWriting n ds os e) h out) refl
