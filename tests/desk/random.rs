@@ -79,8 +79,9 @@ pub fn lines(seed: u64, bytes: usize) -> Vec<u8> {
     made
 }
 
-/// For the benchmark: UTC, TAI and GPS in the four forms, half of the lines UTC, any time from 1972 (GPS: 1980) to 2024, one line
-/// in a hundred a second 60; of a hundred lines one is too long, one has a bad character, one a bad date and one no second 60.
+/// For the benchmark: UTC, TAI and GPS in the four forms, half of the lines UTC, any time from 1972 (GPS: 1980) to 2024. Of a hundred
+/// lines one tells an instant within a second 60, and one each is too long, has a bad character, a bad date, or a second 60 that its
+/// day or its scale lacks.
 pub fn mix(seed: u64, lines: u64) -> Vec<u8> {
     let (mut random, days) = (Random(seed), steps());
     let offsets: Vec<u64> = (10..38).collect();
