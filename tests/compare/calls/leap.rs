@@ -1,17 +1,8 @@
 use super::{answered, handed, Answer, Call, Random};
 use crate::independent::calendar::{day_of, Date};
 use crate::independent::leap::{change, List};
+use crate::independent::lines::steps as published;
 use crate::independent::time::Scale;
-
-/// The 28 steps that were published: years with a step on 1 January, and on 1 July.
-fn published() -> Vec<i64> {
-    let january = [1972, 1973, 1974, 1975, 1976, 1977, 1978, 1979, 1980, 1988, 1990, 1991, 1996, 1999, 2006, 2009, 2017];
-    let july = [1972, 1981, 1982, 1983, 1985, 1992, 1993, 1994, 1997, 2012, 2015];
-    let first = |year: i64, month| day_of(&Date { year, month, day: 1 }).expect("a date");
-    let mut days: Vec<i64> = january.iter().map(|&y| first(y, 1)).chain(july.iter().map(|&y| first(y, 7))).collect();
-    days.sort_unstable();
-    days
-}
 
 /// Firsts of months, rising, from January 1972 on.
 fn made_up(random: &mut Random, steps: u64) -> Vec<i64> {
