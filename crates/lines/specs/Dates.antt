@@ -1,12 +1,12 @@
 -- What the answer for a line tells. Assumes nothing.
-use mathlib.Core.Path.{_≡_, refl, sym, subst, _∙_}
-use mathlib.Core.Bool.{true, false}
+use mathlib.Core.Path.{_≡_, refl, sym, _∙_}
+use mathlib.Core.Bool.{true}
 use mathlib.Core.List.{List}
 use Prim.Native.Nat.{ℕ}
 use native.Mathlib.Omega.{arith}
 use lib.IntN.{ℤ}
-use Rattle.scales.specs.Meaning.{inSpan, Judged, given, gives, Outcome, refused, answer, outcome, Moment, dated, numberOf, slip}
-use Rattle.scales.specs.Order.{onward, then-is}
+use Rattle.scales.specs.Meaning.{inSpan, Outcome, refused, answer, outcome, Moment, dated, numberOf, slip}
+use Rattle.scales.specs.Order.{onward, then-is, ends}
 use Rattle.scales.specs.declared.Scale.{Scale}
 use Rattle.scales.specs.declared.Scale.the-variants as S
 use Rattle.scales.specs.declared.Record.{Record}
@@ -19,16 +19,6 @@ use Rattle.text_read.specs.In.{into}
 use Rattle.lines.specs.Meaning.{dating}
 
 module _ (ds : List ℤ) (os : List ℕ) (e : ℤ) where
-  -- an answer of a chain has what its end has, given the tests before
-  abbrev Ends : (Moment → Type 0) → Judged Moment → Type 0
-  Ends P (given t n rest) = t ≡ true → Ends P rest
-  Ends P (gives m) = P m
-
-  ends : (P : Moment → Type 0) (j : Judged Moment) (n : Moment) → Ends P j → outcome j ≡ answer n → P n
-  ends P (given true k rest) n w q = ends P rest n (w refl) q
-  ends P (given false k rest) n w q = absurd (let y : _≡_ {A = ℕ} 0 1 = cc in omega arith)
-  ends P (gives m) n w q = let y : m ≡ n = cc in subst P y w
-
   abbrev Inside : Moment → Type 0
   Inside m = inSpan S.Tai (m .day) (m .micro) ≡ true
 

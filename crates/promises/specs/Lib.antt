@@ -2,4 +2,5 @@ pub mod Meaning
 pub mod First
 pub mod One
 pub mod OneForC
+pub mod Two
 pub mod Three

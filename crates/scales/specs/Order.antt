@@ -43,3 +43,13 @@ pub then-is : {A B : Type 0} (j : Judged A) (f : A → Judged B) → outcome (an
 then-is (given true n rest) f = then-is rest f
 then-is (given false n rest) f = refl
 then-is (gives a) f = refl
+
+-- an answer of a chain has what its end has, given the tests before
+abbrev pub Ends : {A : Type 0} → (A → Type 0) → Judged A → Type 0
+Ends P (given t n rest) = t ≡ true → Ends P rest
+Ends P (gives a) = P a
+
+pub ends : {A : Type 0} (P : A → Type 0) (j : Judged A) (b : A) → Ends P j → outcome j ≡ answer b → P b
+ends P (given true n rest) b w q = ends P rest b (w refl) q
+ends P (given false n rest) b w q = absurd (let z : _≡_ {A = ℕ} 0 1 = cc in omega arith)
+ends P (gives a) b w q = let y : a ≡ b = cc in subst P y w
