@@ -1,5 +1,5 @@
 -- Wrong covers for C, each shut out by an input at which its answer is not the meaning's. Assumes nothing.
-use mathlib.Core.Path.{refl}
+use mathlib.Core.Path.{_≡_, refl}
 use mathlib.Core.Bool.{cond, _&&_}
 use mathlib.Core.List.{List, [], _∷_}
 use Prim.Native.Nat.{ℕ}
@@ -44,17 +44,25 @@ right : DecimalWrote strange (record { refusal = 3; day = plusZero })
 unfolding DecimalWrote
 right = (refl, refl)
 
--- an unknown kind taken for a record
-pub write-unknown : DecimalWrote strange (record { refusal = 0; day = plusZero }) → ⊥
-write-unknown w =
-    differ (λ (d : VrkDecimal). d .refusal) (λ e. omega arith)
-    (decimal-one strange (record { refusal = 3; day = plusZero }) (record { refusal = 0; day = plusZero }) right w)
+abbrev ShutWrite : VrkHanded → VrkDecimal → VrkDecimal → VrkDecimal → Type 0
+ShutWrite h a wrong b = DecimalWrote h a × (wrong ≡ b) × (DecimalWrote h wrong → ⊥)
+
+forbidden : (b : VrkDecimal) → (_≡_ {A = ℕ} 3 (b .refusal) → ⊥) → DecimalWrote strange b → ⊥
+forbidden b d w = differ (λ (t : VrkDecimal). t .refusal) d (decimal-one strange (record { refusal = 3; day = plusZero }) b right w)
+
+-- an unknown kind taken for a record, which stands at day 0
+abbrev anyKind : VrkHanded → VrkDecimal
+anyKind h = record { refusal = 0; day = plusZero }
+
+pub write-unknown : ShutWrite strange (record { refusal = 3; day = plusZero }) (anyKind strange) (record { refusal = 0; day = plusZero })
+write-unknown = (right, refl, forbidden (anyKind strange) (λ e. omega arith))
 
 -- an unknown kind refused as not finite
-pub write-four : DecimalWrote strange (record { refusal = 4; day = plusZero }) → ⊥
-write-four w =
-    differ (λ (d : VrkDecimal). d .refusal) (λ e. omega arith)
-    (decimal-one strange (record { refusal = 3; day = plusZero }) (record { refusal = 4; day = plusZero }) right w)
+abbrev notFinite : VrkHanded → VrkDecimal
+notFinite h = record { refusal = 4; day = plusZero }
+
+pub write-four : ShutWrite strange (record { refusal = 3; day = plusZero }) (notFinite strange) (record { refusal = 4; day = plusZero })
+write-four = (right, refl, forbidden (notFinite strange) (λ e. omega arith))
 
 -- ---- vrk_sbt_date
 abbrev dead : ℕ → VrkCorrelation
