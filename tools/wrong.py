@@ -32,7 +32,7 @@ TOLD = [
 _USE = re.compile(r"^use Rattle·(\w+)(?:·\w+)?\.(specs|proofs)\.([^\s{}]+?)(?:\.\{([^}]*)\}| as (\w+))\s*$", re.M)
 _WORD = re.compile(rf"(?<![^\s(){{}};,@]){NAME}(?:\.{NAME})*")
 # A theorem may be one for each value of a variable: (s : Scale) → ShutOut ..
-_SHUT = re.compile(r"\s*(?:\([^()]*:[^()]*\)\s*→\s*)*(ShutOut|ShutWrite)\s+")
+_SHUT = re.compile(r"\s*(?:\([^()]*:[^()]*\)\s*→\s*)*(ShutOut|ShutTake|ShutWrite)\s+")
 _LAWS = re.compile(r"crates/(\w+_laws)/(specs|proofs)/(\w+)\.antt")
 
 
@@ -88,7 +88,7 @@ class Laws:
         return found
 
     def theorem(self, path, name):
-        """The word ShutOut or ShutWrite of a theorem, and the definitions that its right side cites; or Unreadable."""
+        """The definitions that the right side of a theorem cites; or Unreadable."""
         laws = _LAWS.fullmatch(path)
         root = f"crates/{laws[1]}/{laws[2]}/Lib.antt" if laws else ""
         if not laws or laws[1] not in self.crates or not os.path.isfile(os.path.join(self.root, path)):
@@ -109,19 +109,8 @@ class Laws:
             raise Unreadable(f"the type of {name} does not begin with ShutOut")
         rest = stated[2][shut.end() :]
         right = rest[: closing(rest, 0) + 1] if rest[0] == "(" else rest.split()[0]
-        return shut[1], self.cited(path, f"{shut[1]} {right}" if shut[1] == "ShutWrite" else right, set())
-
-
-def _about(facts, shut, cited):
-    """Whether a theorem with these citations is about a contract of these facts."""
-    for fact in facts:
-        if fact.view == "a relation":
-            # A relation is cited, or the answer that it allows, which stands beside it.
-            if fact.meaning[1] in {file for _, file in cited}:
-                return True
-        elif shut == "ShutOut" and cited.issuperset([fact.meaning, *fact.others]):
-            return True
-    return False
+        # Another form than ShutOut cites the relation that it is about.
+        return self.cited(path, right if shut[1] == "ShutOut" else shut[1], set())
 
 
 def _wrong(laws, public, row):
@@ -132,10 +121,11 @@ def _wrong(laws, public, row):
     if not told:
         return "it does not say what is wrong"
     try:
-        shut, cited = laws.theorem(file, theorem)
+        cited = laws.theorem(file, theorem)
     except Unreadable as wrong:
         return str(wrong)
-    return "" if _about(public[function], shut, cited) else f"the right side of {theorem} is not the meaning of {function}"
+    about = any(cited.issuperset([fact.meaning, *fact.others]) for fact in public[function])
+    return "" if about else f"the right side of {theorem} is not the meaning of {function}"
 
 
 def tell(root, tally):

@@ -36,7 +36,7 @@ pub read-four-first : ShutOut (decimalRead nan 3) (record { refusal = 3; scale =
 unfolding decimalRead
 read-four-first = (refl, refl, differ (λ (t : VrkTime). t .refusal) (λ e. omega arith))
 
--- ---- vrk_decimal_write: its contract is a relation that allows one result, so a wrong result is one that is not allowed
+-- ---- vrk_decimal_write: its contract is a relation, which allows a; the wrong program answers b, which it does not
 abbrev strange : VrkHanded
 strange = record { kind = 2; scale = 0; day = pos 0; micro = 0; decimal = plusZero }
 
@@ -45,7 +45,7 @@ unfolding DecimalWrote
 right = (refl, refl)
 
 abbrev ShutWrite : VrkHanded → VrkDecimal → VrkDecimal → VrkDecimal → Type 0
-ShutWrite h a wrong b = DecimalWrote h a × (wrong ≡ b) × (DecimalWrote h wrong → ⊥)
+ShutWrite h a wrong b = DecimalWrote h a × (wrong ≡ b) × (DecimalWrote h b → ⊥)
 
 forbidden : (b : VrkDecimal) → (_≡_ {A = ℕ} 3 (b .refusal) → ⊥) → DecimalWrote strange b → ⊥
 forbidden b d w = differ (λ (t : VrkDecimal). t .refusal) d (decimal-one strange (record { refusal = 3; day = plusZero }) b right w)
@@ -55,14 +55,14 @@ abbrev anyKind : VrkHanded → VrkDecimal
 anyKind h = record { refusal = 0; day = plusZero }
 
 pub write-unknown : ShutWrite strange (record { refusal = 3; day = plusZero }) (anyKind strange) (record { refusal = 0; day = plusZero })
-write-unknown = (right, refl, forbidden (anyKind strange) (λ e. omega arith))
+write-unknown = (right, refl, forbidden (record { refusal = 0; day = plusZero }) (λ e. omega arith))
 
 -- an unknown kind refused as not finite
 abbrev notFinite : VrkHanded → VrkDecimal
 notFinite h = record { refusal = 4; day = plusZero }
 
 pub write-four : ShutWrite strange (record { refusal = 3; day = plusZero }) (notFinite strange) (record { refusal = 4; day = plusZero })
-write-four = (right, refl, forbidden (notFinite strange) (λ e. omega arith))
+write-four = (right, refl, forbidden (record { refusal = 4; day = plusZero }) (λ e. omega arith))
 
 -- ---- vrk_sbt_date
 abbrev dead : ℕ → VrkCorrelation
