@@ -1,9 +1,9 @@
 -- Wrong programs, each shut out by an input at which its answer is not the meaning's. Assumes nothing.
 use mathlib.Core.Path.{_≡_, refl}
 use mathlib.Core.Bool.{Bool, true, cond}
-use Prim.Native.Nat.{ℕ}
+use Prim.Native.Nat.{ℕ, suc, _*_, _/_}
 use native.Mathlib.Omega.{arith}
-use lib.IntN.{ℤ, pos, negsuc, subℕ}
+use lib.IntN.{ℤ, pos, negsuc, subℕ, _-ℤ_}
 use Rattle.evidence.specs.ShutOut.{ShutOut, differ}
 use Rattle.axis.specs.Meaning.{modZ}
 use Rattle.scales.specs.Meaning.{sameScale, Slip, dated, answer, refused, given, gives, outcome, recordOf}
@@ -15,14 +15,14 @@ use Rattle.correlation.specs.Meaning.{accepted, instant, momentOf, plain, recei
 use Rattle.correlation.specs.declared.Correlation.{Correlation}
 use Rattle.correlation_laws.proofs.Cases.{marked, autumn, utc, at}
 
--- ---- date: a desk with another rule of force, or another elapsed count
-abbrev dateBy : (Correlation → ℤ → ℤ → Bool) → (ℕ → ℕ → ℤ) → Correlation → ℕ → ℤ → ℕ → Slip
-dateBy force count c t d u =
+-- ---- date: a desk with another rule of force, another elapsed count, or another time of it
+abbrev dateBy : (Correlation → ℤ → ℤ → Bool) → (ℕ → ℕ → ℤ) → (Correlation → ℤ → ℤ) → Correlation → ℕ → ℤ → ℕ → Slip
+dateBy force count timing c t d u =
     dated (c .scale) (outcome
     (given (accepted c) 6
     (given (receivable (c .scale) d u) 7
     (given (force c (count t (c .tick .0)) (instant (c .scale) d u)) 8
-    (resulting (c .scale) (momentOf (c .scale) (time c (count t (c .tick .0)))))))))
+    (resulting (c .scale) (momentOf (c .scale) (timing c (count t (c .tick .0)))))))))
 
 apart : {x y : Slip} → (x .number ≡ y .number → ⊥) → x ≡ y → ⊥
 apart d e = differ (λ (s : Slip). s .number) d e
@@ -33,7 +33,7 @@ windowIgnored c k z = covers c z
 
 pub window-ignored :
     ShutOut (dateOf (marked 0) 0 (pos 0) 0) (dated S.Tai (refused 8))
-    (dateBy windowIgnored elapsed (marked 0) 0 (pos 0) 0) (dated S.Tai (answer (at (pos 0) 3906)))
+    (dateBy windowIgnored elapsed time (marked 0) 0 (pos 0) 0) (dated S.Tai (answer (at (pos 0) 3906)))
 unfolding dateOf accepted clock inWindow covers
 window-ignored = (refl, refl, apart (λ e. omega arith))
 
@@ -43,7 +43,7 @@ receiptIgnored c k z = inWindow c k
 
 pub receipt-ignored :
     ShutOut (dateOf autumn 4078800897 (pos 3356) 9600000000) (dated S.Tai (refused 8))
-    (dateBy receiptIgnored elapsed autumn 4078800897 (pos 3356) 9600000000) (dated S.Tai (answer (at (pos 3161) 80384000000)))
+    (dateBy receiptIgnored elapsed time autumn 4078800897 (pos 3356) 9600000000) (dated S.Tai (answer (at (pos 3161) 80384000000)))
 unfolding dateOf accepted clock inWindow covers
 receipt-ignored = (refl, refl, apart (λ e. omega arith))
 
@@ -53,9 +53,20 @@ unsigned t r = pos (modZ (subℕ t r) 4294967296)
 
 pub count-unsigned :
     ShutOut (dateOf (marked 10) 4294967294 (pos 0) 0) (dated S.Tai (answer (at (negsuc 0) 86399996093)))
-    (dateBy inForce unsigned (marked 10) 4294967294 (pos 0) 0) (dated S.Tai (refused 8))
+    (dateBy inForce unsigned time (marked 10) 4294967294 (pos 0) 0) (dated S.Tai (refused 8))
 unfolding dateOf accepted clock inWindow covers
 count-unsigned = (refl, refl, apart (λ e. omega arith))
+
+-- a negative elapsed time rounded towards zero: marked case 8's tick before the reference takes away 3,906 and not 3,907
+abbrev towardsZero : Correlation → ℤ → ℤ
+towardsZero c (pos k) = time c (pos k)
+towardsZero c (negsuc k) = instant (c .scale) (c .day) (c .micro) -ℤ pos (suc k * c .period / 1000000)
+
+pub rounded-towards-zero :
+    ShutOut (dateOf (marked 10) 4294967294 (pos 0) 0) (dated S.Tai (answer (at (negsuc 0) 86399996093)))
+    (dateBy inForce elapsed towardsZero (marked 10) 4294967294 (pos 0) 0) (dated S.Tai (answer (at (negsuc 0) 86399996094)))
+unfolding dateOf accepted clock inWindow covers
+rounded-towards-zero = (refl, refl, differ (λ (s : Slip). s .micro) (λ e. omega arith))
 
 -- b and a in each other's place: under b = 0, a = 10 the tick after the reference is refused
 abbrev ahead : Correlation
@@ -68,7 +79,7 @@ swapped c k z =
 
 pub ends-swapped :
     ShutOut (dateOf ahead 0 (pos 0) 3906) (dated S.Tai (answer (at (pos 0) 3906)))
-    (dateBy swapped elapsed ahead 0 (pos 0) 3906) (dated S.Tai (refused 8))
+    (dateBy swapped elapsed time ahead 0 (pos 0) 3906) (dated S.Tai (refused 8))
 unfolding dateOf accepted clock inWindow covers
 ends-swapped = (refl, refl, apart (λ e. omega arith))
 

@@ -15,11 +15,12 @@ use Rattle.scales.specs.declared.Scale.the-variants as S
 use Rattle.scales.specs.declared.Refusal.the-variants as R
 use Rattle.scales.specs.declared.Handed.{Handed}
 use Rattle.scales.specs.declared.Handed.the-variants as H
-use Rattle.decimal.specs.Meaning.{dayMicros, Exact, exactOf, over, under, signedOver, signed, finite, spans, nearest, microsOf, scaleOf, isFinite, dayOf, microOf, takenOf, readOf, since, plusZero, decimalSlip, WroteDay}
+use Rattle.decimal.specs.Meaning.{dayMicros, Exact, exactOf, over, under, signedOver, signed, finite, spans, nearest, microsOf, scaleOf, isFinite, dayOf, microOf, takenOf, Took, readOf, since, plusZero, decimalSlip, WroteDay}
 use Rattle.decimal.specs.declared.Decimal.{Decimal}
 use Rattle.decimal.specs.declared.Decimal.the-variants as D
 use Rattle.decimal.specs.declared.Taken.{Taken}
 use Rattle.decimal.specs.declared.Taken.the-variants as K
+use Rattle.decimal_laws.proofs.Unique.{wrote-one}
 
 -- ---- read: a desk with another nearest microsecond
 abbrev desk : (Scale → Exact → Bool) → (Exact → ℤ) → Float → Scale → Slip
@@ -90,7 +91,10 @@ pub read-seven : ShutOut (readOf nan S.Tai) (slipAt 4 S.Tai (pos 0) 0) (sevenFor
 unfolding readOf
 read-seven = (refl, refl, byNumber (λ e. omega arith))
 
--- ---- take
+-- ---- take: its contract is a relation, which allows a; the wrong program answers b, which it does not
+abbrev ShutTake : Handed → Taken → Taken → Taken → Type 0
+ShutTake h a wrong b = Took h a × (wrong ≡ b) × (Took h b → ⊥)
+
 abbrev kindOf : Taken → ℕ
 kindOf (K.NotFinite s) = 0
 kindOf (K.Outside s) = 1
@@ -100,22 +104,25 @@ kindOf (K.At t) = 2 + timeCount t
 abbrev merged : Handed → Taken
 merged h = cond (isFinite h) (takenOf h) (K.Outside (scaleOf h))
 
-pub take-merged : ShutOut (takenOf (H.Decimal nan S.Utc)) (K.NotFinite S.Utc) (merged (H.Decimal nan S.Utc)) (K.Outside S.Utc)
+pub take-merged : ShutTake (H.Decimal nan S.Utc) (K.NotFinite S.Utc) (merged (H.Decimal nan S.Utc)) (K.Outside S.Utc)
 unfolding takenOf
-take-merged = (refl, refl, differ kindOf (λ e. omega arith))
+take-merged = (record { is = refl; kept = lit≤ tt }, refl, λ w. differ kindOf (λ e. omega arith) (w .is))
 
 -- UTC counted with 86,400 s a day
 abbrev evenDays : Handed → Taken
 evenDays h = K.At (timeAt (scaleOf h) (placeOfDay (dayOf h) * dayMicros + microOf h))
 
 pub take-even-days :
-    ShutOut (takenOf (H.Record (recordOf S.Utc (pos 0) 0))) (K.At (timeAt S.Utc 3456040000000000)) (evenDays (H.Record (recordOf S.Utc (pos 0) 0))) (K.At (timeAt S.Utc 3456000000000000))
+    ShutTake (H.Record (recordOf S.Utc (pos 0) 0)) (K.At (timeAt S.Utc 3456040000000000)) (evenDays (H.Record (recordOf S.Utc (pos 0) 0))) (K.At (timeAt S.Utc 3456000000000000))
 unfolding takenOf
-take-even-days = (refl, refl, differ kindOf (λ e. omega arith))
+take-even-days = (record { is = refl; kept = refl }, refl, λ w. differ kindOf (λ e. omega arith) (w .is))
 
--- ---- write: the contract allows a alone (`wrote-one`), the wrong program answers b
+-- ---- write: in the same way; it allows one answer alone (`wrote-one`)
 abbrev ShutWrite : Handed → Decimal → Decimal → Decimal → Type 0
-ShutWrite h a wrong b = WroteDay h a × (wrong ≡ b) × (a ≡ b → ⊥)
+ShutWrite h a wrong b = WroteDay h a × (wrong ≡ b) × (WroteDay h b → ⊥)
+
+forbidden : (h : Handed) (a b : Decimal) → WroteDay h a → (a ≡ b → ⊥) → WroteDay h b → ⊥
+forbidden h a b p d w = d (wrote-one h a b p w)
 
 byDayNumber : {x y : Decimal} → (decimalSlip x .number ≡ decimalSlip y .number → ⊥) → x ≡ y → ⊥
 byDayNumber d e = differ (λ (t : Decimal). decimalSlip t .number) d e
@@ -155,7 +162,8 @@ utcDays h = D.Day (over64 h 86401000000)
 
 pub write-other-divisor : ShutWrite micros5 (D.Day days5) (utcDays micros5) (D.Day (fin false 8954902426515465 (negsuc 86)))
 unfolding div ofInt
-write-other-divisor = (days5-written, refl, bySignificand (λ e. omega arith))
+write-other-divisor =
+    (days5-written, refl, forbidden micros5 (D.Day days5) (D.Day (fin false 8954902426515465 (negsuc 86))) days5-written (bySignificand (λ e. omega arith)))
 
 -- a quotient rounded twice: to seconds, then to days
 abbrev twice : Handed → Decimal
@@ -163,23 +171,33 @@ twice h = D.Day (div binary64 (over64 h 1000000) (ofInt binary64 (pos 86400)))
 
 pub write-rounded-twice : ShutWrite micros5 (D.Day days5) (twice micros5) (D.Day (fin false 2238751517804869 (negsuc 84)))
 unfolding div ofInt
-write-rounded-twice = (days5-written, refl, bySignificand (λ e. omega arith))
+write-rounded-twice =
+    (days5-written, refl, forbidden micros5 (D.Day days5) (D.Day (fin false 2238751517804869 (negsuc 84))) days5-written (bySignificand (λ e. omega arith)))
 
 -- zero with a minus sign: the count before day 0 is negated
 abbrev negated : Handed → Decimal
 negated h = D.Day (div binary64 (neg (ofInt binary64 (negℤ (since (dayOf h) (microOf h))))) (ofInt binary64 (pos dayMicros)))
 
-pub write-minus-zero :
-    ShutWrite (H.Record (recordOf S.Tai (pos 0) 0)) (D.Day plusZero) (negated (H.Record (recordOf S.Tai (pos 0) 0))) (D.Day (fin true 0 (pos 0)))
+abbrev zero : Handed
+zero = H.Record (recordOf S.Tai (pos 0) 0)
+
+pub write-minus-zero : ShutWrite zero (D.Day plusZero) (negated zero) (D.Day (fin true 0 (pos 0)))
 unfolding div ofInt neg
-write-minus-zero =
-    ((refl, refl), refl, differ (λ (t : Decimal). cond (exactOf (decimalSlip t .day) .minus) 1 0) (λ e. omega arith))
+write-minus-zero = (
+  (refl, refl),
+  refl,
+  forbidden zero (D.Day plusZero) (D.Day (fin true 0 (pos 0))) (refl, refl)
+      (differ (λ (t : Decimal). cond (exactOf (decimalSlip t .day) .minus) 1 0) (λ e. omega arith)),
+)
 
 -- second 60 written as the next day's first
 abbrev carried : Handed → Decimal
 carried h = D.Day (over64 h dayMicros)
 
-pub write-carried :
-    ShutWrite (H.Record (recordOf S.Utc (pos 6209) 86400000000)) (D.Refused R.Image) (carried (H.Record (recordOf S.Utc (pos 6209) 86400000000))) (D.Day (fin false 3105 (pos 1)))
+abbrev sixty : Handed
+sixty = H.Record (recordOf S.Utc (pos 6209) 86400000000)
+
+pub write-carried : ShutWrite sixty (D.Refused R.Image) (carried sixty) (D.Day (fin false 3105 (pos 1)))
 unfolding div ofInt
-write-carried = ((refl, refl), refl, byDayNumber (λ e. omega arith))
+write-carried =
+    ((refl, refl), refl, forbidden sixty (D.Refused R.Image) (D.Day (fin false 3105 (pos 1))) (refl, refl) (byDayNumber (λ e. omega arith)))

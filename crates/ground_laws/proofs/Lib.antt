@@ -1,4 +1,5 @@
 pub mod AxisWrong
+pub mod Desks
 pub mod OctetsExamples
 pub mod OctetsWrong
 pub mod ScalesExamples

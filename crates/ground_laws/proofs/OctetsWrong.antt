@@ -1,11 +1,11 @@
 -- Wrong programs, each shut out by an input at which its answer is not the meaning's. Assumes nothing.
 use mathlib.Core.Path.{refl}
-use mathlib.Core.Bool.{cond}
+use mathlib.Core.Bool.{Bool, true, false, cond}
 use mathlib.Core.List.{List, [], _∷_, _++_}
 use Prim.Native.Nat.{ℕ, zero, suc, _+_, _-_, _*_, _/_, _%_}
 use native.Mathlib.Omega.{arith}
 use lib.ListN.{length, take, drop, replicate}
-use Rattle.evidence.specs.ShutOut.{ShutOut, differ-at}
+use Rattle.evidence.specs.ShutOut.{ShutOut, differ, differ-at}
 use Rattle.octets.specs.Meaning.{number, word, field, hasRoom, onto}
 
 -- ---- number_of
@@ -60,3 +60,10 @@ asFits image out = take (length out) image ++ drop (length image) out
 pub put-as-fits : ShutOut (onto {A = ℕ} (1 ∷ 2 ∷ 3 ∷ []) (7 ∷ 8 ∷ [])) (7 ∷ 8 ∷ []) (asFits (1 ∷ 2 ∷ 3 ∷ []) (7 ∷ 8 ∷ [])) (1 ∷ 2 ∷ [])
 unfolding onto
 put-as-fits = (refl, refl, differ-at 0 (λ e. omega arith))
+
+-- an image told as written whatever the room
+abbrev alwaysTold : List ℕ → List ℕ → Bool
+alwaysTold image out = true
+
+pub put-always-told : ShutOut (hasRoom {A = ℕ} (1 ∷ 2 ∷ []) (7 ∷ [])) false (alwaysTold (1 ∷ 2 ∷ []) (7 ∷ [])) true
+put-always-told = (refl, refl, differ (λ b. cond b 1 0) (λ e. omega arith))

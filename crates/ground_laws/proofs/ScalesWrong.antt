@@ -1,19 +1,36 @@
 -- Wrong programs for the paper's words, each shut out by an input at which its answer is not the meaning's. Assumes nothing.
 use mathlib.Core.Path.{_≡_, refl}
 use mathlib.Core.Bool.{Bool, cond, _&&_}
-use Prim.Native.Nat.{ℕ, _-_, _/_, _%_}
+use Prim.Native.Nat.{ℕ, _+_, _-_, _/_, _%_}
 use native.Mathlib.Omega.{arith}
 use lib.Dec.{leb, ltb, eqb}
 use lib.IntN.{ℤ, pos, negsuc, natAbs}
 use lib.Signed.{leZ}
 use Rattle.evidence.specs.ShutOut.{ShutOut, differ}
 use Rattle.axis.specs.Meaning.{dayAt}
-use Rattle.scales.specs.Meaning.{first, last, bound, numberOf, Slip, Moment, given, gives, outcome, dated, spanned, recordOf, recordAt}
+use Rattle.scales.specs.Meaning.{codeOf, first, last, bound, numberOf, Slip, Moment, given, gives, outcome, dated, timeScale, timeCount, timeAt, spanned, recordOf, recordAt}
 use Rattle.scales.specs.declared.Scale.{Scale}
 use Rattle.scales.specs.declared.Scale.the-variants as S
 use Rattle.scales.specs.declared.Refusal.{Refusal}
 use Rattle.scales.specs.declared.Refusal.the-variants as R
 use Rattle.scales.specs.declared.Record.{Record}
+use Rattle.scales.specs.declared.Time.{Time}
+use Rattle.ground_laws.proofs.Desks.{refusesAll, dayZero}
+
+-- ---- Scale::code
+-- the codes counted from 1
+abbrev fromOne : Scale → ℕ
+fromOne s = codeOf s + 1
+
+pub code-from-one : ShutOut (codeOf S.Tai) 0 (fromOne S.Tai) 1
+code-from-one = (refl, refl, λ e. omega arith)
+
+-- UTC and GPS in each other's place
+abbrev exchanged : Scale → ℕ
+exchanged s = cond (eqb (codeOf s) 0) 0 (3 - codeOf s)
+
+pub code-exchanged : ShutOut (codeOf S.Utc) 1 (exchanged S.Utc) 2
+code-exchanged = (refl, refl, λ e. omega arith)
 
 -- ---- Refusal::number
 -- the rows counted from 0
@@ -88,7 +105,66 @@ pub span-hands-back : ShutOut (spanned S.Tai (pos 36525) 5) (empty 7 S.Tai) (han
 unfolding spanned
 span-hands-back = (refl, refl, differ (λ (t : Slip). t .micro) (λ e. omega arith))
 
+-- the desk that refuses all, and the one that answers day 0 for everything, in each scale
+pub refuses-all : (s : Scale) → ShutOut (spanned s (pos 5) 7) (answered s (pos 5) 7) (refusesAll s) (empty 7 s)
+unfolding spanned
+refuses-all S.Tai = (refl, refl, apart (λ e. omega arith))
+refuses-all S.Utc = (refl, refl, apart (λ e. omega arith))
+refuses-all S.Gps = (refl, refl, apart (λ e. omega arith))
+
+pub day-zero : (s : Scale) → ShutOut (spanned s (pos 5) 7) (answered s (pos 5) 7) (dayZero s) (answered s (pos 0) 0)
+unfolding spanned
+day-zero S.Tai = (refl, refl, differ (λ (t : Slip). t .micro) (λ e. omega arith))
+day-zero S.Utc = (refl, refl, differ (λ (t : Slip). t .micro) (λ e. omega arith))
+day-zero S.Gps = (refl, refl, differ (λ (t : Slip). t .micro) (λ e. omega arith))
+
+-- every record judged as one of TAI
+abbrev judgedTai : Scale → ℤ → ℕ → Slip
+judgedTai s d u = spanned S.Tai d u
+
+pub span-judged-tai : ShutOut (spanned S.Utc (pos 6209) 86400000000) (answered S.Utc (pos 6209) 86400000000) (judgedTai S.Utc (pos 6209) 86400000000) (empty 7 S.Tai)
+unfolding spanned
+span-judged-tai = (refl, refl, apart (λ e. omega arith))
+
+-- ---- Time::scale
+-- every time TAI
+abbrev alwaysTai : Time → Scale
+alwaysTai t = S.Tai
+
+pub time-always-tai : ShutOut (timeScale (timeAt S.Utc 0)) S.Utc (alwaysTai (timeAt S.Utc 0)) S.Tai
+time-always-tai = (refl, refl, differ codeOf (λ e. omega arith))
+
+-- the scale told by the length of its day: GPS is taken for TAI
+abbrev byBound : Time → Scale
+byBound t = cond (eqb (bound (timeScale t)) 86400000000) S.Tai S.Utc
+
+pub time-by-bound : ShutOut (timeScale (timeAt S.Gps 0)) S.Gps (byBound (timeAt S.Gps 0)) S.Tai
+time-by-bound = (refl, refl, differ codeOf (λ e. omega arith))
+
 -- ---- to_record
+-- the scale of a time lost
+abbrev scaleLost : Time → Record
+scaleLost t = recordAt S.Tai (timeCount t)
+
+abbrev atZero : Time
+atZero = timeAt S.Gps 3456000000000000
+
+pub time-scale-lost : ShutOut (recordAt (timeScale atZero) (timeCount atZero)) (recordOf S.Gps (pos 0) 0) (scaleLost atZero) (recordOf S.Tai (pos 0) 0)
+time-scale-lost = (refl, refl, differ (λ (r : Record). codeOf (r .scale)) (λ e. omega arith))
+
+-- 86,401 s a day in every scale
+abbrev longDays : Scale → ℕ → Record
+longDays s n = recordOf s (dayAt (n / 86401000000)) (n % 86401000000)
+
+pub time-long-days : ShutOut (recordAt (timeScale atZero) (timeCount atZero)) (recordOf S.Gps (pos 0) 0) (longDays (timeScale atZero) (timeCount atZero)) (recordOf S.Gps (negsuc 0) 46401000000)
+time-long-days = (refl, refl, differ (λ (r : Record). r .micro) (λ e. omega arith))
+
+pub record-long-days : ShutOut (recordAt S.Tai 3456000000000000) (recordOf S.Tai (pos 0) 0) (longDays S.Tai 3456000000000000) (recordOf S.Tai (negsuc 0) 46401000000)
+record-long-days = (refl, refl, differ (λ (r : Record). r .micro) (λ e. omega arith))
+
+pub record-long-gps : ShutOut (recordAt S.Gps 3456000000000000) (recordOf S.Gps (pos 0) 0) (longDays S.Gps 3456000000000000) (recordOf S.Gps (negsuc 0) 46401000000)
+record-long-gps = (refl, refl, differ (λ (r : Record). r .micro) (λ e. omega arith))
+
 -- UTC counts with 86,400 s a day
 abbrev evenDays : Scale → ℕ → Record
 evenDays s n = recordOf s (dayAt (n / 86400000000)) (n % 86400000000)
@@ -104,6 +180,14 @@ placeAsDay s n = recordOf s (pos (n / bound s)) (n % bound s)
 pub record-place-as-day :
     ShutOut (recordAt S.Tai 3456000000000000) (recordOf S.Tai (pos 0) 0) (placeAsDay S.Tai 3456000000000000) (recordOf S.Tai (pos 40000) 0)
 record-place-as-day = (refl, refl, differ (λ (r : Record). natAbs (r .day)) (λ e. omega arith))
+
+pub record-place-utc :
+    ShutOut (recordAt S.Utc 3456040000000000) (recordOf S.Utc (pos 0) 0) (placeAsDay S.Utc 3456040000000000) (recordOf S.Utc (pos 40000) 0)
+record-place-utc = (refl, refl, differ (λ (r : Record). natAbs (r .day)) (λ e. omega arith))
+
+pub record-place-gps :
+    ShutOut (recordAt S.Gps 3456000000000000) (recordOf S.Gps (pos 0) 0) (placeAsDay S.Gps 3456000000000000) (recordOf S.Gps (pos 40000) 0)
+record-place-gps = (refl, refl, differ (λ (r : Record). natAbs (r .day)) (λ e. omega arith))
 
 -- ---- Record::new
 -- the microsecond brought into the day: a record is kept as handed in, so that 7 can be judged later

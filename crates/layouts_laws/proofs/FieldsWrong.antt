@@ -2,10 +2,10 @@
 use mathlib.Core.Path.{refl}
 use mathlib.Core.Bool.{true, false}
 use mathlib.Core.List.{List, [], _∷_, _++_, reverse}
-use Prim.Native.Nat.{ℕ, _+_, _-_, _*_, _%_, _^_}
+use Prim.Native.Nat.{ℕ, _+_, _*_, _%_, _^_}
 use native.Mathlib.Omega.{arith}
 use lib.Dec.{leb, eqb}
-use lib.ListN.{length, take, drop, getD, replicate}
+use lib.ListN.{length, take, drop}
 use Rattle.evidence.specs.ShutOut.{ShutOut, differ}
 use Rattle.octets.specs.Meaning.{number, field}
 use Rattle.scales.specs.Meaning.{given, gives, outcome, Wrote, written}
@@ -22,33 +22,12 @@ use Rattle.fields.specs.declared.cuc.Fields as C
 use Rattle.fields.specs.declared.proteus.Fields as P
 use Rattle.fields.specs.declared.cryosat.Fields as Y
 use Rattle.fields.specs.declared.siral.Fields as R
-use Rattle.layouts_laws.specs.Meaning.{image}
+use Rattle.ground_laws.proofs.Desks.{got, not, bytesAt, madeUp, clearing, scribbling}
 
 -- ---- wrong in any layout
 -- a little-endian field
 abbrev little : List ℕ → ℕ → ℕ → ℕ
 little s from n = number (reverse (take n (drop from s)))
-
--- what stands after the image is cleared
-abbrev pub clearing : List ℕ → Wrote → Wrote
-clearing out w = record { number = w .number; length = w .length; bytes = image w ++ replicate (length out - w .length) 0 }
-
--- a byte is written whatever the answer
-abbrev pub scribbling : Wrote → Wrote
-scribbling w = record { number = w .number; length = w .length; bytes = 0 ∷ drop 1 (w .bytes) }
-
--- a length that was not written
-abbrev pub madeUp : Wrote → Wrote
-madeUp w = record { number = w .number; length = w .length + 2; bytes = w .bytes }
-
-abbrev pub bytesAt : ℕ → Wrote → ℕ
-bytesAt k w = getD (w .bytes) k 0
-
-abbrev pub got : ℕ → List ℕ → Wrote
-got n out = record { number = 0; length = n; bytes = out }
-
-abbrev pub not : ℕ → List ℕ → Wrote
-not n out = record { number = n; length = 0; bytes = out }
 
 abbrev short : List ℕ
 short = 7 ∷ 7 ∷ 7 ∷ []

@@ -25,7 +25,7 @@ use Rattle.layouts.specs.Cuc as Cuc
 use Rattle.layouts.specs.Proteus as Proteus
 use Rattle.layouts.specs.Cryosat as Cryosat
 use Rattle.layouts.specs.Siral as Siral
-use Rattle.layouts_laws.proofs.FieldsWrong.{clearing, scribbling, madeUp, bytesAt, got, not}
+use Rattle.ground_laws.proofs.Desks.{got, not, bytesAt, writesNothing, madeUp, clearing, scribbling}
 
 abbrev numberIn : Slip → ℕ
 numberIn t = t .number
@@ -102,6 +102,12 @@ pub cuc-clearing : ShutOut (Cuc.write (gps (negsuc 7299) 999984) eight) (got 6 (
     (clearing eight (Cuc.write (gps (negsuc 7299) 999984) eight)) (got 6 (0 ∷ 0 ∷ 0 ∷ 0 ∷ 255 ∷ 255 ∷ 0 ∷ 0 ∷ []))
 unfolding Cuc.write field lastTo
 cuc-clearing = (refl, refl, differ (bytesAt 6) (λ e. omega arith))
+
+-- the desk that writes nothing
+pub writes-nothing : ShutOut (Cuc.write (gps (negsuc 7299) 999984) eight) (got 6 (0 ∷ 0 ∷ 0 ∷ 0 ∷ 255 ∷ 255 ∷ 7 ∷ 7 ∷ []))
+    (writesNothing eight (Cuc.write (gps (negsuc 7299) 999984) eight)) (got 6 eight)
+unfolding Cuc.write field lastTo
+writes-nothing = (refl, refl, differ (bytesAt 0) (λ e. omega arith))
 
 -- ---- Proteus read
 -- through the leap list: the 18 steps from 1981 to 2017 taken off, as if the weeks counted them
@@ -182,6 +188,7 @@ pub cryosat-held : ShutOut (Cryosat.write (tai (negsuc 0) 2003) eight) (not 12 e
 unfolding Cryosat.write field
 cryosat-held = (refl, refl, differ (bytesAt 0) (λ e. omega arith))
 
+-- the desk with a made-up length
 pub cryosat-made-up : ShutOut (Cryosat.write (tai (pos 1) 2003) eight) (got 8 (0 ∷ 1 ∷ 0 ∷ 0 ∷ 0 ∷ 2 ∷ 0 ∷ 3 ∷ []))
     (madeUp (Cryosat.write (tai (pos 1) 2003) eight)) (got 10 (0 ∷ 1 ∷ 0 ∷ 0 ∷ 0 ∷ 2 ∷ 0 ∷ 3 ∷ []))
 unfolding Cryosat.write field

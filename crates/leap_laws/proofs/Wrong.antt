@@ -17,6 +17,7 @@ use Rattle.calendar.specs.Meaning.{leap, monthLength, lengthOf, firstDay, dayAf
 use Rattle.decimal.specs.Meaning.{since}
 use Rattle.leap.specs.Meaning.{seconds, areSteps, begins, risesFrom, rises, countsFrom, countsUp, endsIn, noneLater, accepted, through, offsetOn, taiOf, isStep, hasMicro, isExpiredDay, momentOf, publishedDays, publishedOffsets, publishedLast}
 use Rattle.changes.specs.Meaning.{fromTai, fromUtc, within, toTai, toGps, toUtc, ofCount, moving, taiToGps, gpsToTai, utcToTai, utcToGps, taiToUtc, gpsToUtc, changeOf}
+use Rattle.ground_laws.proofs.Desks.{refusesAll, dayZero}
 use Rattle.leap_laws.proofs.Marked.{at, no}
 
 apart : {x y : Slip} → (x .number ≡ y .number → ⊥) → x ≡ y → ⊥
@@ -216,6 +217,9 @@ pub record WrongRest : Type 0 where
   pub list-always :
       ShutOut (changeOf (H.Record (recordOf S.Tai (pos 0) 0)) S.Tai [] [] (pos 0)) (at S.Tai (pos 0) 0)
       (made S.Tai (given (accepted [] [] (pos 0)) 5 (moving S.Tai S.Tai [] [] (pos 0) true (record { day = pos 0; micro = 0 })))) (no 5 S.Tai)
+  -- the desk that refuses all, and the one that answers day 0 for everything
+  pub all-refused : ShutOut (changeOf (H.Record (recordOf S.Gps (pos 5) 7)) S.Tai [] [] (pos 0)) (at S.Tai (pos 5) 19000007) (refusesAll S.Tai) (no 7 S.Tai)
+  pub all-day-zero : ShutOut (changeOf (H.Record (recordOf S.Gps (pos 5) 7)) S.Tai [] [] (pos 0)) (at S.Tai (pos 5) 19000007) (dayZero S.Tai) (at S.Tai (pos 0) 0)
 
 pub wrong-rest : WrongRest
 unfolding leap monthLength lengthOf firstDay dayAfter daysTo walk isFirst begins risesFrom rises countsFrom countsUp noneLater accepted through isStep taiToUtc gpsToUtc gpsToTai taiToGps changeOf
@@ -231,4 +235,6 @@ wrong-rest =
       gps-eighteen = (refl, refl, apart-micro (λ e. omega arith));
       unjudged = (refl, refl, apart (λ e. omega arith));
       list-always = (refl, refl, apart (λ e. omega arith));
+      all-refused = (refl, refl, apart (λ e. omega arith));
+      all-day-zero = (refl, refl, apart-micro (λ e. omega arith));
     }

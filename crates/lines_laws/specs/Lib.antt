@@ -2,3 +2,4 @@ pub mod Lines
 pub mod Run
 pub mod Computed
 pub mod Each
+pub mod Wrong

@@ -1,3 +1,5 @@
-pub mod BytesWrong
 pub mod One
+pub mod ReadersWrong
+pub mod TextsWrong
+pub mod WritersWrong
 pub mod Wrong

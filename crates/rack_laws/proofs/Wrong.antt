@@ -1,5 +1,5 @@
 -- Wrong covers for C, each shut out by an input at which its answer is not the meaning's. Assumes nothing.
-use mathlib.Core.Path.{refl}
+use mathlib.Core.Path.{_≡_, refl}
 use mathlib.Core.Bool.{cond, _&&_}
 use mathlib.Core.List.{List, [], _∷_}
 use Prim.Native.Nat.{ℕ}
@@ -36,7 +36,7 @@ pub read-four-first : ShutOut (decimalRead nan 3) (record { refusal = 3; scale =
 unfolding decimalRead
 read-four-first = (refl, refl, differ (λ (t : VrkTime). t .refusal) (λ e. omega arith))
 
--- ---- vrk_decimal_write: its contract is a relation that allows one result, so a wrong result is one that is not allowed
+-- ---- vrk_decimal_write: its contract is a relation, which allows a; the wrong program answers b, which it does not
 abbrev strange : VrkHanded
 strange = record { kind = 2; scale = 0; day = pos 0; micro = 0; decimal = plusZero }
 
@@ -44,17 +44,25 @@ right : DecimalWrote strange (record { refusal = 3; day = plusZero })
 unfolding DecimalWrote
 right = (refl, refl)
 
--- an unknown kind taken for a record
-pub write-unknown : DecimalWrote strange (record { refusal = 0; day = plusZero }) → ⊥
-write-unknown w =
-    differ (λ (d : VrkDecimal). d .refusal) (λ e. omega arith)
-    (decimal-one strange (record { refusal = 3; day = plusZero }) (record { refusal = 0; day = plusZero }) right w)
+abbrev ShutWrite : VrkHanded → VrkDecimal → VrkDecimal → VrkDecimal → Type 0
+ShutWrite h a wrong b = DecimalWrote h a × (wrong ≡ b) × (DecimalWrote h b → ⊥)
+
+forbidden : (b : VrkDecimal) → (_≡_ {A = ℕ} 3 (b .refusal) → ⊥) → DecimalWrote strange b → ⊥
+forbidden b d w = differ (λ (t : VrkDecimal). t .refusal) d (decimal-one strange (record { refusal = 3; day = plusZero }) b right w)
+
+-- an unknown kind taken for a record, which stands at day 0
+abbrev anyKind : VrkHanded → VrkDecimal
+anyKind h = record { refusal = 0; day = plusZero }
+
+pub write-unknown : ShutWrite strange (record { refusal = 3; day = plusZero }) (anyKind strange) (record { refusal = 0; day = plusZero })
+write-unknown = (right, refl, forbidden (record { refusal = 0; day = plusZero }) (λ e. omega arith))
 
 -- an unknown kind refused as not finite
-pub write-four : DecimalWrote strange (record { refusal = 4; day = plusZero }) → ⊥
-write-four w =
-    differ (λ (d : VrkDecimal). d .refusal) (λ e. omega arith)
-    (decimal-one strange (record { refusal = 3; day = plusZero }) (record { refusal = 4; day = plusZero }) right w)
+abbrev notFinite : VrkHanded → VrkDecimal
+notFinite h = record { refusal = 4; day = plusZero }
+
+pub write-four : ShutWrite strange (record { refusal = 3; day = plusZero }) (notFinite strange) (record { refusal = 4; day = plusZero })
+write-four = (right, refl, forbidden (record { refusal = 4; day = plusZero }) (λ e. omega arith))
 
 -- ---- vrk_sbt_date
 abbrev dead : ℕ → VrkCorrelation

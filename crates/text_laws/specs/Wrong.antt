@@ -5,8 +5,8 @@ use mathlib.Core.List.{List, [], _∷_}
 use Prim.Native.Nat.{ℕ, _-_}
 use native.Mathlib.Omega.{arith}
 use lib.Dec.{eqb, leb}
-use lib.IntN.{pos, negsuc}
-use Rattle.evidence.specs.ShutOut.{ShutOut}
+use lib.IntN.{pos, negsuc, natAbs}
+use Rattle.evidence.specs.ShutOut.{ShutOut, differ}
 use Rattle.scales.specs.Meaning.{codeOf, given, refused, answer, outcome, Slip, dated, Wrote, written, recordOf}
 use Rattle.scales.specs.declared.Scale.the-variants as S
 use Rattle.scales.specs.declared.Handed.{Handed}
@@ -19,6 +19,7 @@ use Rattle.text_read.specs.Meaning.{digitOf, twoOf, fourOf, names, letter, isNa
 use Rattle.text_write.specs.Meaning.{textOf, hasImage, writing, writeText}
 use Rattle.text_write.specs.declared.Form.{Form}
 use Rattle.text_write.specs.declared.Form.the-variants as F
+use Rattle.ground_laws.proofs.Desks.{refusesAll, dayZero, got, bytesAt, writesNothing, madeUp}
 use Rattle.text_laws.specs.Computed.{reads, blank, writes}
 
 -- ---- reading
@@ -76,7 +77,31 @@ pub list-for-tai : ShutOut (readText firstTai [] [] (pos 0)) (dated S.Tai (answe
 unfolding readText isPrefixRight isBody scaleIn bodyIn hasPrefix prefixOf hasMarks stampIn microIn inLimits digitOf twoOf fourOf monthOf seek isNamed letter names isDate dayOfDate dayAfter firstDay lengthOf monthLength leap accepted
 list-for-tai = (refl, refl, λ q. let z : _≡_ {A = ℕ} 0 5 = λ i. q i .number in omega arith)
 
+-- the desk that refuses all, and the one that answers day 0 for everything
+pub refuses-all : ShutOut (readText firstTai [] [] (pos 0)) (dated S.Tai (answer (record { day = negsuc 10226; micro = 0 }))) (refusesAll S.Tai) (dated S.Tai (refused 7))
+unfolding readText isPrefixRight isBody scaleIn bodyIn hasPrefix prefixOf hasMarks stampIn microIn inLimits digitOf twoOf fourOf monthOf seek isNamed letter names isDate dayOfDate dayAfter firstDay lengthOf monthLength leap
+refuses-all = (refl, refl, differ (λ (t : Slip). t .number) (λ e. omega arith))
+
+pub day-zero : ShutOut (readText firstTai [] [] (pos 0)) (dated S.Tai (answer (record { day = negsuc 10226; micro = 0 }))) (dayZero S.Tai) (dated S.Tai (answer (record { day = pos 0; micro = 0 })))
+unfolding readText isPrefixRight isBody scaleIn bodyIn hasPrefix prefixOf hasMarks stampIn microIn inLimits digitOf twoOf fourOf monthOf seek isNamed letter names isDate dayOfDate dayAfter firstDay lengthOf monthLength leap
+day-zero = (refl, refl, differ (λ (t : Slip). natAbs (t .day)) (λ e. omega arith))
+
 -- ---- writing
+-- TAI=01-JAN-1972 00:00:00 by the desk that writes nothing, and with a made-up length
+abbrev fives : List ℕ
+fives = 5 ∷ 5 ∷ 5 ∷ 5 ∷ 5 ∷ 5 ∷ 5 ∷ 5 ∷ 5 ∷ 5 ∷ 5 ∷ 5 ∷ 5 ∷ 5 ∷ 5 ∷ 5 ∷ 5 ∷ 5 ∷ 5 ∷ 5 ∷ 5 ∷ 5 ∷ 5 ∷ 5 ∷ []
+
+abbrev firstWritten : Wrote
+firstWritten = writeText (H.Record (recordOf S.Tai (negsuc 10226) 0)) F.Prefixed [] [] (pos 0) fives
+
+pub writes-nothing : ShutOut firstWritten (got 24 firstTai) (writesNothing fives firstWritten) (got 24 fives)
+unfolding writeText textOf prefixOf letter names dateOfDay daysTo dayAfter walk firstDay lengthOf monthLength leap
+writes-nothing = (refl, refl, differ (bytesAt 0) (λ e. omega arith))
+
+pub made-up-length : ShutOut firstWritten (got 24 firstTai) (madeUp firstWritten) (got 26 firstTai)
+unfolding writeText textOf prefixOf letter names dateOfDay daysTo dayAfter walk firstDay lengthOf monthLength leap
+made-up-length = (refl, refl, differ (λ (w : Wrote). w .length) (λ e. omega arith))
+
 -- a TAI time handed to an unprefixed form and written as if it were UTC
 abbrev pub asUtc : Handed → Form → Wrote
 asUtc h f = writes (H.Record (recordOf S.Utc (dayOf h) (microOf h))) f

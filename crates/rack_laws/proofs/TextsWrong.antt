@@ -1,69 +1,24 @@
--- Wrong covers for C of functions on bytes and texts, each shut out by an input at which its answer is not the meaning's. Assumes nothing.
+-- Wrong covers for C of the functions on texts, each shut out by an input at which its answer is not the meaning's. Assumes nothing.
 use mathlib.Core.Path.{refl}
 use mathlib.Core.List.{List, [], _∷_}
-use Prim.Native.Nat.{ℕ, _*_, _/_, _%_}
+use Prim.Native.Nat.{ℕ, _*_, _/_}
 use native.Mathlib.Omega.{arith}
 use lib.IntN.{pos}
-use lib.ListN.{getD}
 use Rattle.evidence.specs.ShutOut.{ShutOut, differ}
-use Rattle.octets.specs.Meaning.{number, field}
 use Rattle.scales.specs.Meaning.{Judged, Wrote}
 use Rattle.scales.specs.declared.Handed.{Handed}
+use Rattle.ground_laws.proofs.Desks.{not}
 use Rattle.calendar.specs.Meaning.{leap, monthLength, lengthOf, firstDay, isDate, dayAfter, daysTo, walk, dayOfDate, dateOfDay}
 use Rattle.decimal.specs.Meaning.{plusZero}
-use Rattle.fields.specs.Sbt as Sbt
-use Rattle.layouts.specs.Cuc as Cuc
 use Rattle.text_read.specs.Meaning.{digitOf, twoOf, fourOf, names, letter, isNamed, seek, monthOf, hasMarks, microIn, stampIn, inLimits, prefixOf, hasPrefix, scaleIn, bodyIn, isPrefixRight, isBody, readText}
 use Rattle.text_write.specs.Meaning.{textOf, writing}
 use Rattle.text_laws.specs.Computed.{reads}
 use Rattle.text_laws.specs.Wrong.{capitals, ownScale, beforeGps}
 use Rattle.rack.specs.Meaning.{timeOut}
-use Rattle.rack.specs.Bytes.{sbtOut, writes, handedWriting, proteusWriting}
-use Rattle.rack.specs.Parts.{cucFieldsWriting}
+use Rattle.rack.specs.Bytes.{writes, handedWriting}
 use Rattle.rack.specs.Texts.{formAt, textWriting}
 use Rattle.rack.specs.declared.VrkHanded.{VrkHanded}
-use Rattle.rack.specs.declared.VrkCount.{VrkCount}
 use Rattle.rack.specs.declared.VrkTime.{VrkTime}
-
-abbrev strange : VrkHanded
-strange = record { kind = 2; scale = 2; day = pos 0; micro = 0; decimal = plusZero }
-
-abbrev untouched : ℕ → List ℕ → Wrote
-untouched n out = record { number = n; length = 0; bytes = out }
-
--- ---- writers of a handed time: an unknown kind judged after the room
-abbrev roomFirst : List ℕ → Wrote
-roomFirst out = untouched 13 out
-
-pub write-room-first : ShutOut (writes (handedWriting Cuc.writing strange) (9 ∷ [])) (untouched 3 (9 ∷ [])) (roomFirst (9 ∷ [])) (untouched 13 (9 ∷ []))
-unfolding writes
-write-room-first = (refl, refl, differ (λ (w : Wrote). w .number) (λ e. omega arith))
-
--- an unknown kind that clears the lent byte
-abbrev clears : List ℕ → Wrote
-clears out = untouched 3 (0 ∷ [])
-
-pub write-clears : ShutOut (writes (handedWriting Cuc.writing strange) (9 ∷ [])) (untouched 3 (9 ∷ [])) (clears (9 ∷ [])) (untouched 3 (0 ∷ []))
-unfolding writes
-write-clears = (refl, refl, differ (λ (w : Wrote). getD (w .bytes) 0 0) (λ e. omega arith))
-
--- ---- Proteus: H3 taken as its last bit
-abbrev utc : VrkHanded
-utc = record { kind = 0; scale = 1; day = pos 0; micro = 0; decimal = plusZero }
-
-pub h3-last-bit : ShutOut (writes (handedWriting (proteusWriting 2) utc) []) (untouched 3 []) (writes (handedWriting (proteusWriting (2 % 2)) utc) []) (untouched 13 [])
-unfolding writes field
-h3-last-bit = (refl, refl, differ (λ (w : Wrote). w .number) (λ e. omega arith))
-
--- ---- fields: what is too wide cut off
-pub fraction-cut : ShutOut (writes (cucFieldsWriting 0 65536) []) (untouched 3 []) (writes (cucFieldsWriting 0 (65536 % 65536)) []) (untouched 13 [])
-unfolding writes field
-fraction-cut = (refl, refl, differ (λ (w : Wrote). w .number) (λ e. omega arith))
-
--- ---- ticks: least significant byte first
-pub tick-reversed : ShutOut (sbtOut (Sbt.read (1 ∷ 2 ∷ 3 ∷ 4 ∷ []))) (record { refusal = 0; count = 16909060 }) (sbtOut (Sbt.read (4 ∷ 3 ∷ 2 ∷ 1 ∷ []))) (record { refusal = 0; count = 67305985 })
-unfolding Sbt.read number
-tick-reversed = (refl, refl, differ (λ (c : VrkCount). c .count) (λ e. omega arith))
 
 -- ---- texts read: a refused text in the scale of its prefix, GPS=01-JAN-1972 00:00:00
 pub read-own-scale : ShutOut (timeOut (reads beforeGps)) (record { refusal = 7; scale = 0; day = pos 0; micro = 0 }) (timeOut (ownScale beforeGps)) (record { refusal = 7; scale = 2; day = pos 0; micro = 0 })
@@ -85,7 +40,7 @@ tai u = record { kind = 0; scale = 0; day = pos 0; micro = u; decimal = plusZero
 abbrev anyForm : ℕ → Handed → List ℕ → Judged (List ℕ)
 anyForm n h out = writing h (formAt n) [] [] (pos 0) out
 
-pub form-unknown : ShutOut (writes (handedWriting (textWriting 21 [] [] (pos 0)) (tai 0)) (9 ∷ [])) (untouched 3 (9 ∷ [])) (writes (handedWriting (anyForm 21) (tai 0)) (9 ∷ [])) (untouched 13 (9 ∷ []))
+pub form-unknown : ShutOut (writes (handedWriting (textWriting 21 [] [] (pos 0)) (tai 0)) (9 ∷ [])) (not 3 (9 ∷ [])) (writes (handedWriting (anyForm 21) (tai 0)) (9 ∷ [])) (not 13 (9 ∷ []))
 unfolding writes textOf prefixOf
 form-unknown = (refl, refl, differ (λ (w : Wrote). w .number) (λ e. omega arith))
 
@@ -96,6 +51,6 @@ wholeSecond h = record { kind = h .kind; scale = h .scale; day = h .day; micro =
 abbrev blank : List ℕ
 blank = 9 ∷ 9 ∷ 9 ∷ 9 ∷ 9 ∷ 9 ∷ 9 ∷ 9 ∷ 9 ∷ 9 ∷ 9 ∷ 9 ∷ 9 ∷ 9 ∷ 9 ∷ 9 ∷ 9 ∷ 9 ∷ 9 ∷ 9 ∷ 9 ∷ 9 ∷ 9 ∷ 9 ∷ []
 
-pub micro-dropped : ShutOut (writes (handedWriting (textWriting 24 [] [] (pos 0)) (tai 5)) blank) (untouched 12 blank) (writes (handedWriting (textWriting 24 [] [] (pos 0)) (wholeSecond (tai 5))) blank) (record { number = 0; length = 24; bytes = 84 ∷ 65 ∷ 73 ∷ 61 ∷ 48 ∷ 49 ∷ 45 ∷ 74 ∷ 65 ∷ 78 ∷ 45 ∷ 50 ∷ 48 ∷ 48 ∷ 48 ∷ 32 ∷ 48 ∷ 48 ∷ 58 ∷ 48 ∷ 48 ∷ 58 ∷ 48 ∷ 48 ∷ [] })
+pub micro-dropped : ShutOut (writes (handedWriting (textWriting 24 [] [] (pos 0)) (tai 5)) blank) (not 12 blank) (writes (handedWriting (textWriting 24 [] [] (pos 0)) (wholeSecond (tai 5))) blank) (record { number = 0; length = 24; bytes = 84 ∷ 65 ∷ 73 ∷ 61 ∷ 48 ∷ 49 ∷ 45 ∷ 74 ∷ 65 ∷ 78 ∷ 45 ∷ 50 ∷ 48 ∷ 48 ∷ 48 ∷ 32 ∷ 48 ∷ 48 ∷ 58 ∷ 48 ∷ 48 ∷ 58 ∷ 48 ∷ 48 ∷ [] })
 unfolding writes textOf prefixOf letter names dateOfDay daysTo dayAfter walk firstDay lengthOf monthLength leap
 micro-dropped = (refl, refl, differ (λ (w : Wrote). w .number) (λ e. omega arith))
