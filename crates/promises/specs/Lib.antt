@@ -4,3 +4,5 @@ pub mod One
 pub mod OneForC
 pub mod Two
 pub mod Three
+pub mod Instances
+pub mod All

@@ -1,12 +1,12 @@
 -- Demand 1 of every function that can refuse: "The first that applies in this order is given, never otherwise. Every refusal returns
 -- its number, .. and lent memory keeps all its bytes." Assumes nothing.
-use mathlib.Core.Path.{_≡_, refl}
+use mathlib.Core.Path.{_≡_, refl, _∙_}
 use mathlib.Core.Bool.{Bool, true}
 use mathlib.Core.List.{List}
 use Prim.Native.Nat.{ℕ}
 use lib.Ieee.{Float}
 use lib.IntN.{ℤ}
-use Rattle.scales.specs.Meaning.{Judged, outcome, numbers, order, standsIn, Slip, Moment, dated, spanning, spanned, Wrote, written}
+use Rattle.scales.specs.Meaning.{Judged, Outcome, refused, answer, outcome, numbers, order, standsIn, Slip, Moment, dated, spanning, spanned, Wrote, written}
 use Rattle.scales.specs.declared.Scale.{Scale}
 use Rattle.scales.specs.declared.Scale.the-variants as S
 use Rattle.scales.specs.declared.Tick.{Tick}
@@ -37,8 +37,8 @@ use Rattle.layouts.specs.Siral as Siral
 use Rattle.text_read.specs.Meaning as TextRead
 use Rattle.text_write.specs.Meaning as TextWrite
 use Rattle.text_write.specs.declared.Form.{Form}
-use Rattle.promises.specs.Meaning.{Kind, Promise}
-use Rattle.promises.specs.First.{promised}
+use Rattle.promises.specs.Meaning.{applies, firstOf, Kind, Promise}
+use Rattle.promises.specs.First.{numberIn, order-clear, first-is, promised}
 
 -- ---- the kinds of answers
 abbrev pub Times : Scale → Slip → Judged Moment → Type 0
@@ -79,6 +79,19 @@ day-of t = promised (record { of-refusal = λ n. refl; of-answer = λ a. refl })
 pub decimal-read : (x : Float) (s : Scale) → Times s (Decimal.readOf x s) (Decimal.reading x s)
 unfolding Decimal.readOf
 decimal-read x s = times s (Decimal.reading x s) refl
+
+-- a decimal day that is written is allowed by a relation
+pub decimal-write : (h : Handed) (w : Decimal.DecimalSlip) → Decimal.Allowed (outcome (Decimal.writing h)) w
+    → (w .number ≡ firstOf order (applies (Decimal.writing h))) × ((w .number ≡ 0 → ⊥) → w .day ≡ Decimal.plusZero)
+decimal-write h w q = (numbered (outcome (Decimal.writing h)) q ∙ first-is order (Decimal.writing h) order-clear refl, bare (outcome (Decimal.writing h)) q)
+  where
+    numbered : (o : Outcome ℤ) → Decimal.Allowed o w → w .number ≡ numberIn o
+    numbered (refused n) q = q .0
+    numbered (answer z) q = q .0
+
+    bare : (o : Outcome ℤ) → Decimal.Allowed o w → (w .number ≡ 0 → ⊥) → w .day ≡ Decimal.plusZero
+    bare (refused n) q k = q .1
+    bare (answer z) q k = absurd (k (q .0))
 
 -- ---- changes of scale
 

@@ -1,18 +1,30 @@
 -- Demand 3, jointly: under a list that extends another and a window that is no narrower, every answer stays, and every refusal but 8
 -- and 9. Assumes nothing.
-use mathlib.Core.Path.{_≡_, refl, sym, ap, _∙_}
-use mathlib.Core.Bool.{true}
+use mathlib.Core.Path.{_≡_, refl, ap}
+use mathlib.Core.Bool.{Bool, true, false, _&&_}
 use mathlib.Core.List.{List}
 use Prim.Native.Nat.{ℕ, _≤_}
 use lib.IntN.{ℤ}
-use Rattle.scales.specs.Meaning.{Outcome, refused, outcome, Moment, dated}
+use Rattle.scales.specs.Meaning.{scaleAt, given, Outcome, outcome, Moment, dated, written}
 use Rattle.scales.specs.declared.Handed.{Handed}
 use Rattle.leap.specs.Meaning as Leap
 use Rattle.leap_laws.proofs.Promises.{Fresh, fresh}
 use Rattle.correlation.specs.Meaning as Correlation
 use Rattle.correlation.specs.declared.Correlation.{Correlation}
 use Rattle.correlation_laws.proofs.Wider.{widened, date-kept, tick-kept}
+use Rattle.changes.specs.Meaning.{changing, changeOf}
+use Rattle.text_read.specs.Meaning.{readText}
+use Rattle.text_write.specs.Meaning.{writing, writeText}
 use Rattle.text_laws.specs.Fresh.{Again, again}
+use Rattle.rack.specs.Meaning as Rack
+use Rattle.rack.specs.Bytes as Bytes
+use Rattle.rack.specs.Texts as Texts
+use Rattle.rack.specs.declared.VrkHanded.{VrkHanded}
+use Rattle.rack.specs.declared.VrkCorrelation.{VrkCorrelation}
+
+-- the correlation for C with another window
+abbrev pub widenedForC : VrkCorrelation → ℕ → ℕ → VrkCorrelation
+widenedForC c b a = record { tick = c .tick; scale = c .scale; day = c .day; micro = c .micro; period = c .period; back = b; ahead = a }
 
 -- old paper: the list ds, os, e and the correlation c; fresh paper: the list cs, ps, f, and c with the window b, a
 pub record FreshPaper (ds : List ℤ) (os : List ℕ) (e : ℤ) (cs : List ℤ) (ps : List ℕ) (f : ℤ) (c : Correlation) (b a : ℕ) : Type 0 where
@@ -32,3 +44,50 @@ module _ (ds : List ℤ) (os : List ℕ) (e : ℤ) (cs : List ℤ) (ps : List �
         date = λ t d u n. ap (dated (c .scale)) (date-kept c b a l m y z t d u (λ q. n (ap (λ (o : Outcome Moment). dated (c .scale) o .number) q)));
         tick = λ h n. ap Correlation.ticked (tick-kept c b a l m y z h (λ q. n (ap (λ (o : Outcome ℕ). Correlation.ticked o .number) q)));
       }
+
+-- ---- the same for C, where a number that stands for nothing is refused 3 first
+module _ (ds : List ℤ) (os : List ℕ) (e : ℤ) (cs : List ℤ) (ps : List ℕ) (f : ℤ) (v : Leap.accepted ds os e ≡ true) (w : Leap.accepted cs ps f ≡ true) (x : Leap.Extends ds os e cs ps f) where
+  pub change-for-c : (h : VrkHanded) (c : ℕ) → (Rack.changed h c ds os e .refusal ≡ 9 → ⊥) → Rack.changed h c cs ps f ≡ Rack.changed h c ds os e
+  unfolding Rack.changed changeOf
+  change-for-c h c n = go (Rack.knownScale c && Rack.known h) n
+    where
+      go : (k : Bool) → (Rack.timeOut (dated (scaleAt c) (outcome (given k 3 (changing (Rack.handedOf h) (scaleAt c) ds os e)))) .refusal ≡ 9 → ⊥)
+          → Rack.timeOut (dated (scaleAt c) (outcome (given k 3 (changing (Rack.handedOf h) (scaleAt c) cs ps f))))
+          ≡ Rack.timeOut (dated (scaleAt c) (outcome (given k 3 (changing (Rack.handedOf h) (scaleAt c) ds os e))))
+      go true n = ap Rack.timeOut (fresh ds os e cs ps f v w x .change (Rack.handedOf h) (scaleAt c) n)
+      go false n = refl
+
+  pub text-read-for-c : (s : List ℕ) → (Rack.timeOut (readText s ds os e) .refusal ≡ 9 → ⊥) → Rack.timeOut (readText s cs ps f) ≡ Rack.timeOut (readText s ds os e)
+  text-read-for-c s n = ap Rack.timeOut (again ds os e cs ps f v w x .read s n)
+
+  pub text-write-for-c : (h : VrkHanded) (m : ℕ) (out : List ℕ) → (Bytes.writes (Bytes.handedWriting (Texts.textWriting m ds os e) h) out .number ≡ 9 → ⊥)
+      → Bytes.writes (Bytes.handedWriting (Texts.textWriting m cs ps f) h) out ≡ Bytes.writes (Bytes.handedWriting (Texts.textWriting m ds os e) h) out
+  unfolding Bytes.writes writeText
+  text-write-for-c h m out n = go (Rack.known h) (Texts.knownForm m) n
+    where
+      go : (k l : Bool) → (written out (outcome (given k 3 (given l 3 (writing (Rack.handedOf h) (Texts.formAt m) ds os e out)))) .number ≡ 9 → ⊥)
+          → written out (outcome (given k 3 (given l 3 (writing (Rack.handedOf h) (Texts.formAt m) cs ps f out))))
+          ≡ written out (outcome (given k 3 (given l 3 (writing (Rack.handedOf h) (Texts.formAt m) ds os e out))))
+      go true true n = again ds os e cs ps f v w x .write (Rack.handedOf h) (Texts.formAt m) out n
+      go true false n = refl
+      go false l n = refl
+
+module _ (c : VrkCorrelation) (b a : ℕ) (l : c .back ≤ b) (m : c .ahead ≤ a)
+    (y : Correlation.accepted (Rack.correlationOf c) ≡ true) (z : Correlation.accepted (Rack.correlationOf (widenedForC c b a)) ≡ true) where
+  pub date-for-c : (t : ℕ) (d : ℤ) (u : ℕ) → (Rack.sbtDate t c d u .refusal ≡ 8 → ⊥) → Rack.sbtDate t (widenedForC c b a) d u ≡ Rack.sbtDate t c d u
+  unfolding Rack.sbtDate Rack.correlationOf Correlation.dateOf
+  date-for-c t d u n =
+      let k = Rack.correlationOf c in
+      ap (λ (o : Outcome Moment). Rack.timeOut (dated (k .scale) o)) (date-kept k b a l m y z t d u (λ q. n (ap (λ (o : Outcome Moment). dated (k .scale) o .number) q)))
+
+  pub tick-for-c : (h : VrkHanded) → (Rack.sbtTick h c .refusal ≡ 8 → ⊥) → Rack.sbtTick h (widenedForC c b a) ≡ Rack.sbtTick h c
+  unfolding Rack.sbtTick Rack.correlationOf
+  tick-for-c h n = go (Rack.known h) n
+    where
+      go : (k : Bool) → (Rack.tickOut (Correlation.ticked (outcome (given k 3 (Correlation.turning (Rack.correlationOf c) (Rack.handedOf h))))) .refusal ≡ 8 → ⊥)
+          → Rack.tickOut (Correlation.ticked (outcome (given k 3 (Correlation.turning (Rack.correlationOf (widenedForC c b a)) (Rack.handedOf h)))))
+          ≡ Rack.tickOut (Correlation.ticked (outcome (given k 3 (Correlation.turning (Rack.correlationOf c) (Rack.handedOf h)))))
+      go true n =
+          ap (λ (o : Outcome ℕ). Rack.tickOut (Correlation.ticked o))
+          (tick-kept (Rack.correlationOf c) b a l m y z (Rack.handedOf h) (λ q. n (ap (λ (o : Outcome ℕ). Correlation.ticked o .number) q)))
+      go false n = refl
