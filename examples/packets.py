@@ -52,7 +52,9 @@ PACKETS = [
     sbt(256 * 3600),  # an hour later, past the counter's wrap
     sbt(-1),  # a tick before the reference, rounded towards the past
     sbt(256 * 3600, 786, 2 * 3600 * SECOND + 2400 * SECOND),  # twenty to three, in March: the correlation is dead
-    sbt(31 * 86400 * 256),  # a tick beyond the window
+    sbt(20 * 86400 * 256, DAY + 20),  # twenty days later
+    sbt(31 * 86400 * 256, DAY + 20),  # a tick beyond the window
+    sbt(-2 * 86400 * 256, DAY),  # and one before it
     sbt(0, DAY, 86_400_000_000),  # no such microsecond
     packet(SBT, bytes(3)),
     packet(9, bytes(4)),  # a layout that nobody knows

@@ -4,12 +4,9 @@ use std::path::{Path, PathBuf};
 
 fn main() {
     println!("cargo:rerun-if-env-changed=VRIKSHONEM_LIB");
-    let processor = std::env::var("CARGO_CFG_TARGET_ARCH").unwrap_or_default();
-    // The proved code is for x86-64; another machine has a library that passes each call to it.
-    let made = if processor == "x86_64" { "dist" } else { "far" };
     let folder = match std::env::var_os("VRIKSHONEM_LIB") {
         Some(folder) => PathBuf::from(folder),
-        None => Path::new(env!("CARGO_MANIFEST_DIR")).join("../target").join(made).join("lib"),
+        None => Path::new(env!("CARGO_MANIFEST_DIR")).join("../target/here/lib"),
     };
     let archive = folder.join("libvrikshonem.a");
     println!("cargo:rerun-if-changed={}", archive.display());

@@ -4,7 +4,6 @@ from __future__ import annotations
 
 import ctypes
 import os
-import platform
 from ctypes import POINTER, c_double, c_int64, c_size_t, c_uint8, c_uint32, c_uint64
 from typing import Any, Dict, Optional, Tuple
 
@@ -116,9 +115,7 @@ def _places() -> Tuple[str, ...]:
     if named:
         return (os.path.join(named, NAME),)
     root = os.path.dirname(os.path.dirname(os.path.dirname(os.path.abspath(__file__))))
-    # The proved code is for x86-64; another machine has a library that passes each call to it.
-    made = "dist" if platform.machine().lower() in ("x86_64", "amd64") else "far"
-    return (os.path.join(root, "target", made, "lib", NAME), NAME)
+    return (os.path.join(root, "target", "here", "lib", NAME), NAME)
 
 
 def library() -> ctypes.CDLL:
