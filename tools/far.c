@@ -2,12 +2,13 @@
  * program of that code under the kit's emulator (tests/compare/serve.c, which says what is sent) and its answer handed
  * back. It computes nothing itself; where the answer cannot be had, the program that called is ended. It is for trying
  * and testing: slow, one call at a time, and no slice over 8,192 bytes. */
+#include <errno.h>
+#include <fcntl.h>
 #include <pthread.h>
 #include <stdio.h>
 #include <stdlib.h>
 #include <string.h>
 #include <unistd.h>
-#include <fcntl.h>
 
 #include "vrikshonem.h"
 
@@ -24,6 +25,7 @@ enum {
 
 static pthread_mutex_t turn = PTHREAD_MUTEX_INITIALIZER;
 static int to = -1, from = -1;
+static pid_t owner;
 static uint64_t words[MOST / 8], answer[ANSWER];
 static uint32_t word_count;
 
@@ -45,12 +47,13 @@ static void start(void) {
     }
     close(there[0]);
     close(back[1]);
-    to = there[1], from = back[0];
+    to = there[1], from = back[0], owner = getpid();
 }
 
 static void send_all(const void *bytes, size_t n) {
     for (size_t done = 0; done < n;) {
         ssize_t k = write(to, (const char *)bytes + done, n - done);
+        if (k < 0 && errno == EINTR) continue;
         if (k <= 0) fail("a call could not be sent");
         done += (size_t)k;
     }
@@ -59,6 +62,7 @@ static void send_all(const void *bytes, size_t n) {
 static void take_all(void *bytes, size_t n) {
     for (size_t done = 0; done < n;) {
         ssize_t k = read(from, (char *)bytes + done, n - done);
+        if (k < 0 && errno == EINTR) continue;
         if (k <= 0) fail("a call was not answered");
         done += (size_t)k;
     }
@@ -67,7 +71,8 @@ static void take_all(void *bytes, size_t n) {
 /* A call is begin, its words, ask, and a result, which ends the turn. */
 static void begin(void) {
     pthread_mutex_lock(&turn);
-    if (to < 0) start();
+    /* Two processes on one pipe would take each other's answers. */
+    if (owner != getpid()) start();
     word_count = 0;
 }
 
@@ -155,7 +160,10 @@ vrk_time vrk_change(vrk_handed time, uint32_t to_scale, const int64_t *days, siz
         return written_is(); \
     }
 #define COUNT_WRITER(name, word, number) \
-    vrk_written name(word value, uint8_t *out, size_t count) { begin(), put(value), ask(number, 0, 0, out, count); return written_is(); }
+    vrk_written name(word value, uint8_t *out, size_t count) { \
+        begin(), put(value), ask(number, 0, 0, out, count); \
+        return written_is(); \
+    }
 
 READER(vrk_time, vrk_cuc_read, CUC_READ, time_is)
 READER(vrk_time, vrk_cryosat_read, CRYOSAT_READ, time_is)

@@ -10,7 +10,7 @@ import ctypes
 from typing import Any, NamedTuple, Optional, Tuple, Union
 
 from . import _sys
-from ._times import Gps, Handed, LeapList, SCALES, Tai, Time, Utc, answered, handed, narrow, unsigned
+from ._times import Gps, Handed, LeapList, Tai, Time, Utc, answered, handed, narrow, unsigned
 
 Bytes = Union[bytes, bytearray, memoryview]
 Lent = Optional[bytearray]
@@ -184,7 +184,9 @@ def text_read(text: Union[str, Bytes], leap_list: LeapList) -> Time:
     # A character that has no byte of its own becomes a question mark, which is as bad a character as it was.
     data = text.encode("ascii", "replace") if isinstance(text, str) else text
     read = answered(_sys.library().vrk_text_read(*_slice(data), *leap_list._given))
-    return SCALES[read.scale]._of(read)
+    if read.scale == Tai.CODE:
+        return Tai._of(read)
+    return Utc._of(read) if read.scale == Utc.CODE else Gps._of(read)
 
 
 def text_write(time: Handed, form: int, leap_list: LeapList, out: Lent = None) -> str:
