@@ -107,6 +107,39 @@ class Desk(unittest.TestCase):
         self.assertEqual(held.tick_of(held.date(9, held.reference)), 9)
         self.assertEqual(vrk.change(Decimal(6209.5, Utc), Tai, LIST), Tai(6209, 43_236 * SECOND))
 
+    def test_a_window_has_two_ends(self):
+        held = correlation(100, Utc(0, SECOND), 2, 5)
+        for tick in 98, 105:
+            held.date(tick, held.reference)
+        for tick in 97, 106:
+            self.refused(8, held.date, tick, held.reference)
+        # two ticks back are 7,813 microseconds, rounded down, and five ahead 19,531
+        for micro in SECOND - 7813, SECOND + 19_531:
+            self.assertEqual(held.date(100, Utc(0, micro)), held.reference)
+        for micro in SECOND - 7814, SECOND + 19_532:
+            self.refused(8, held.date, 100, Utc(0, micro))
+        self.refused(7, held.date, 100, Utc(0, DAY))
+
+    def test_proteus_keeps_its_bit(self):
+        for h3 in False, True:
+            self.assertEqual(vrk.proteus_read(vrk.proteus_write(Utc(6209, 500_000), h3)), (Utc(6209, 500_000), h3))
+
+    def test_a_list_ends(self):
+        vrk.text_read("31-DEC-2024 23:59:59", LIST)
+        self.refused(9, vrk.text_read, "01-JAN-2025 00:00:00", LIST)
+        self.refused(9, vrk.text_write, Utc(9132, 0), 20, LIST)
+        longer = LeapList(LIST.days, LIST.offsets, 9132)
+        self.assertEqual(vrk.text_write(Utc(9132, 0), 20, longer), "01-JAN-2025 00:00:00")
+
+    def test_a_refusal_gives_the_lent_bytes_back(self):
+        out = bytearray(5)
+        try:
+            vrk.cuc_write(Gps(0, 0), out)
+        except Refused as refused:
+            # still lent, it could not grow
+            out.append(refused.number)
+        self.assertEqual(out, b"\0\0\0\0\0\x0d")
+
     def test_texts(self):
         time = Utc(6209, DAY)
         for form, text in [

@@ -134,6 +134,46 @@ fn writings_read_back() {
 }
 
 #[test]
+fn a_window_has_two_ends() {
+    let held = correlation(100, Utc::new(0, SECOND), 2, 5);
+    for (tick, good) in [(97, false), (98, true), (105, true), (106, false)] {
+        let answer = held.date(Tick(tick), held.reference);
+        assert_eq!(answer.is_ok(), good, "{tick}");
+        assert!(good || refused(answer) == 8, "{tick}");
+    }
+    // the receipt too: two ticks back are 7,813 microseconds, rounded down, and five ahead 19,531
+    for (micro, good) in [(SECOND - 7814, false), (SECOND - 7813, true), (SECOND + 19_531, true), (SECOND + 19_532, false)] {
+        assert_eq!(held.date(Tick(100), Utc::new(0, micro)).is_ok(), good, "{micro}");
+    }
+    assert_eq!(refused(held.date(Tick(100), Utc::new(0, DAY))), 7);
+}
+
+#[test]
+fn proteus_keeps_its_bit() {
+    let mut out = [0; proteus::LENGTH];
+    for h3 in [false, true] {
+        assert_eq!(proteus::write(Utc::new(6209, 500_000), h3, &mut out), Ok(8));
+        assert_eq!(proteus::read(&out), Ok((Utc::new(6209, 500_000), h3)));
+    }
+}
+
+#[test]
+fn a_decimal_day_is_handed_in() {
+    let mut out = [0; cryosat::LENGTH];
+    assert_eq!(cryosat::write(Handed::Decimal(1.5, Scale::Tai), &mut out), Ok(8));
+    assert_eq!(cryosat::read(&out), Ok(Tai::new(1, 43_200_000_000)));
+    assert_eq!(refused(cryosat::write(Handed::Decimal(f64::NAN, Scale::Tai), &mut out)), 4);
+}
+
+#[test]
+fn a_list_ends() {
+    assert!(text::read("31-DEC-2024 23:59:59", &LIST).is_ok());
+    assert_eq!(refused(text::read("01-JAN-2025 00:00:00", &LIST)), 9);
+    assert_eq!(refused(text::string(Utc::new(9132, 0), Form::Plain, &LIST)), 9);
+    assert_eq!(text::string(Utc::new(9132, 0), Form::Plain, &LeapList { last: 9132, ..LIST }).as_deref(), Ok("01-JAN-2025 00:00:00"));
+}
+
+#[test]
 fn texts_of_each_form() {
     let time = Utc::new(6209, DAY);
     for (form, text) in [
