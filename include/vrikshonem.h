@@ -198,7 +198,8 @@ typedef struct {
 vrk_proteus vrk_proteus_read(const uint8_t *bytes, size_t count);
 
 /* Given     a time, and H3, 0 or 1.    Written  8 bytes.
- * Refused   3 another H3, unknown kind or scale; 4; 7; 12 a scale other than UTC, second 60, a day outside -7300 to 21371; 13. */
+ * Refused   3 another H3, unknown kind or scale; 4; 7; 12 a scale other than UTC, second 60, a day outside -7300 to 21371;
+ *           13. */
 vrk_written vrk_proteus_write(vrk_handed time, uint32_t h3, uint8_t *out, size_t count);
 
 /* CryoSat general, 8 bytes: day (16 bits) from 1 January 2000, millisecond (32 bits, below 86,400,000), microsecond (16 bits,
@@ -269,7 +270,8 @@ typedef struct {
 vrk_cuc_fields vrk_cuc_fields_read(const uint8_t *bytes, size_t count);
 vrk_written vrk_cuc_fields_write(uint32_t seconds, uint32_t fraction, uint8_t *out, size_t count);
 vrk_proteus_fields vrk_proteus_fields_read(const uint8_t *bytes, size_t count);
-vrk_written vrk_proteus_fields_write(uint32_t week, uint32_t h3, uint32_t second, uint32_t fraction, uint8_t *out, size_t count);
+vrk_written vrk_proteus_fields_write(uint32_t week, uint32_t h3, uint32_t second, uint32_t fraction, uint8_t *out,
+                                     size_t count);
 vrk_cryosat_fields vrk_cryosat_fields_read(const uint8_t *bytes, size_t count);
 vrk_written vrk_cryosat_fields_write(uint32_t day, uint32_t millisecond, uint32_t microsecond, uint8_t *out, size_t count);
 vrk_siral_fields vrk_siral_fields_read(const uint8_t *bytes, size_t count);

@@ -203,7 +203,8 @@ vrk_written vrk_cuc_fields_write(uint32_t seconds, uint32_t fraction, uint8_t *o
     return written_is();
 }
 
-vrk_written vrk_proteus_fields_write(uint32_t week, uint32_t h3, uint32_t second, uint32_t fraction, uint8_t *out, size_t count) {
+vrk_written vrk_proteus_fields_write(uint32_t week, uint32_t h3, uint32_t second, uint32_t fraction, uint8_t *out,
+                                     size_t count) {
     begin(), put(week), put(h3), put(second), put(fraction), ask(PROTEUS_FIELDS_WRITE, 0, 0, out, count);
     return written_is();
 }

@@ -197,7 +197,9 @@ pub mod siral {
     /// The fields of the bytes, exactly. Refused: 1; 3.
     pub fn read_fields(bytes: &[u8]) -> Result<Fields, Error> {
         let read = sys::siral_fields_read(bytes);
-        answered(read.refusal, Fields { day: read.day, millisecond: read.millisecond, microsecond: read.microsecond, extra: read.extra })
+        let fields =
+            Fields { day: read.day, millisecond: read.millisecond, microsecond: read.microsecond, extra: read.extra };
+        answered(read.refusal, fields)
     }
 
     /// Writes the fields, exactly. Refused: 3; 13.

@@ -109,7 +109,10 @@ extern "C" {
     pub fn vrk_sbt_date(tick: u32, correlation: VrkCorrelation, receipt_day: i64, receipt_micro: u64) -> VrkTime;
     pub fn vrk_sbt_tick(time: VrkHanded, correlation: VrkCorrelation) -> VrkCount;
     pub fn vrk_list_accepted(days: *const i64, day_count: usize, offsets: *const u64, offset_count: usize, last: i64) -> u32;
-    pub fn vrk_change(time: VrkHanded, to_scale: u32, days: *const i64, day_count: usize, offsets: *const u64, offset_count: usize, last: i64) -> VrkTime;
+    pub fn vrk_change(
+        time: VrkHanded, to_scale: u32,
+        days: *const i64, day_count: usize, offsets: *const u64, offset_count: usize, last: i64,
+    ) -> VrkTime;
     pub fn vrk_cuc_read(bytes: *const u8, count: usize) -> VrkTime;
     pub fn vrk_cuc_write(time: VrkHanded, out: *mut u8, count: usize) -> VrkWritten;
     pub fn vrk_goce_read(bytes: *const u8, count: usize) -> VrkCount;
@@ -131,9 +134,18 @@ extern "C" {
     pub fn vrk_cryosat_fields_read(bytes: *const u8, count: usize) -> VrkCryosatFields;
     pub fn vrk_cryosat_fields_write(day: u32, millisecond: u32, microsecond: u32, out: *mut u8, count: usize) -> VrkWritten;
     pub fn vrk_siral_fields_read(bytes: *const u8, count: usize) -> VrkSiralFields;
-    pub fn vrk_siral_fields_write(day: u32, millisecond: u32, microsecond: u32, extra: u32, out: *mut u8, count: usize) -> VrkWritten;
-    pub fn vrk_text_read(text: *const u8, count: usize, days: *const i64, day_count: usize, offsets: *const u64, offset_count: usize, last: i64) -> VrkTime;
-    pub fn vrk_text_write(time: VrkHanded, days: *const i64, day_count: usize, offsets: *const u64, offset_count: usize, last: i64, form: u32, out: *mut u8, count: usize) -> VrkWritten;
+    pub fn vrk_siral_fields_write(
+        day: u32, millisecond: u32, microsecond: u32, extra: u32, out: *mut u8, count: usize,
+    ) -> VrkWritten;
+    pub fn vrk_text_read(
+        text: *const u8, count: usize,
+        days: *const i64, day_count: usize, offsets: *const u64, offset_count: usize, last: i64,
+    ) -> VrkTime;
+    pub fn vrk_text_write(
+        time: VrkHanded,
+        days: *const i64, day_count: usize, offsets: *const u64, offset_count: usize, last: i64,
+        form: u32, out: *mut u8, count: usize,
+    ) -> VrkWritten;
 }
 
 /// A safe function over slices: a byte slice becomes its pointer and length.

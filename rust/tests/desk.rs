@@ -170,7 +170,8 @@ fn a_list_ends() {
     assert!(text::read("31-DEC-2024 23:59:59", &LIST).is_ok());
     assert_eq!(refused(text::read("01-JAN-2025 00:00:00", &LIST)), 9);
     assert_eq!(refused(text::string(Utc::new(9132, 0), Form::Plain, &LIST)), 9);
-    assert_eq!(text::string(Utc::new(9132, 0), Form::Plain, &LeapList { last: 9132, ..LIST }).as_deref(), Ok("01-JAN-2025 00:00:00"));
+    let longer = LeapList { last: 9132, ..LIST };
+    assert_eq!(text::string(Utc::new(9132, 0), Form::Plain, &longer).as_deref(), Ok("01-JAN-2025 00:00:00"));
 }
 
 #[test]
