@@ -11,16 +11,11 @@ import subprocess
 
 from source import Unreadable, read, rt_code
 
-SIZES = {"u8": 1, "u32": 4, "u64": 8, "i64": 8, "f64": 8}
-_C = {"uint8_t": "u8", "uint32_t": "u32", "uint64_t": "u64", "int64_t": "i64", "double": "f64", "size_t": "usize"}
-_CTYPES = {
-    ctypes.c_uint8: "u8",
-    ctypes.c_uint32: "u32",
-    ctypes.c_uint64: "u64",
-    ctypes.c_int64: "i64",
-    ctypes.c_double: "f64",
-    ctypes.c_size_t: "u64",
-}
+_WIDTHS = (8, 16, 32, 64)
+_C = {f"uint{bits}_t": f"u{bits}" for bits in _WIDTHS} | {f"int{bits}_t": f"i{bits}" for bits in _WIDTHS}
+_C |= {"double": "f64", "size_t": "usize"}
+_CTYPES = {getattr(ctypes, f"c_uint{bits}"): f"u{bits}" for bits in _WIDTHS}
+_CTYPES |= {getattr(ctypes, f"c_int{bits}"): f"i{bits}" for bits in _WIDTHS} | {ctypes.c_double: "f64"}
 
 
 class Interface:
@@ -53,9 +48,9 @@ def _structs(code):
 
 def _passed(name, kind):
     """A Rattle parameter as C is given it. Beside a slice's number of elements, a count is called value."""
-    slices = {"&[u8]": "*const u8", "&[i64]": "*const i64", "&[u64]": "*const u64", "&mut [u8]": "*mut u8"}
-    if kind in slices:
-        return [(name, slices[kind]), (None, "usize")]
+    lent = re.fullmatch(r"&(mut )?\[(\w+)\]", kind)
+    if lent:
+        return [(name, f"*{'mut' if lent[1] else 'const'} {lent[2]}"), (None, "usize")]
     return [("value" if name == "count" else name, kind)]
 
 
@@ -158,15 +153,23 @@ def differences(truth, other, loose=False):
     return sorted(found)
 
 
-def layout(fields):
+def layout(fields, structs):
     """The size of a struct and its fields' offsets, by the rules of C."""
+    size, _, offsets = _laid(fields, structs)
+    return size, offsets
+
+
+def _laid(fields, structs):
     at, widest, offsets = 0, 1, []
     for name, kind in fields:
-        size = SIZES[kind]
-        at += -at % size
+        if kind in structs:
+            size, align, _ = _laid(structs[kind], structs)
+        else:
+            size = align = int(re.fullmatch(r"[uif](\d+)", kind)[1]) // 8
+        at += -at % align
         offsets.append((name, at))
-        at, widest = at + size, max(widest, size)
-    return at + -at % widest, offsets
+        at, widest = at + size, max(widest, align)
+    return at + -at % widest, widest, offsets
 
 
 def _snake(name):
@@ -174,11 +177,11 @@ def _snake(name):
 
 
 def _in_c(kind):
-    names = {ours: theirs for theirs, ours in _C.items()}
     if kind.startswith("*const "):
-        return f"const {names[kind[7:]]} *"
+        return f"const {_in_c(kind[7:])} *"
     if kind.startswith("*mut "):
-        return f"{names[kind[5:]]} *"
+        return f"{_in_c(kind[5:])} *"
+    names = {ours: theirs for theirs, ours in _C.items()}
     return names.get(kind) or _snake(kind)
 
 
@@ -186,7 +189,7 @@ def c_checks(truth):
     """A C program that compiles only where the header's sizes, offsets and functions are the Rattle source's."""
     lines = ["#include <vrikshonem.h>"]
     for name, fields in truth.structs.items():
-        size, offsets = layout(fields)
+        size, offsets = layout(fields, truth.structs)
         lines.append(f'_Static_assert(sizeof({_snake(name)}) == {size}, "{name}");')
         for field, at in offsets:
             lines.append(f'_Static_assert(offsetof({_snake(name)}, {field}) == {at}, "{name}.{field}");')
@@ -200,7 +203,7 @@ def rust_checks(truth, sys):
     """The same for the Rust crate's sys.rs."""
     lines = [f'#[path = "{sys}"] #[allow(dead_code)] mod sys;', "use std::mem::{offset_of, size_of};"]
     for name, fields in truth.structs.items():
-        size, offsets = layout(fields)
+        size, offsets = layout(fields, truth.structs)
         lines.append(f"const _: () = assert!(size_of::<sys::{name}>() == {size});")
         lines += [f"const _: () = assert!(offset_of!(sys::{name}, {field}) == {at});" for field, at in offsets]
     for name, (result, given) in truth.functions.items():
@@ -210,4 +213,4 @@ def rust_checks(truth, sys):
 
 
 def _in_rust(kind):
-    return f"sys::{kind}" if kind.startswith("Vrk") else kind
+    return kind.replace("Vrk", "sys::Vrk")

@@ -132,7 +132,10 @@ def library() -> ctypes.CDLL:
         else:
             raise OSError("vrikshonem: run tools/build, or set VRIKSHONEM_LIB to the library's folder: " + "; ".join(why))
         for name, (result, arguments) in FUNCTIONS.items():
-            function = getattr(found, name)
+            try:
+                function = getattr(found, name)
+            except AttributeError:
+                raise OSError(f"vrikshonem: {place} has no {name}: it is of another version than this module") from None
             function.restype, function.argtypes = result, list(arguments)
         _library = found
     return _library
