@@ -1,0 +1,112 @@
+/* Dates a file of packets, a line for each: date_packets FILE. packets.py says what the file has.
+ *
+ *     cc -o date_packets date_packets.c $(pkg-config --cflags --libs vrikshonem) */
+#include <stdio.h>
+
+#include <vrikshonem.h>
+
+enum { PACKET = 24, LONGEST = 10, TEXT = 31 };
+
+/* The published leap list: 28 steps, the last day that it speaks of is 31 December 2024. */
+static const int64_t DAYS[] = {-10227, -10045, -9861, -9496, -9131, -8766, -8400, -8035, -7670, -7305,
+                               -6758,  -6393,  -6028, -5297, -4383, -3652, -3287, -2740, -2375, -2010,
+                               -1461,  -914,   -365,  2192,  3288,  4565,  5660,  6210};
+static const uint64_t OFFSETS[] = {10, 11, 12, 13, 14, 15, 16, 17, 18, 19, 20, 21, 22, 23,
+                                   24, 25, 26, 27, 28, 29, 30, 31, 32, 33, 34, 35, 36, 37};
+#define STEPS (sizeof DAYS / sizeof DAYS[0])
+#define LIST DAYS, STEPS, OFFSETS, STEPS, 9131
+
+/* 2 October 2001, 10:00:00 UTC; it may be relied on a day back and thirty days ahead. */
+static const vrk_correlation CORRELATION = {
+    .tick = 0xFFFFF000, .scale = VRK_UTC, .day = 640, .micro = 36000000000, .period = 3906250000,
+    .back = 86400 * 256, .ahead = 30 * 86400 * 256,
+};
+
+static const char *const NAMES[] = {"?", "CUC", "Proteus", "CryoSat", "SIRAL", "SBT"};
+
+/* The header's table. */
+static const char *const WORDS[] = {
+    "answered",
+    "input length is none of the layout's",
+    "marker byte or zero bits wrong",
+    "a field over its limit, bad character, date not in the calendar",
+    "decimal day infinite or not a number",
+    "leap list not accepted",
+    "correlation not accepted",
+    "input time or receipt outside its span",
+    "correlation not in force",
+    "leap list expired",
+    "UTC second that its day lacks",
+    "result outside its scale's span",
+    "time has no image",
+    "output slice shorter than the image",
+};
+
+static uint64_t number(const uint8_t *bytes, size_t count) {
+    uint64_t value = 0;
+    for (size_t k = 0; k < count; k++) value = value << 8 | bytes[k];
+    return value;
+}
+
+/* The time of a packet in its own scale. */
+static vrk_time dated(const uint8_t *packet) {
+    const uint8_t *time = packet + 2;
+    size_t count = packet[1];
+    vrk_time refused = {0, VRK_UTC, 0, 0};
+    switch (packet[0]) {
+    case 1: return vrk_cuc_read(time, count);
+    case 2: {
+        vrk_proteus read = vrk_proteus_read(time, count);
+        vrk_time plain = {read.refusal, read.scale, read.day, read.micro};
+        return plain;
+    }
+    case 3: return vrk_cryosat_read(time, count);
+    case 4: return vrk_siral_read(time, count);
+    default: break;
+    }
+    vrk_count tick = vrk_sbt_read(time, count);
+    if (tick.refusal) {
+        refused.refusal = tick.refusal;
+        return refused;
+    }
+    return vrk_sbt_date((uint32_t)tick.count, CORRELATION, (int32_t)number(packet + 12, 4), number(packet + 16, 8));
+}
+
+static vrk_handed handed(vrk_time time) {
+    vrk_handed record = {VRK_RECORD, time.scale, time.day, time.micro, 0};
+    return record;
+}
+
+/* The packet's date as UTC text; the refusal's number where there is none. */
+static uint32_t text_of(const uint8_t *packet, uint8_t *text) {
+    vrk_time time = dated(packet);
+    if (time.refusal) return time.refusal;
+    vrk_time utc = vrk_change(handed(time), VRK_UTC, LIST);
+    if (utc.refusal) return utc.refusal;
+    return vrk_text_write(handed(utc), LIST, TEXT, text, TEXT).refusal;
+}
+
+int main(int count, char **words) {
+    uint8_t packet[PACKET], text[TEXT];
+    FILE *file = count == 2 ? fopen(words[1], "rb") : NULL;
+    if (!file) {
+        fprintf(stderr, "usage: date_packets FILE\n");
+        return 2;
+    }
+    size_t got;
+    for (unsigned line = 1; (got = fread(packet, 1, PACKET, file)) == PACKET; line++) {
+        if (packet[0] < 1 || packet[0] > 5 || packet[1] > LONGEST) {
+            printf("%2u ?       not a packet\n", line);
+            continue;
+        }
+        uint32_t refusal = text_of(packet, text);
+        printf("%2u %-7s ", line, NAMES[packet[0]]);
+        if (refusal)
+            printf("refused %u: %s\n", (unsigned)refusal, WORDS[refusal]);
+        else
+            printf("%.*s\n", TEXT, (const char *)text);
+    }
+    if (got != 0) fprintf(stderr, "date_packets: the last packet is cut off\n");
+    fclose(file);
+    return got != 0;
+}

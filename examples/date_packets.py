@@ -1,0 +1,61 @@
+#!/usr/bin/env python3
+"""Dates a file of packets, a line for each: date_packets.py FILE. packets.py says what the file has.
+
+    PYTHONPATH=python python3 examples/date_packets.py examples/packets.bin
+"""
+
+import struct
+import sys
+
+import vrikshonem as vrk
+
+PACKET = struct.Struct(">BB10siQ")
+LIST = vrk.LeapList.PUBLISHED
+NAMES = ["?", "CUC", "Proteus", "CryoSat", "SIRAL", "SBT"]
+# 2 October 2001, 10:00:00 UTC; it may be relied on a day back and thirty days ahead.
+CORRELATION = vrk.Correlation(
+    tick=0xFFFFF000,
+    reference=vrk.Utc(640, 36_000_000_000),
+    period=3_906_250_000,
+    back=86_400 * 256,
+    ahead=30 * 86_400 * 256,
+)
+
+
+def dated(layout: int, time: bytes, receipt: vrk.Utc) -> vrk.Utc:
+    if layout == 1:
+        return vrk.cuc_read(time).to_utc(LIST)
+    if layout == 2:
+        return vrk.proteus_read(time)[0]
+    if layout == 3:
+        return vrk.cryosat_read(time).to_utc(LIST)
+    if layout == 4:
+        return vrk.siral_read(time).to_utc(LIST)
+    return CORRELATION.date(vrk.sbt_read(time), receipt)
+
+
+def said(layout: int, time: bytes, receipt: vrk.Utc) -> str:
+    try:
+        return vrk.text_write(dated(layout, time, receipt), 31, LIST)
+    except vrk.Refused as refused:
+        return str(refused)
+
+
+def main() -> int:
+    if len(sys.argv) != 2:
+        print("usage: date_packets.py FILE", file=sys.stderr)
+        return 2
+    with open(sys.argv[1], "rb") as file:
+        data = file.read()
+    whole = len(data) // PACKET.size * PACKET.size
+    for line, (layout, count, time, day, micro) in enumerate(PACKET.iter_unpack(data[:whole]), 1):
+        if not 1 <= layout <= 5 or count > len(time):
+            print(f"{line:2} ?       not a packet")
+            continue
+        print(f"{line:2} {NAMES[layout]:7} {said(layout, time[:count], vrk.Utc(day, micro))}")
+    if whole != len(data):
+        print("date_packets: the last packet is cut off", file=sys.stderr)
+    return int(whole != len(data))
+
+
+sys.exit(main())

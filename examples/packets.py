@@ -1,0 +1,65 @@
+#!/usr/bin/env python3
+"""Makes packets.bin, the file that the three examples date: packets.py OUT
+
+A packet is 24 bytes, most significant byte first:
+    0        its layout: 1 CUC, 2 Proteus, 3 CryoSat general, 4 SIRAL, 5 SBT
+    1        how many bytes its time has, at most 10
+    2 to 11  its time, and zero bytes after it
+    12 to 15 the day on which it was received, signed, UTC, counted from 1 January 2000
+    16 to 23 the microsecond of that day
+"""
+
+import struct
+import sys
+
+CUC, PROTEUS, CRYOSAT, SIRAL, SBT = 1, 2, 3, 4, 5
+SECOND = 1_000_000
+# GPS second of 31 December 2016 23:59:60 UTC: day 6210 of TAI 36 s is 17 s of GPS, counted from day -7300.
+LEAP_SECOND = (6210 + 7300) * 86400 + 17
+# The examples' correlation: this tick stood for 2 October 2001, 10:00:00 UTC.
+REFERENCE, DAY, NOON = 0xFFFFF000, 640, 12 * 3600 * SECOND
+
+
+def packet(layout, time, day=DAY, micro=NOON):
+    return struct.pack(">BB10siQ", layout, len(time), time, day, micro)
+
+
+def cuc(seconds, fraction):
+    return packet(CUC, struct.pack(">IH", seconds, fraction))
+
+
+def proteus(week, low_bits, second, fraction):
+    return packet(PROTEUS, struct.pack(">HIH", week << 4 | low_bits, second, fraction))
+
+
+def sbt(ticks, day=DAY, micro=NOON):
+    return packet(SBT, struct.pack(">I", (REFERENCE + ticks) % 2**32), day, micro)
+
+
+PACKETS = [
+    cuc(LEAP_SECOND - 1, 65535),  # the last fraction of second 59
+    cuc(LEAP_SECOND, 1),  # 15 microseconds into second 60
+    cuc(LEAP_SECOND + 1, 0),  # midnight
+    packet(CUC, bytes(5)),  # a byte is missing
+    cuc(3_786_480_000, 0),  # 1 January 2100
+    cuc((9132 + 7300) * 86400 + 18, 0),  # 1 January 2025, where the list has ended
+    proteus(1930, 1, 604_799, 32768),
+    proteus(1930, 2, 0, 0),  # a bit that must be zero
+    proteus(1930, 0, 604_800, 0),  # a second more than a week has
+    packet(CRYOSAT, struct.pack(">HIH", 3753, 43_200_123, 456)),
+    packet(CRYOSAT, struct.pack(">HIH", 3753, 86_400_000, 0)),  # a millisecond more than a day has
+    packet(SIRAL, struct.pack(">HIHH", 4017, 86_399_999, 999, 16)),  # the extra counter passes midnight
+    sbt(256 * 3600),  # an hour later, past the counter's wrap
+    sbt(-1),  # a tick before the reference, rounded towards the past
+    sbt(256 * 3600, 786, 2 * 3600 * SECOND + 2400 * SECOND),  # twenty to three, in March: the correlation is dead
+    sbt(20 * 86400 * 256, DAY + 20),  # twenty days later
+    sbt(31 * 86400 * 256, DAY + 20),  # a tick beyond the window
+    sbt(-2 * 86400 * 256, DAY),  # and one before it
+    sbt(0, DAY, 86_400_000_000),  # no such microsecond
+    packet(SBT, bytes(3)),
+    packet(9, bytes(4)),  # a layout that nobody knows
+]
+
+if __name__ == "__main__":
+    with open(sys.argv[1], "wb") as file:
+        file.write(b"".join(PACKETS))

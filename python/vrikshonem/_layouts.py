@@ -1,0 +1,197 @@
+"""The byte layouts and texts.
+
+A reader takes bytes of any length. A writer hands its image back; where a bytearray is lent it also writes the image onto its
+front, leaves every byte after it, and refuses with 13 where it is too short. A refusal leaves every byte.
+"""
+
+from __future__ import annotations
+
+import ctypes
+from typing import Any, NamedTuple, Optional, Tuple, Union
+
+from . import _sys
+from ._times import Gps, Handed, LeapList, Tai, Time, Utc, answered, handed, narrow, unsigned
+
+Bytes = Union[bytes, bytearray, memoryview]
+Lent = Optional[bytearray]
+
+
+def _slice(data: Bytes) -> Tuple[Any, int]:
+    held = bytes(data)
+    return (ctypes.c_uint8 * len(held)).from_buffer_copy(held), len(held)
+
+
+def _read(name: str, data: Bytes) -> Any:
+    return answered(getattr(_sys.library(), name)(*_slice(data)))
+
+
+def _write(name: str, length: int, out: Lent, *given: Any) -> bytes:
+    room = bytearray(length) if out is None else out
+    lent = (ctypes.c_uint8 * len(room)).from_buffer(room)
+    try:
+        written = getattr(_sys.library(), name)(*given, lent, len(room))
+    finally:
+        # A bytearray cannot change its length while it is lent, and a refusal's traceback would keep it so.
+        del lent
+    return bytes(room[: answered(written).length])
+
+
+class CucFields(NamedTuple):
+    seconds: int
+    fraction: int
+
+
+class ProteusFields(NamedTuple):
+    week: int
+    h3: bool
+    second: int
+    fraction: int
+
+
+class CryosatFields(NamedTuple):
+    day: int
+    millisecond: int
+    microsecond: int
+
+
+class SiralFields(NamedTuple):
+    day: int
+    millisecond: int
+    microsecond: int
+    extra: int
+
+
+def cuc_read(data: Bytes) -> Gps:
+    """CUC, Aeolus, 6 bytes: seconds since 6 January 1980 and a fraction of 1/65536 s. Refused: 1; 7."""
+    return Gps._of(_read("vrk_cuc_read", data))
+
+
+def cuc_write(time: Handed, out: Lent = None) -> bytes:
+    """The last image whose reading is not later. Refused: 4; 7; 12 a scale other than GPS; 13."""
+    return _write("vrk_cuc_write", 6, out, handed(time))
+
+
+def cuc_fields_read(data: Bytes) -> CucFields:
+    """The fields of the bytes, exactly. Refused: 1."""
+    read = _read("vrk_cuc_fields_read", data)
+    return CucFields(read.seconds, read.fraction)
+
+
+def cuc_fields_write(seconds: int, fraction: int, out: Lent = None) -> bytes:
+    """The fields' bytes, exactly. Refused: 3; 13."""
+    return _write("vrk_cuc_fields_write", 6, out, narrow(seconds), narrow(fraction))
+
+
+def goce_read(data: Bytes) -> int:
+    """GOCE OBT, 6 bytes: a count of 48 bits, without an epoch. Refused: 1."""
+    return _read("vrk_goce_read", data).count
+
+
+def goce_write(count: int, out: Lent = None) -> bytes:
+    """Refused: 3 where it is no count of 48 bits; 13."""
+    return _write("vrk_goce_write", 6, out, unsigned(count))
+
+
+def obet_read(data: Bytes) -> int:
+    """OBET, SMOS, 8 bytes: the byte 66 hexadecimal and a count of 56 bits. Refused: 1; 2."""
+    return _read("vrk_obet_read", data).count
+
+
+def obet_write(count: int, out: Lent = None) -> bytes:
+    """Refused: 3 where it is no count of 56 bits; 13."""
+    return _write("vrk_obet_write", 8, out, unsigned(count))
+
+
+def proteus_read(data: Bytes) -> Tuple[Utc, bool]:
+    """Proteus, SMOS, 8 bytes: a UTC time in weeks of 604,800 s, without a leap list, and H3. Refused: 1; 2; 3."""
+    read = _read("vrk_proteus_read", data)
+    return Utc._of(read), read.h3 == 1
+
+
+def proteus_write(time: Handed, h3: bool, out: Lent = None) -> bytes:
+    """The last image whose reading is not later, with H3. Refused: 4; 7; 12 a scale other than UTC, second 60, a day outside
+    -7300 to 21371; 13."""
+    return _write("vrk_proteus_write", 8, out, handed(time), int(bool(h3)))
+
+
+def proteus_fields_read(data: Bytes) -> ProteusFields:
+    """The fields of the bytes, exactly. Refused: 1; 2; 3."""
+    read = _read("vrk_proteus_fields_read", data)
+    return ProteusFields(read.week, read.h3 == 1, read.second, read.fraction)
+
+
+def proteus_fields_write(week: int, h3: bool, second: int, fraction: int, out: Lent = None) -> bytes:
+    """The fields' bytes, exactly. Refused: 3; 13."""
+    return _write("vrk_proteus_fields_write", 8, out, narrow(week), int(bool(h3)), narrow(second), narrow(fraction))
+
+
+def cryosat_read(data: Bytes) -> Tai:
+    """CryoSat general, 8 bytes: day from 1 January 2000, millisecond and microsecond. Refused: 1; 3; 7."""
+    return Tai._of(_read("vrk_cryosat_read", data))
+
+
+def cryosat_write(time: Handed, out: Lent = None) -> bytes:
+    """The time, exactly. Refused: 4; 7; 12 a scale other than TAI, a day before 0; 13."""
+    return _write("vrk_cryosat_write", 8, out, handed(time))
+
+
+def cryosat_fields_read(data: Bytes) -> CryosatFields:
+    """The fields of the bytes, exactly. Refused: 1; 3."""
+    read = _read("vrk_cryosat_fields_read", data)
+    return CryosatFields(read.day, read.millisecond, read.microsecond)
+
+
+def cryosat_fields_write(day: int, millisecond: int, microsecond: int, out: Lent = None) -> bytes:
+    """The fields' bytes, exactly. Refused: 3; 13."""
+    return _write("vrk_cryosat_fields_write", 8, out, narrow(day), narrow(millisecond), narrow(microsecond))
+
+
+def siral_read(data: Bytes) -> Tai:
+    """SIRAL, 10 bytes: CryoSat general's, and an extra counter of 33/16 microsecond, which is added. Refused: 1; 3; 7."""
+    return Tai._of(_read("vrk_siral_read", data))
+
+
+def siral_write(time: Handed, out: Lent = None) -> bytes:
+    """The time, exactly, with the extra counter 0. Refused: 4; 7; 12 a scale other than TAI, a day before 0; 13."""
+    return _write("vrk_siral_write", 10, out, handed(time))
+
+
+def siral_fields_read(data: Bytes) -> SiralFields:
+    """The fields of the bytes, exactly. Refused: 1; 3."""
+    read = _read("vrk_siral_fields_read", data)
+    return SiralFields(read.day, read.millisecond, read.microsecond, read.extra)
+
+
+def siral_fields_write(day: int, millisecond: int, microsecond: int, extra: int, out: Lent = None) -> bytes:
+    """The fields' bytes, exactly. Refused: 3; 13."""
+    given = narrow(day), narrow(millisecond), narrow(microsecond), narrow(extra)
+    return _write("vrk_siral_fields_write", 10, out, *given)
+
+
+def sbt_read(data: Bytes) -> int:
+    """SBT, 4 bytes: the tick. Refused: 1."""
+    return _read("vrk_sbt_read", data).count
+
+
+def sbt_write(tick: int, out: Lent = None) -> bytes:
+    """Refused: 3 where the number is no tick; 13."""
+    return _write("vrk_sbt_write", 4, out, narrow(tick))
+
+
+def text_read(text: Union[str, Bytes], leap_list: LeapList) -> Time:
+    """The time that an Envisat text stands for, in its own scale; without a prefix it is UTC, and only then or with UTC= is
+    the list looked at. Refused: 1; 3; 5; 7; 9; 10."""
+    # A character that has no byte of its own becomes a question mark, which is as bad a character as it was.
+    data = text.encode("ascii", "replace") if isinstance(text, str) else text
+    read = answered(_sys.library().vrk_text_read(*_slice(data), *leap_list._given))
+    if read.scale == Tai.CODE:
+        return Tai._of(read)
+    return Utc._of(read) if read.scale == Utc.CODE else Gps._of(read)
+
+
+def text_write(time: Handed, form: int, leap_list: LeapList, out: Lent = None) -> str:
+    """A time as text in the form of that length: 20, 24 with a prefix, 27 with microseconds, 31 with both. Nothing is
+    written that reading would refuse. Refused: 3 another form; 4; 5; 7; 9; 10; 12 a scale other than UTC without a prefix, a
+    microsecond that the form cannot show; 13."""
+    given = handed(time), *leap_list._given, narrow(form)
+    return _write("vrk_text_write", 31, out, *given).decode("ascii")

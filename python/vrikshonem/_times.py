@@ -1,0 +1,265 @@
+"""Times of each scale, refusals, the leap list, the correlation, and how each is handed to the library."""
+
+from __future__ import annotations
+
+import ctypes
+from dataclasses import dataclass
+from operator import index
+from typing import Any, ClassVar, Generic, Sequence, Tuple, Type, TypeVar, Union
+
+from . import _sys
+
+WORDS: Tuple[str, ...] = (
+    "answered",
+    "input length is none of the layout's",
+    "marker byte or zero bits wrong",
+    "a field over its limit, bad character, date not in the calendar",
+    "decimal day infinite or not a number",
+    "leap list not accepted",
+    "correlation not accepted",
+    "input time or receipt outside its span",
+    "correlation not in force",
+    "leap list expired",
+    "UTC second that its day lacks",
+    "result outside its scale's span",
+    "time has no image",
+    "output slice shorter than the image",
+)
+
+_I64, _U64, _U32 = 2**63, 2**64, 2**32
+
+
+class Refused(Exception):
+    """A refusal: the first that applies in the paper's order. Lent memory keeps all its bytes.
+
+    number  the paper's number, 1 to 13
+    words   what is wrong, in the paper's words
+    """
+
+    def __init__(self, number: int) -> None:
+        known = 0 < number < len(WORDS)
+        self.number: int = number
+        self.words: str = WORDS[number] if known else "a refusal that this version does not know"
+        super().__init__(number)
+
+    def __str__(self) -> str:
+        return f"refused {self.number}: {self.words}"
+
+
+def answered(answer: Any) -> Any:
+    """The answer, or Refused."""
+    if answer.refusal:
+        raise Refused(answer.refusal)
+    return answer
+
+
+# ctypes cuts a whole number that is too wide without a word, and a cut day would be another day. So a number that its field
+# cannot hold is handed in as one that the library refuses the same way.
+
+
+def signed(value: int) -> int:
+    """A day: beyond 64 bits it is as far outside every span as the farthest that 64 bits hold."""
+    return max(-_I64, min(_I64 - 1, index(value)))
+
+
+def unsigned(value: int) -> int:
+    """A microsecond, a period, a count: negative or beyond 64 bits it is over every limit, as 2^64 - 1 is."""
+    return index(value) if 0 <= index(value) < _U64 else _U64 - 1
+
+
+def double(value: float) -> float:
+    """A decimal day: a whole number beyond all doubles is outside every span, and not infinite."""
+    try:
+        return float(value)
+    except OverflowError:
+        return 1e308 if value > 0 else -1e308
+
+
+def narrow(value: int) -> int:
+    """A tick or a field of 32 bits, whose every value may be an answer: another number is a field over its limit."""
+    if not 0 <= index(value) < _U32:
+        raise Refused(3)
+    return index(value)
+
+
+@dataclass(frozen=True, order=True)
+class _Time:
+    """A time of one scale: days from 1 January 2000, and the microsecond of that day. Any can be built; one outside its
+    span is refused with 7 by the function that is given it. The order is that of time."""
+
+    day: int
+    micro: int
+    CODE: ClassVar[int]
+    FIRST_DAY: ClassVar[int]
+    LAST_DAY: ClassVar[int] = 36524
+    BOUND: ClassVar[int]
+
+    @classmethod
+    def from_decimal(cls: Type[T], day: float) -> T:
+        """The microsecond nearest a decimal day, ties to the later. Refused: 4; 7."""
+        return cls._of(_sys.library().vrk_decimal_read(double(day), cls.CODE))
+
+    def to_decimal(self) -> float:
+        """The double nearest this time in days; it reads back as the same time. Refused: 7; 12 second 60."""
+        return answered(_sys.library().vrk_decimal_write(handed(self))).day
+
+    @classmethod
+    def _of(cls: Type[T], answer: Any) -> T:
+        answered(answer)
+        return cls(answer.day, answer.micro)
+
+
+T = TypeVar("T", bound=_Time)
+
+
+class Tai(_Time):
+    """A TAI time, from day -10227 (1 January 1972) to 36524 (31 December 2099)."""
+
+    CODE = 0
+    FIRST_DAY = -10227
+    BOUND = 86_400_000_000
+
+    def to_gps(self) -> Gps:
+        """The same instant in GPS. Refused: 7; 11."""
+        return change(self, Gps, _NO_LIST)
+
+    def to_utc(self, leap_list: LeapList) -> Utc:
+        """The same instant in UTC. Refused: 5; 7; 9; 11."""
+        return change(self, Utc, leap_list)
+
+
+class Utc(_Time):
+    """A UTC time; microseconds from 86,400,000,000 on are second 60."""
+
+    CODE = 1
+    FIRST_DAY = -10227
+    BOUND = 86_401_000_000
+
+    def to_tai(self, leap_list: LeapList) -> Tai:
+        """The same instant in TAI. Refused: 5; 7; 9; 10; 11."""
+        return change(self, Tai, leap_list)
+
+    def to_gps(self, leap_list: LeapList) -> Gps:
+        """The same instant in GPS. Refused: 5; 7; 9; 10; 11."""
+        return change(self, Gps, leap_list)
+
+
+class Gps(_Time):
+    """A GPS time, TAI less 19 s, from day -7300 (6 January 1980) to 36524."""
+
+    CODE = 2
+    FIRST_DAY = -7300
+    BOUND = 86_400_000_000
+
+    def to_tai(self) -> Tai:
+        """The same instant in TAI. Refused: 7; 11."""
+        return change(self, Tai, _NO_LIST)
+
+    def to_utc(self, leap_list: LeapList) -> Utc:
+        """The same instant in UTC. Refused: 5; 7; 9; 11."""
+        return change(self, Utc, leap_list)
+
+
+@dataclass(frozen=True)
+class Decimal:
+    """A decimal day from 1 January 2000, and its scale: Decimal(6209.5, Utc)."""
+
+    day: float
+    scale: Type[_Time]
+
+
+Time = Union[Tai, Utc, Gps]
+Handed = Union[Tai, Utc, Gps, Decimal]
+SCALES: Tuple[Type[_Time], ...] = (Tai, Utc, Gps)
+
+
+def handed(time: Handed) -> _sys.VrkHanded:
+    """What a caller hands in: either a record or a decimal day."""
+    if isinstance(time, Decimal):
+        return _sys.VrkHanded(1, time.scale.CODE, 0, 0, double(time.day))
+    if not isinstance(time, SCALES):
+        raise TypeError(f"a Tai, Utc, Gps or Decimal is due, not {type(time).__name__}")
+    return _sys.VrkHanded(0, time.CODE, signed(time.day), unsigned(time.micro), 0.0)
+
+
+class LeapList:
+    """A leap list: the steps' days, TAI minus UTC in seconds from each day on, and the last day that it speaks of.
+
+    Any list can be built. One that is not accepted is refused with 5 where it is used, and only there; UTC days after the
+    last day are refused with 9. It keeps a copy of what it is given."""
+
+    PUBLISHED: ClassVar[LeapList]
+
+    def __init__(self, days: Sequence[int], offsets: Sequence[int], last: int) -> None:
+        self.days: Tuple[int, ...] = tuple(days)
+        self.offsets: Tuple[int, ...] = tuple(offsets)
+        self.last: int = last
+        held_days = (ctypes.c_int64 * len(self.days))(*map(signed, self.days))
+        held_offsets = (ctypes.c_uint64 * len(self.offsets))(*map(unsigned, self.offsets))
+        self._given = (held_days, len(self.days), held_offsets, len(self.offsets), signed(last))
+
+    def is_accepted(self) -> bool:
+        """Whether it has 1 to 64 steps from (-10227, 10) on, days that rise strictly and are firsts of months, offsets that
+        count up by one, a last day from -10227 to 36524, and no step later than the day after it."""
+        return _sys.library().vrk_list_accepted(*self._given) == 1
+
+
+_NO_LIST = LeapList((), (), 0)
+# The published 28 steps, to 31 December 2024.
+LeapList.PUBLISHED = LeapList(
+    (-10227, -10045, -9861, -9496, -9131, -8766, -8400, -8035, -7670, -7305, -6758, -6393, -6028, -5297)
+    + (-4383, -3652, -3287, -2740, -2375, -2010, -1461, -914, -365, 2192, 3288, 4565, 5660, 6210),
+    range(10, 38),
+    9131,
+)
+
+
+def change(time: Handed, scale: Type[T], leap_list: LeapList) -> T:
+    """The same instant in another scale; in its own scale a time stays as it is. The list is looked at only where UTC is one
+    of the two. Refused: 4; 5; 7; 9; 10; 11."""
+    return scale._of(_sys.library().vrk_change(handed(time), scale.CODE, *leap_list._given))
+
+
+@dataclass(frozen=True)
+class Correlation(Generic[T]):
+    """One tick, the time it stood for, and how long it may be relied on. One that is not accepted is refused with 6.
+
+    tick       the reference tick
+    reference  the time that it stood for, below microsecond 86,400,000,000; its scale is the correlation's
+    period     picoseconds of a tick, from 3,906,000,000 to 3,906,500,000
+    back       ticks back, to 2^31
+    ahead      ticks ahead, to 2^31 - 1
+    """
+
+    tick: int
+    reference: T
+    period: int
+    back: int
+    ahead: int
+
+    def _given(self) -> _sys.VrkCorrelation:
+        # A reference tick that is none cannot be accepted, as a period of 0 cannot.
+        known = 0 <= index(self.tick) < _U32
+        return _sys.VrkCorrelation(
+            self.tick if known else 0,
+            self.reference.CODE,
+            signed(self.reference.day),
+            unsigned(self.reference.micro),
+            unsigned(self.period) if known else 0,
+            unsigned(self.back),
+            unsigned(self.ahead),
+        )
+
+    def date(self, tick: int, receipt: T) -> T:
+        """The time of a tick whose packet was received at `receipt`, rounded down. Refused: 3 where the number is no tick; 6;
+        7 for the receipt; 8 where the tick lies outside the window or the receipt outside the window's times; 11."""
+        scale = type(self.reference)
+        if type(receipt) is not scale:
+            raise TypeError(f"a receipt in {scale.__name__} is due, not {type(receipt).__name__}")
+        given = narrow(tick), self._given(), signed(receipt.day), unsigned(receipt.micro)
+        return scale._of(_sys.library().vrk_sbt_date(*given))
+
+    def tick_of(self, time: Handed) -> int:
+        """The last tick of the window whose time is not later. Refused: 4; 6; 7; 12 another scale or second 60; 8 outside
+        the window's times."""
+        return answered(_sys.library().vrk_sbt_tick(handed(time), self._given())).count

@@ -1,0 +1,47 @@
+//! Vrikshonem, the dating desk: counters and times of packets as dates, or one numbered refusal.
+//!
+//! The library behind this crate is proved: each reading is the exact time to the microsecond, each writing the bytes whose
+//! reading is that time or the last not later, and each refusal the first that applies in the paper's order. The crate adds
+//! types: [`Tai`], [`Utc`] and [`Gps`] times cannot be mistaken for each other, a [`LeapList`] is borrowed, and a refusal is
+//! an [`Error`] that carries its number and says in words what is wrong.
+//!
+//! ```
+//! use vrikshonem::{cuc, text, Form, LeapList};
+//!
+//! let list = LeapList::PUBLISHED;
+//! let gps = cuc::read(&[0x45, 0x93, 0x09, 0x11, 0x00, 0x01])?;
+//! let utc = gps.to_utc(&list)?;
+//! assert_eq!(text::string(utc, Form::PrefixedMicros, &list)?, "UTC=31-DEC-2016 23:59:60.000015");
+//!
+//! let refused = cuc::read(&[0; 5]).unwrap_err();
+//! assert_eq!(refused.number, 1);
+//! assert_eq!(refused.to_string(), "refused 1: input length is none of the layout's");
+//! # Ok::<(), vrikshonem::Error>(())
+//! ```
+//!
+//! A time of one scale is not accepted where another is due:
+//!
+//! ```compile_fail,E0308
+//! use vrikshonem::{Correlation, Gps, Tick, Utc};
+//! fn dated(correlation: Correlation<Utc>) {
+//!     let _ = correlation.date(Tick(0), Gps::new(0, 0));
+//! }
+//! ```
+#![deny(unsafe_code)]
+
+mod correlation;
+mod error;
+mod layouts;
+mod leap;
+#[allow(missing_docs)]
+mod sys;
+pub mod text;
+mod time;
+
+pub use correlation::{Correlation, Tick};
+pub use error::Error;
+pub use layouts::{cryosat, cuc, goce, obet, proteus, sbt, siral};
+pub use leap::{change, LeapList};
+pub use text::Form;
+pub use time::{Gps, Handed, Scale, Scaled, Tai, Time, Utc};
+

@@ -1,0 +1,236 @@
+//! Scales, times of each scale, and what is handed in.
+
+use crate::error::{answered, Error};
+use crate::leap::{change, LeapList};
+use crate::sys;
+
+/// A scale, where it is known only when the program runs.
+#[derive(Clone, Copy, PartialEq, Eq, Hash, Debug)]
+pub enum Scale {
+    /// International Atomic Time.
+    Tai,
+    /// Coordinated Universal Time, with its leap seconds.
+    Utc,
+    /// GPS time, TAI less 19 s.
+    Gps,
+}
+
+impl Scale {
+    pub(crate) fn code(self) -> u32 {
+        match self {
+            Scale::Tai => 0,
+            Scale::Utc => 1,
+            Scale::Gps => 2,
+        }
+    }
+}
+
+mod sealed {
+    pub trait Sealed {}
+}
+
+/// The times of one scale: [`Tai`], [`Utc`] and [`Gps`], and no other type.
+pub trait Scaled: sealed::Sealed + Copy + Into<Handed> {
+    /// The scale.
+    const SCALE: Scale;
+    /// The time at a day and a microsecond of that day.
+    fn at(day: i64, micro: u64) -> Self;
+    /// Days from 1 January 2000.
+    fn day(self) -> i64;
+    /// Microsecond of the day.
+    fn micro(self) -> u64;
+}
+
+macro_rules! scale {
+    ($name:ident, $first:expr, $bound:expr, $what:expr) => {
+        #[doc = $what]
+        ///
+        /// The order is that of time. A value outside the scale's span can be built; every function refuses it with 7.
+        #[derive(Clone, Copy, PartialEq, Eq, PartialOrd, Ord, Hash, Debug)]
+        pub struct $name {
+            /// Days from 1 January 2000.
+            pub day: i64,
+            /// Microsecond of that day.
+            pub micro: u64,
+        }
+
+        impl $name {
+            /// The first day of the scale's span, counted from 1 January 2000.
+            pub const FIRST_DAY: i64 = $first;
+            /// The last day of the scale's span, 31 December 2099.
+            pub const LAST_DAY: i64 = 36524;
+            /// A microsecond of day is below this.
+            pub const BOUND: u64 = $bound;
+
+            /// The time at a day and a microsecond of that day. It is judged by the function that is given it.
+            pub const fn new(day: i64, micro: u64) -> Self {
+                $name { day, micro }
+            }
+
+            /// The microsecond nearest a decimal day, ties to the later. Refused: 4; 7.
+            pub fn from_decimal(day: f64) -> Result<Self, Error> {
+                at(sys::decimal_read(day, Scale::$name.code()))
+            }
+
+            /// The double nearest this time in days; it reads back as the same time. Refused: 7; 12 second 60.
+            pub fn to_decimal(self) -> Result<f64, Error> {
+                let written = sys::decimal_write(Handed::from(self).given());
+                answered(written.refusal, written.day)
+            }
+        }
+
+        impl sealed::Sealed for $name {}
+
+        impl Scaled for $name {
+            const SCALE: Scale = Scale::$name;
+            fn at(day: i64, micro: u64) -> Self {
+                $name { day, micro }
+            }
+            fn day(self) -> i64 {
+                self.day
+            }
+            fn micro(self) -> u64 {
+                self.micro
+            }
+        }
+
+        impl From<$name> for Time {
+            fn from(time: $name) -> Time {
+                Time::$name(time)
+            }
+        }
+
+        impl From<$name> for Handed {
+            fn from(time: $name) -> Handed {
+                Handed::Record(Time::$name(time))
+            }
+        }
+    };
+}
+
+scale!(Tai, -10227, 86_400_000_000, "A TAI time, from day -10227 (1 January 1972) to 36524 (31 December 2099).");
+scale!(Utc, -10227, 86_401_000_000, "A UTC time; microseconds from 86,400,000,000 on are second 60.");
+scale!(Gps, -7300, 86_400_000_000, "A GPS time, from day -7300 (6 January 1980) to 36524.");
+
+// TAI and GPS change into each other without a list: none is looked at.
+const NO_LIST: LeapList<'static> = LeapList { days: &[], offsets: &[], last: 0 };
+
+impl Tai {
+    /// The same instant in GPS. Refused: 7; 11.
+    pub fn to_gps(self) -> Result<Gps, Error> {
+        change(self, &NO_LIST)
+    }
+
+    /// The same instant in UTC. Refused: 5; 7; 9; 11.
+    pub fn to_utc(self, list: &LeapList<'_>) -> Result<Utc, Error> {
+        change(self, list)
+    }
+}
+
+impl Gps {
+    /// The same instant in TAI. Refused: 7; 11.
+    pub fn to_tai(self) -> Result<Tai, Error> {
+        change(self, &NO_LIST)
+    }
+
+    /// The same instant in UTC. Refused: 5; 7; 9; 11.
+    pub fn to_utc(self, list: &LeapList<'_>) -> Result<Utc, Error> {
+        change(self, list)
+    }
+}
+
+impl Utc {
+    /// The same instant in TAI. Refused: 5; 7; 9; 10; 11.
+    pub fn to_tai(self, list: &LeapList<'_>) -> Result<Tai, Error> {
+        change(self, list)
+    }
+
+    /// The same instant in GPS. Refused: 5; 7; 9; 10; 11.
+    pub fn to_gps(self, list: &LeapList<'_>) -> Result<Gps, Error> {
+        change(self, list)
+    }
+}
+
+/// A time of a scale that is known only when the program runs, as of a text.
+#[derive(Clone, Copy, PartialEq, Eq, Hash, Debug)]
+#[allow(missing_docs)]
+pub enum Time {
+    Tai(Tai),
+    Utc(Utc),
+    Gps(Gps),
+}
+
+impl Time {
+    /// The scale of the time.
+    pub fn scale(self) -> Scale {
+        match self {
+            Time::Tai(_) => Scale::Tai,
+            Time::Utc(_) => Scale::Utc,
+            Time::Gps(_) => Scale::Gps,
+        }
+    }
+
+    /// Days from 1 January 2000.
+    pub fn day(self) -> i64 {
+        match self {
+            Time::Tai(Tai { day, .. }) | Time::Utc(Utc { day, .. }) | Time::Gps(Gps { day, .. }) => day,
+        }
+    }
+
+    /// Microsecond of the day.
+    pub fn micro(self) -> u64 {
+        match self {
+            Time::Tai(Tai { micro, .. }) | Time::Utc(Utc { micro, .. }) | Time::Gps(Gps { micro, .. }) => micro,
+        }
+    }
+}
+
+/// What a caller hands in: either a record or a decimal day. Every writer takes it, and every time turns into it.
+///
+/// ```
+/// use vrikshonem::{cryosat, Handed, Scale, Tai};
+/// let mut bytes = [0; cryosat::LENGTH];
+/// assert_eq!(cryosat::write(Handed::Decimal(1.5, Scale::Tai), &mut bytes), Ok(8));
+/// assert_eq!(cryosat::read(&bytes), Ok(Tai::new(1, 43_200_000_000)));
+/// ```
+#[derive(Clone, Copy, PartialEq, Debug)]
+pub enum Handed {
+    /// A record: a scale, a day and a microsecond of that day.
+    Record(Time),
+    /// A decimal day from 1 January 2000, and its scale. Refused with 4 where it is infinite or not a number.
+    Decimal(f64, Scale),
+}
+
+impl From<Time> for Handed {
+    fn from(time: Time) -> Handed {
+        Handed::Record(time)
+    }
+}
+
+impl Handed {
+    pub(crate) fn given(self) -> sys::VrkHanded {
+        match self {
+            Handed::Record(time) => {
+                sys::VrkHanded { kind: 0, scale: time.scale().code(), day: time.day(), micro: time.micro(), decimal: 0.0 }
+            }
+            Handed::Decimal(decimal, scale) => sys::VrkHanded { kind: 1, scale: scale.code(), day: 0, micro: 0, decimal },
+        }
+    }
+}
+
+/// The answer of a function whose scale is known.
+pub(crate) fn at<T: Scaled>(time: sys::VrkTime) -> Result<T, Error> {
+    debug_assert_eq!(time.scale, T::SCALE.code());
+    answered(time.refusal, T::at(time.day, time.micro))
+}
+
+/// The answer of a function whose scale comes with it.
+pub(crate) fn timed(time: sys::VrkTime) -> Result<Time, Error> {
+    let record = match time.scale {
+        0 => Time::Tai(Tai::new(time.day, time.micro)),
+        1 => Time::Utc(Utc::new(time.day, time.micro)),
+        2 => Time::Gps(Gps::new(time.day, time.micro)),
+        code => unreachable!("the library has no scale {code}"),
+    };
+    answered(time.refusal, record)
+}

@@ -1,0 +1,82 @@
+//! What the examples must print, by the independent program: dated FILE
+
+#[allow(dead_code)]
+#[path = "../independent/mod.rs"]
+mod independent;
+
+use independent::correlation::Correlation;
+use independent::layouts::{cryosat, cuc, number, proteus, sbt, siral};
+use independent::leap::{change, List};
+use independent::time::{Handed, Moment, Scale};
+use independent::{text, Number};
+
+// January and July firsts of document 01, as days from 1 January 2000.
+const JANUARY: [i64; 17] =
+    [1972, 1973, 1974, 1975, 1976, 1977, 1978, 1979, 1980, 1988, 1990, 1991, 1996, 1999, 2006, 2009, 2017];
+const JULY: [i64; 11] = [1972, 1981, 1982, 1983, 1985, 1992, 1993, 1994, 1997, 2012, 2015];
+
+const NAMES: [&str; 6] = ["?", "CUC", "Proteus", "CryoSat", "SIRAL", "SBT"];
+
+// Document 01's table.
+const WORDS: [&str; 14] = [
+    "answered",
+    "input length is none of the layout's",
+    "marker byte or zero bits wrong",
+    "a field over its limit, bad character, date not in the calendar",
+    "decimal day infinite or not a number",
+    "leap list not accepted",
+    "correlation not accepted",
+    "input time or receipt outside its span",
+    "correlation not in force",
+    "leap list expired",
+    "UTC second that its day lacks",
+    "result outside its scale's span",
+    "time has no image",
+    "output slice shorter than the image",
+];
+
+fn day_of(year: i64, month: u64) -> i64 {
+    independent::calendar::day_of(&independent::calendar::Date { day: 1, month, year }).expect("a date")
+}
+
+fn dated(layout: u8, time: &[u8], receipt: Moment) -> Result<(Scale, Moment), Number> {
+    let correlation = Correlation {
+        tick: 0xFFFF_F000,
+        scale: Scale::Utc,
+        reference: Moment { day: 640, micro: 36_000_000_000 },
+        period: 3_906_250_000,
+        back: 86_400 * 256,
+        ahead: 30 * 86_400 * 256,
+    };
+    match layout {
+        1 => Ok((Scale::Gps, cuc::read(time)?)),
+        2 => Ok((Scale::Utc, proteus::read(time)?.0)),
+        3 => Ok((Scale::Tai, cryosat::read(time)?)),
+        4 => Ok((Scale::Tai, siral::read(time)?)),
+        _ => Ok((Scale::Utc, correlation.date(sbt::read(time)? as u32, receipt)?)),
+    }
+}
+
+fn main() {
+    let file = std::env::args().nth(1).expect("usage: dated FILE");
+    let mut days: Vec<i64> = JANUARY.iter().map(|&year| day_of(year, 1)).chain(JULY.iter().map(|&year| day_of(year, 7))).collect();
+    days.sort();
+    let offsets: Vec<u64> = (10..38).collect();
+    let list = List { days: &days, offsets: &offsets, last: 9131 };
+    for (k, packet) in std::fs::read(file).expect("the packets").chunks(24).enumerate() {
+        let (layout, count) = (packet[0], packet[1] as usize);
+        if !(1..=5).contains(&layout) || count > 10 {
+            println!("{:2} ?       not a packet", k + 1);
+            continue;
+        }
+        let receipt = Moment { day: i64::from(number(&packet[12..16]) as i32), micro: number(&packet[16..]) };
+        let line = dated(layout, &packet[2..2 + count], receipt)
+            .and_then(|(scale, moment)| change(Handed::Record(scale, moment), Scale::Utc, &list))
+            .and_then(|utc| text::write(Handed::Record(Scale::Utc, utc), 31, &list));
+        let said = match line {
+            Ok(text) => String::from_utf8(text).expect("letters"),
+            Err(number) => format!("refused {number}: {}", WORDS[number as usize]),
+        };
+        println!("{:2} {:7} {said}", k + 1, NAMES[layout as usize]);
+    }
+}
