@@ -1,8 +1,8 @@
 -- The boundary between signed numbers and places, once for every axis: what the tests of
 --     if z < -b { return 0; } if t - b < z { return t; } (z + b) as u64
 -- tell of z, and what its operations ask. The code's -b is `negsuc c` with b = suc c, and t - b is `pos h`. Assumes nothing.
-use mathlib.Core.Path.{_≡_, refl, sym, ap, _∙_}
-use mathlib.Core.Bool.{Bool, true, false}
+use mathlib.Core.Path.{_≡_, sym, ap, _∙_}
+use mathlib.Core.Bool.{true, false}
 use Prim.Native.Nat.{ℕ, suc, _+_, _-_, _<_, _≤_, _^_}
 use native.Mathlib.Omega.{arith}
 use lib.Dec.{T}

@@ -1,6 +1,6 @@
 -- The laws of `place`, over the axis's begin -b and its end t: there and back, order and sums between the numbers (ℤ) and
 -- their places (ℕ). Assumes nothing.
-use mathlib.Core.Path.{_≡_, refl, sym, ap, _∙_}
+use mathlib.Core.Path.{_≡_, sym, ap, _∙_}
 use Prim.Native.Nat.{ℕ, suc, _+_, _-_, _≤_, _<_, min}
 use native.Mathlib.Omega.{arith}
 use lib.Dec.{leb}

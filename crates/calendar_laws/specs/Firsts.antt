@@ -9,9 +9,9 @@ use borrow.Author.Tests.{eq-eqb, eqb-true}
 use Rattle.axis.specs.Meaning.{placeOfDay, dayAt}
 use Rattle.axis.specs.Axis.{place-day, day-place}
 use Rattle.axis.specs.Diff.{Way, way, below, above}
-use Rattle.calendar.specs.Meaning.{leap, monthLength, lengthOf, firstDay, dayAfter, daysTo, walk, isFirst}
+use Rattle.calendar.specs.Meaning.{leap, monthLength, lengthOf, firstDay, dayAfter, walk, isFirst}
 use Rattle.calendar.specs.Gregorian.{first-end, first-mono, length-bounds}
-use Rattle.calendar.specs.Walk.{Located, spotted, walk-at, walk-end}
+use Rattle.calendar.specs.Walk.{spotted, walk-at, walk-end}
 use Rattle.calendar.specs.Days.{after-at, first-within}
 use Rattle.calendar.specs.Told.{first-span}
 

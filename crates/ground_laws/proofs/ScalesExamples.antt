@@ -1,19 +1,18 @@
 -- The spans at their edges, the order of the refusals, and the laws of the scales at inputs that meet their hypotheses:
 -- computed. Assumes nothing.
-use mathlib.Core.Path.{_≡_, refl, sym, _∙_}
+use mathlib.Core.Path.{_≡_, refl}
 use mathlib.Core.Bool.{Bool, true, false}
 use mathlib.Core.List.{List, [], _∷_}
 use Prim.Native.Nat.{ℕ}
 use lib.Dec.{lit<}
 use lib.IntN.{ℤ, pos, negsuc}
-use Rattle.scales.specs.Meaning.{inSpan, given, gives, refused, outcome, numbers, order, standsIn, Slip, Moment, slipOf, at, no, momentAt, recordAt, recordOf, spanning, spanned, timeAt, slipTimed}
-use Rattle.scales.specs.Order.{Refuses, here, later, is-refuses, Answers, is-answers}
-use Rattle.scales.specs.Place.{Placed, placed, in-span, out-early, out-late, out-over, moment-of, countOf}
+use Rattle.scales.specs.Meaning.{inSpan, given, gives, refused, outcome, numbers, order, standsIn, momentAt, recordAt, recordOf, spanning, spanned, timeAt}
+use Rattle.scales.specs.Order.{Refuses, is-refuses, Answers, is-answers}
+use Rattle.scales.specs.Place.{placed, in-span, out-early, out-late, out-over, moment-of, countOf}
 use Rattle.scales.specs.Counts.{typed-at, typed-no, timed-at}
 use Rattle.scales.specs.declared.Scale.{Scale}
 use Rattle.scales.specs.declared.Scale.the-variants as S
 use Rattle.scales.specs.declared.Refusal.the-variants as R
-use Rattle.scales.specs.declared.Timed.the-variants as TD
 
 -- a day and a microsecond of a scale, and whether they lie in its span
 pub record Edge : Type 0 where

@@ -8,7 +8,7 @@ use lib.IntN.{ℤ, pos, negsuc, natAbs}
 use lib.Signed.{leZ}
 use Rattle.evidence.specs.ShutOut.{ShutOut, differ}
 use Rattle.axis.specs.Meaning.{dayAt}
-use Rattle.scales.specs.Meaning.{codeOf, first, last, bound, numberOf, Slip, Moment, given, gives, outcome, dated, timeScale, timeCount, timeAt, spanned, recordOf, recordAt}
+use Rattle.scales.specs.Meaning.{codeOf, first, last, bound, numberOf, Slip, given, gives, outcome, dated, timeScale, timeCount, timeAt, spanned, recordOf, recordAt}
 use Rattle.scales.specs.declared.Scale.{Scale}
 use Rattle.scales.specs.declared.Scale.the-variants as S
 use Rattle.scales.specs.declared.Refusal.{Refusal}

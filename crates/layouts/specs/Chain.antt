@@ -12,6 +12,7 @@ use Rattle.scales.specs.Meaning.{andThen, Judged, given, gives, refused, answer
 use Rattle.scales.specs.Place.{and-both}
 use Rattle.scales.specs.Same.{some as is-some}
 use Rattle.scales.specs.declared.Scale.{Scale}
+use Rattle.scales.specs.Order.{onward, then-is}
 use Rattle.scales.specs.declared.Refusal.{Refusal}
 use Rattle.scales.specs.declared.Dated.the-variants as D
 use Rattle.scales.specs.declared.Written.the-variants as W
@@ -21,14 +22,10 @@ use Rattle.layouts.specs.Meaning.{momentFrom, judged}
 -- ---- one chain after the other
 module _ {A B : Type 0} (f : A → Judged B) where
   pub then-refused : (j : Judged A) (n : ℕ) → outcome j ≡ refused n → outcome (andThen j f) ≡ refused n
-  then-refused (given true m rest) n e = then-refused rest n e
-  then-refused (given false m rest) n e = let q : m ≡ n = cc in ap refused q
-  then-refused (gives a) n e = absurd (let z : _≡_ {A = ℕ} 0 1 = cc in omega arith)
+  then-refused j n e = then-is j f ∙ ap (onward f) e
 
   pub then-answer : (j : Judged A) (a : A) → outcome j ≡ answer a → outcome (andThen j f) ≡ outcome (f a)
-  then-answer (given true m rest) a e = then-answer rest a e
-  then-answer (given false m rest) a e = absurd (let z : _≡_ {A = ℕ} 0 1 = cc in omega arith)
-  then-answer (gives b) a e = let q : b ≡ a = cc in ap (λ (x : A). outcome (f x)) q
+  then-answer j a e = then-is j f ∙ ap (onward f) e
 
 -- ---- no refusal of the chain has the number 0, which an answer has
 abbrev pub numbered : {A : Type 0} → Judged A → Bool

@@ -1,6 +1,5 @@
 -- A UTC count is known by its day and its microsecond. Assumes nothing.
 use mathlib.Core.Path.{_≡_}
-use Prim.Native.Nat.{ℕ}
 use Rattle.scales.specs.Place.{count-inj}
 use Rattle.scales.specs.declared.Scale.the-variants as S
 use Rattle.scales.specs.declared.Utc.{Utc}

@@ -7,7 +7,7 @@ use Prim.Native.Nat.{ℕ}
 use native.Mathlib.Omega.{arith}
 use lib.Dec.{eqb}
 use lib.IntN.{pos}
-use lib.ListN.{length, take, drop}
+use lib.ListN.{length, take, drop, replicate}
 use Rattle.evidence.specs.ShutOut.{ShutOut}
 use Rattle.scales.specs.Meaning.{Outcome, refused, answer, outcome, Moment}
 use Rattle.calendar.specs.Meaning.{leap, monthLength, lengthOf, firstDay, isDate, dayAfter, daysTo, walk, dayOfDate, dateOfDay}
@@ -16,6 +16,7 @@ use Rattle.leap.specs.Published.{published}
 use Rattle.text_read.specs.Meaning.{digitOf, twoOf, fourOf, sixOf, names, letter, isNamed, seek, monthOf, hasMarks, microIn, stampIn, inLimits, prefixOf, hasPrefix, scaleIn, bodyIn, isPrefixRight, isBody}
 use Rattle.text_write.specs.Meaning.{textOf}
 use Rattle.text_laws.specs.Computed.{sixty}
+use Rattle.lines_laws.specs.Run.{kept-is}
 use Rattle.lines.specs.Meaning.{linesOf, refusedText, told, dating, answerTo, answers, desk, wholeIn}
 
 abbrev pub dates : List ℕ → Outcome Moment
@@ -109,3 +110,8 @@ return-taken = (refl, dos-dates, λ q. let z : _≡_ {A = ℕ} 0 1 = ap kind (q 
     kind : Outcome Moment → ℕ
     kind (refused n) = 0
     kind (answer m) = 1
+
+-- ---- a line of 40 bytes that has begun: 32 of them are enough
+pub kept-instance : desk (replicate 40 120 ++ (10 ∷ [])) ≡ desk (replicate 32 120 ++ (10 ∷ []))
+unfolding wholeIn
+kept-instance = kept-is (replicate 40 120) (10 ∷ []) refl

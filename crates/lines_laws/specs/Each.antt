@@ -1,19 +1,18 @@
 -- Any line of any bytes gets exactly one line of output. Assumes nothing.
 use mathlib.Core.Path.{_≡_, refl, sym, ap, _∙_}
 use mathlib.Core.Bool.{Bool, true, false, cond, not, _&&_}
-use mathlib.Core.List.{List, [], _∷_, _++_, append-nil, append-assoc}
+use mathlib.Core.List.{List, [], _∷_, append-nil, append-assoc}
 use Prim.Native.Nat.{ℕ, zero, suc, _+_, _-_, _*_, _/_, _%_}
 use native.Mathlib.Omega.{arith}
 use lib.Dec.{eqb, ltb}
 use lib.ListN.{length, getD}
 use borrow.Author.Tests.{ne-eqb}
-use Rattle.scales.specs.Meaning.{Outcome, refused, answer, outcome, Moment}
+use Rattle.scales.specs.Meaning.{Outcome, refused, answer, Moment}
 use Rattle.scales.specs.Place.{and-both}
-use Rattle.leap.specs.Meaning.{publishedDays, publishedOffsets, publishedLast}
 use Rattle.text_read.specs.Meaning.{names, letter, prefixOf}
 use Rattle.text_write.specs.Meaning.{textOf}
-use Rattle.lines.specs.Meaning.{onFirst, linesOf, digit, refusedText, told, answerTo, answers, desk, onBegun, wholeIn}
-use Rattle.lines_laws.specs.Lines.{Begun, before, begun-lines, before-first}
+use Rattle.lines.specs.Meaning.{linesOf, digit, refusedText, told, answerTo, answers, desk, onBegun, wholeIn}
+use Rattle.lines_laws.specs.Lines.{Begun, begun-lines, before-first}
 use Rattle.lines_laws.specs.Run.{printed}
 use Rattle.lines_laws.specs.Computed.{dates}
 

@@ -1,17 +1,16 @@
 -- The line program over any blocks is its meaning over the whole input. Assumes nothing.
-use mathlib.Core.Path.{_≡_, refl, sym, ap, ap₂, _∙_}
-use mathlib.Core.Bool.{Bool, true, false, _||_}
+use mathlib.Core.Path.{_≡_, refl, sym, ap, _∙_}
+use mathlib.Core.Bool.{Bool, true, false}
 use mathlib.Core.List.{List, [], _∷_, _++_, append-nil, append-assoc}
-use Prim.Native.Nat.{ℕ, suc, _≤_, _<_}
+use Prim.Native.Nat.{ℕ, _≤_}
 use native.Mathlib.Omega.{arith}
-use lib.Dec.{eqb, leb}
+use lib.Dec.{leb}
 use lib.IntN.{ℤ}
 use lib.ListN.{length, take, drop, length-append}
 use lib.Seq.{take-all, length-take-le}
 use borrow.Author.Tests.{ne-eqb, leb-true, leb-false}
-use Rattle.scales.specs.Meaning.{refused, outcome}
 use Rattle.leap.specs.Meaning.{publishedDays, publishedOffsets, publishedLast}
-use Rattle.lines.specs.Meaning.{linesOf, refusedText, dating, answerTo, answers, desk, wholeIn, bytesIn, datedIn, roomFor}
+use Rattle.lines.specs.Meaning.{linesOf, refusedText, answerTo, answers, desk, wholeIn, bytesIn, datedIn}
 use Rattle.lines_laws.specs.Lines.{whole-lines, whole-rest, answers-join, noRoom, room-is, Begun, before, begun-lines, begun-front, begun-ends, before-one, before-first}
 
 abbrev pub printed : List (List ℕ) → List ℕ

@@ -1,7 +1,6 @@
 -- The marked cases hold, all in one computation. Assumes nothing.
 use mathlib.Core.Path.{_≡_, refl}
-use mathlib.Core.List.{List, map}
-use lib.IntN.{ℤ}
+use mathlib.Core.List.{map}
 use Rattle.decimal.specs.Meaning.{readOf}
 use Rattle.correlation.specs.Meaning.{dateOf, accepted, inWindow, covers, clock}
 use Rattle.calendar.specs.Meaning.{leap, monthLength, lengthOf, firstDay, dayAfter, daysTo, walk, isFirst}

@@ -1,7 +1,7 @@
 -- Each theorem with hypotheses at an input that meets them, where the conclusion is an answer. Assumes nothing.
 use mathlib.Core.Path.{_≡_, refl, sym, _∙_}
 use mathlib.Core.Bool.{true}
-use mathlib.Core.List.{List, [], _∷_}
+use mathlib.Core.List.{[], _∷_}
 use Prim.Native.Nat.{ℕ}
 use native.Mathlib.Omega.{arith}
 use lib.Dec.{lit≤}
@@ -16,7 +16,6 @@ use Rattle.leap.specs.Published.{published}
 use Rattle.leap_laws.proofs.Marked.{published-6209, extended}
 use Rattle.layouts.specs.Cuc as Cuc
 use Rattle.layouts.specs.Cryosat as Cryosat
-use Rattle.text_read.specs.Meaning.{readText}
 use Rattle.text_laws.specs.Computed.{reads, sixty, read-early}
 use Rattle.correlation.specs.Meaning as Correlation
 use Rattle.correlation_laws.proofs.Cases.{marked}

@@ -1,7 +1,7 @@
 -- Demand 1, said once for every function: its number is that of the first row of the slip that applies, and a number other than 0
 -- comes with the empty values and the same lent bytes. Assumes nothing.
 use mathlib.Core.Path.{_≡_}
-use mathlib.Core.Bool.{Bool, true, false, cond, not, _&&_, _||_}
+use mathlib.Core.Bool.{Bool, false, cond, not, _&&_, _||_}
 use mathlib.Core.List.{List, [], _∷_}
 use Prim.Native.Nat.{ℕ}
 use lib.Dec.{eqb}

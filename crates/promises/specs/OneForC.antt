@@ -5,12 +5,11 @@ use mathlib.Core.List.{List}
 use Prim.Native.Nat.{ℕ}
 use lib.Ieee.{Float}
 use lib.IntN.{ℤ}
-use Rattle.scales.specs.Meaning.{scaleAt, Judged, given, Outcome, outcome, numbers, order, standsIn, Moment, dated, Wrote, written}
+use Rattle.scales.specs.Meaning.{scaleAt, Judged, given, Outcome, outcome, numbers, order, standsIn, Moment, dated}
 use Rattle.scales.specs.declared.Scale.{Scale}
 use Rattle.scales.specs.declared.Scale.the-variants as S
 use Rattle.scales.specs.declared.Tick.{Tick}
 use Rattle.decimal.specs.Meaning as Decimal
-use Rattle.changes.specs.Meaning as Changes
 use Rattle.leap_laws.proofs.Order.{any}
 use Rattle.correlation.specs.Meaning as Correlation
 use Rattle.fields.specs.Meaning.{valued}
@@ -39,7 +38,7 @@ use Rattle.rack.specs.declared.parts.VrkCucFields.{VrkCucFields}
 use Rattle.rack.specs.declared.parts.VrkProteusFields.{VrkProteusFields}
 use Rattle.rack.specs.declared.parts.VrkCryosatFields.{VrkCryosatFields}
 use Rattle.rack.specs.declared.parts.VrkSiralFields.{VrkSiralFields}
-use Rattle.promises.specs.Meaning.{Kind, Promise}
+use Rattle.promises.specs.Meaning.{Promise}
 use Rattle.promises.specs.First.{promised}
 use Rattle.promises.specs.One.{Writes, writes}
 

@@ -18,11 +18,11 @@ use crate::VrkCount;
 use crate::VrkHanded;
 use crate::VrkTime;
 use crate::hand;
+use crate::tick_out;
 use crate::time_out;
 use fields::Counting;
 use layouts::proteus::ProteusDated;
 use scales::Tick;
-use scales::Ticked;
 use scales::Written;
 
 #[repr(C)]
@@ -118,16 +118,7 @@ pub extern "C" fn vrk_obet_read(bytes: &[u8]) -> VrkCount
 pub extern "C" fn vrk_sbt_read(bytes: &[u8]) -> VrkCount
     ensures { λ r. ⌜ r ≡ sbtOut (sbtRead (now (bytes .entry))) ⌝ }
 {
-    match fields::sbt::read(bytes) {
-        Ticked::Tick(tick) => VrkCount {
-            refusal: 0,
-            count: tick.0 as u64,
-        },
-        Ticked::Refused(f) => VrkCount {
-            refusal: f.number(),
-            count: 0,
-        },
-    }
+    tick_out(fields::sbt::read(bytes))
 }
 
 // The layouts of a time, Proteus with its H3.

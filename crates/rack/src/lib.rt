@@ -188,7 +188,7 @@ fn correlate(c: VrkCorrelation) -> Correlation
     }
 }
 
-fn tick_out(t: Ticked) -> VrkCount
+pub(crate) fn tick_out(t: Ticked) -> VrkCount
     ensures { λ r. ⌜ r ≡ tickOut (tickSlip t) ⌝ }
 {
     match t {

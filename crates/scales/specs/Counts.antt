@@ -7,7 +7,7 @@ use native.Mathlib.Omega.{arith}
 use lib.IntN.{ℤ}
 use Rattle.axis.specs.Meaning.{placeOfDay}
 use Rattle.axis.specs.Shift.{place-top}
-use Rattle.scales.specs.Meaning.{bound, inSpan, answer, dated, Moment, numberOf, momentAt, at, no, slipOf, spanned, timeScale, timeCount, timeAt, slipTimed}
+use Rattle.scales.specs.Meaning.{bound, inSpan, answer, dated, Moment, momentAt, at, no, slipOf, spanned, timeScale, timeCount, timeAt, slipTimed}
 use Rattle.scales.specs.Place.{firstAt, lastAt, apart, out-early, out-late, out-over, in-span, spanOf, countOf, moment-of, count-inj, counted, spanned-in, spanned-out}
 use Rattle.scales.specs.Same.{some, refusals, time-is, time-scale, time-count}
 use Rattle.scales.specs.declared.Scale.{Scale}

@@ -4,11 +4,10 @@ use mathlib.Core.List.{List, [], _∷_}
 use Prim.Native.Nat.{ℕ}
 use native.Mathlib.Omega.{arith}
 use lib.ListN.{getD}
-use Rattle.scales.specs.Meaning.{codeOf, scaleAt, slip, Typed, at, no, slipOf, typedTai, typedUtc, typedGps, slipTai, slipUtc, slipGps, numberOf, timeScale, timeCount, timeAt, slipTimed, Wrote, wrote}
+use Rattle.scales.specs.Meaning.{codeOf, scaleAt, slip, Typed, at, no, slipOf, typedTai, typedUtc, typedGps, slipTai, slipUtc, slipGps, numberOf, timeScale, timeCount, timeAt, slipTimed, wrote}
 use Rattle.scales.specs.Place.{count-inj}
 use Rattle.scales.specs.declared.Scale.{Scale}
 use Rattle.scales.specs.declared.Scale.the-variants as S
-use Rattle.scales.specs.declared.Record.{Record}
 use Rattle.scales.specs.declared.Refusal.{Refusal}
 use Rattle.scales.specs.declared.Refusal.the-variants as R
 use Rattle.scales.specs.declared.Dated.{Dated}

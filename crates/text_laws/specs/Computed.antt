@@ -18,7 +18,7 @@ use Rattle.text_read.specs.Meaning.{digitOf, twoOf, fourOf, sixOf, names, lette
 use Rattle.text_write.specs.Meaning.{textOf, writeText}
 use Rattle.text_write.specs.declared.Form.{Form}
 use Rattle.text_write.specs.declared.Form.the-variants as F
-use Rattle.text_laws.specs.Back.{read-back}
+use Rattle.text_laws.specs.Back.{read-back, none-refused}
 use Rattle.text_laws.specs.Fresh.{published-again}
 
 abbrev pub reads : List ℕ → Slip
@@ -55,6 +55,9 @@ write-sixty = rw published
 pub sixty-back : let w = writes leapSecond F.PrefixedMicros in reads (take (w .length) (w .bytes)) ≡ dated S.Utc (answer (record { day = pos 6209; micro = 86400000000 }))
 sixty-back = read-back leapSecond F.PrefixedMicros publishedDays publishedOffsets publishedLast blank (lit≤ tt) (λ i. write-sixty i .number)
 
+pub sixty-not-refused : let w = writes leapSecond F.PrefixedMicros in reads (take (w .length) (w .bytes)) .number ≡ 0
+sixty-not-refused = none-refused leapSecond F.PrefixedMicros publishedDays publishedOffsets publishedLast blank (lit≤ tt) (λ i. write-sixty i .number)
+
 -- under a list that ends on that very day it was read the same, and a list that extends it keeps the answer
 pub read-early : readText sixty publishedDays publishedOffsets (pos 6209) ≡ dated S.Utc (answer (record { day = pos 6209; micro = 86400000000 }))
 unfolding readText isPrefixRight isBody scaleIn bodyIn hasPrefix prefixOf hasMarks stampIn microIn inLimits digitOf twoOf fourOf sixOf monthOf seek isNamed letter names isDate dayOfDate dayAfter firstDay lengthOf monthLength leap isStep
@@ -62,3 +65,10 @@ read-early = rw published-6209
 
 pub sixty-again : reads sixty ≡ readText sixty publishedDays publishedOffsets (pos 6209)
 sixty-again = published-again .read sixty (λ q. let z : _≡_ {A = ℕ} 0 9 = (λ i. sym read-early i .number) ∙ q in omega arith)
+
+pub write-early : writeText leapSecond F.PrefixedMicros publishedDays publishedOffsets (pos 6209) blank ≡ record { number = 0; length = 31; bytes = sixty }
+unfolding writeText textOf prefixOf letter names dateOfDay daysTo dayAfter walk firstDay lengthOf monthLength leap isStep
+write-early = rw published-6209
+
+pub write-again : writes leapSecond F.PrefixedMicros ≡ writeText leapSecond F.PrefixedMicros publishedDays publishedOffsets (pos 6209) blank
+write-again = published-again .write leapSecond F.PrefixedMicros blank (λ q. let z : _≡_ {A = ℕ} 0 9 = (λ i. sym write-early i .number) ∙ q in omega arith)

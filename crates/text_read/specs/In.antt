@@ -4,7 +4,7 @@ use mathlib.Core.Bool.{Bool, true, false, not}
 use mathlib.Core.List.{List}
 use Prim.Native.Nat.{ℕ}
 use lib.IntN.{ℤ, _+ℤ_}
-use Rattle.scales.specs.Meaning.{andThen, inSpan, Judged, given, gives, Outcome, refused, answer, outcome, Moment, dated, numberOf, momentAt, timeScale, timeCount}
+use Rattle.scales.specs.Meaning.{andThen, inSpan, Judged, given, gives, Outcome, refused, outcome, Moment, dated, numberOf, momentAt, timeScale, timeCount}
 use Rattle.scales.specs.Order.{onward, then-is}
 use Rattle.scales.specs.declared.Scale.{Scale}
 use Rattle.scales.specs.declared.Scale.the-variants as S

@@ -10,7 +10,7 @@ ghost use Rattle.text_read.specs.Meaning.{names, prefixOf, readText, rea
 ghost use Rattle.text_read.specs.In.{timeIn};
 ghost use Rattle.text_read.specs.Stage.{usesIn, lacksList, takenScale, taking, ParsesBody, ParsesText};
 use super::Parsed;
-use super::fields;
+use super::columns;
 use calendar::DayAnswer;
 use decimal::Taken;
 use scales::Dated;
@@ -91,17 +91,17 @@ fn parse_body(z: Scale, s: &[u8]) -> Parsed
     requires { ⌜ 20 ≤ length (now s) ⌝ }
     ensures { λ r. ⌜ ParsesBody z (now (s .entry)) r ⌝ }
 {
-    if !fields::has_marks(s) {
+    if !columns::has_marks(s) {
         return Parsed::Refused(Refusal::Field);
     }
-    let t = fields::stamp_in(s);
-    if !fields::in_limits(z, t) {
+    let t = columns::stamp_in(s);
+    if !columns::in_limits(z, t) {
         return Parsed::Refused(Refusal::Field);
     }
     let date = t.date;
     match calendar::day_of(date) {
         DayAnswer::Day(day) => {
-            let r = Record::new(z, day, fields::micro_of(t));
+            let r = Record::new(z, day, columns::micro_of(t));
             Parsed::Time(decimal::take(Handed::Record(r)))
         }
         DayAnswer::Refused(f) => {
@@ -117,14 +117,14 @@ pub(crate) fn parse(text: &[u8]) -> Parsed
     ensures { λ r. ⌜ ParsesText (now (text .entry)) r ⌝ }
 {
     let n = text.len();
-    if fields::is_either(n, 24, 31) {
-        let z = fields::prefix_scale(text);
-        if !fields::has_prefix(z, text) {
+    if columns::is_either(n, 24, 31) {
+        let z = columns::prefix_scale(text);
+        if !columns::has_prefix(z, text) {
             return Parsed::Refused(Refusal::Field);
         }
         return parse_body(z, &text[4..]);
     }
-    if fields::is_either(n, 20, 27) {
+    if columns::is_either(n, 20, 27) {
         return parse_body(Scale::Utc, text);
     }
     Parsed::Refused(Refusal::Length)

@@ -8,7 +8,7 @@ use scales::Dated;
 use scales::Refusal;
 use scales::Scale;
 
-mod fields;
+mod columns;
 pub mod inner;
 
 // The fields of a text; its microsecond is that of the second.

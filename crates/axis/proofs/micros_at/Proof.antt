@@ -1,5 +1,5 @@
 -- `axis::micros_at` meets its contract: `Cross`'s laws at its axis. Assumes nothing.
-use mathlib.Core.Path.{_≡_, refl, sym, ap, _∙_}
+use mathlib.Core.Path.{_≡_, ap, _∙_}
 use Prim.Native.Nat.{min}
 use borrow.Author.Needs.{needs}
 use native.Mathlib.Omega.{arith}

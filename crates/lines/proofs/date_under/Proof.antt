@@ -15,7 +15,6 @@ use Rattle.leap.specs.Meaning.{accepted}
 use Rattle.lines.specs.Meaning.{answerTo, doneUnder}
 use Rattle.lines.specs.Stage.{beforeNewline, Put}
 use Rattle.lines.specs.Lines.{before-within, Upto, begin, full, ended, another}
-use borrow.Author.Needs.{needs}
 use Rattle.lines.proofs.date_under.Statement.{statement}
 use Rattle.lines.proofs.date_under.Tie as tie
 

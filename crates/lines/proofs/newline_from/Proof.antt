@@ -1,10 +1,9 @@
 -- `lines::newline_from` meets its contract: no newline stands before place i. Assumes nothing.
 use Prim.Native.Nat.{_+_, _-_, _≤_}
-use mathlib.Core.Path.{_≡_, refl, sym, ap, _∙_}
+use mathlib.Core.Path.{_≡_, refl, sym, _∙_}
 use native.Mathlib.Omega.{arith}
 use denote.Ref.{now}
 use lib.ListN.{length, drop}
-use lib.Seq.{drop-length}
 use Rattle.lines.specs.Stage.{beforeNewline}
 use Rattle.lines.specs.Lines.{newline-here, newline-later, newline-none}
 use Rattle.lines.proofs.newline_from.Statement.{statement}

@@ -1,5 +1,5 @@
 -- `scales::counting::span_from` meets its contract: the callee read each day from its bits. Assumes nothing.
-use mathlib.Core.Path.{_≡_, ap, ap₂, _∙_}
+use mathlib.Core.Path.{ap, ap₂, _∙_}
 use Prim.Native.Nat.{ℕ}
 use mir.Facts.{toZ-ofZ}
 use borrow.Author.Needs.{needs}

@@ -1,11 +1,9 @@
 -- `text_read::inner::read_in` meets its contract: as the text was parsed. Assumes nothing.
-use mathlib.Core.Path.{_≡_, sym, ap, subst, _∙_}
-use mathlib.Core.Bool.{true}
+use mathlib.Core.Path.{ap, _∙_}
 use denote.Ref.{now}
 use lib.IntN.{ℤ}
 use mir.Facts.{toZ-ofZ}
 use Rattle.scales.specs.Meaning.{outcome, dated}
-use Rattle.leap.specs.Meaning.{accepted}
 use Rattle.text_read.specs.In.{timeIn, in-refused, in-parsed}
 use borrow.Author.Needs.{needs}
 use Rattle.text_read.proofs.inner.read_in.Statement.{statement}

@@ -1,12 +1,12 @@
--- `text_read::fields::month_of` meets its contract: what is left of the search from m on is the whole search. Assumes nothing.
+-- `text_read::columns::month_of` meets its contract: what is left of the search from m on is the whole search. Assumes nothing.
 use borrow.Author.Needs.{needs}
 use Prim.Native.Nat.{_-_, _≤_}
 use mathlib.Core.Path.{_≡_, _∙_, sym, refl}
 use native.Mathlib.Omega.{arith}
 use Rattle.text_read.specs.Meaning.{seek, monthOf}
 use Rattle.text_read.specs.Months.{seek-step}
-use Rattle.text_read.proofs.fields.month_of.Statement.{statement}
-use Rattle.text_read.proofs.fields.month_of.Tie as tie
+use Rattle.text_read.proofs.columns.month_of.Statement.{statement}
+use Rattle.text_read.proofs.columns.month_of.Tie as tie
 
 abbrev Inv-loop : tie.InvT-loop
 Inv-loop a b c t m₀ m = (1 ≤ m) × (m ≤ 13) × (seek (13 - m) m a b c ≡ monthOf a b c)

@@ -1,9 +1,9 @@
--- `text_read::fields::micro_in` meets its contract: each return rewrites with the tests that led there. Assumes nothing.
+-- `text_read::columns::micro_in` meets its contract: each return rewrites with the tests that led there. Assumes nothing.
 use borrow.Author.Tests.{eq-eqb, ne-eqb, lt-ltb, le-ltb}
 use Rattle.text_read.specs.Meaning.{microIn}
 use borrow.Author.Needs.{needs}
-use Rattle.text_read.proofs.fields.micro_in.Statement.{statement}
-use Rattle.text_read.proofs.fields.micro_in.Tie as tie
+use Rattle.text_read.proofs.columns.micro_in.Statement.{statement}
+use Rattle.text_read.proofs.columns.micro_in.Tie as tie
 
 returns : tie.Need-returns
 unfolding microIn

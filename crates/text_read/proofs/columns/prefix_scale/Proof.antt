@@ -1,8 +1,8 @@
--- `text_read::fields::prefix_scale` meets its contract: each return rewrites with the tests that led there. Assumes nothing.
+-- `text_read::columns::prefix_scale` meets its contract: each return rewrites with the tests that led there. Assumes nothing.
 use mathlib.Core.Path.{sym, _∙_}
 use borrow.Author.Needs.{needs}
-use Rattle.text_read.proofs.fields.prefix_scale.Statement.{statement}
-use Rattle.text_read.proofs.fields.prefix_scale.Tie as tie
+use Rattle.text_read.proofs.columns.prefix_scale.Statement.{statement}
+use Rattle.text_read.proofs.columns.prefix_scale.Tie as tie
 
 returns : tie.Need-returns
 returns c = rw (sym (c .before .has-prefix .ensures) ∙ c .if1 .taken)

@@ -1,8 +1,8 @@
--- `text_read::fields::stamp_in` meets its contract: each field is what its call ensures. Assumes nothing.
+-- `text_read::columns::stamp_in` meets its contract: each field is what its call ensures. Assumes nothing.
 use Rattle.text_read.specs.Meaning.{stampIn}
 use borrow.Author.Needs.{needs}
-use Rattle.text_read.proofs.fields.stamp_in.Statement.{statement}
-use Rattle.text_read.proofs.fields.stamp_in.Tie as tie
+use Rattle.text_read.proofs.columns.stamp_in.Statement.{statement}
+use Rattle.text_read.proofs.columns.stamp_in.Tie as tie
 
 returns : tie.Need-returns
 unfolding stampIn

@@ -1,10 +1,10 @@
--- `text_read::fields::six` meets its contract: each return rewrites with the tests that led there. Assumes nothing.
+-- `text_read::columns::six` meets its contract: each return rewrites with the tests that led there. Assumes nothing.
 use borrow.Author.Tests.{lt-ltb, le-ltb}
 use native.Mathlib.Omega.{arith}
 use Rattle.text_read.specs.Meaning.{fourOf, twoOf, sixOf}
 use borrow.Author.Needs.{needs}
-use Rattle.text_read.proofs.fields.six.Statement.{statement}
-use Rattle.text_read.proofs.fields.six.Tie as tie
+use Rattle.text_read.proofs.columns.six.Statement.{statement}
+use Rattle.text_read.proofs.columns.six.Tie as tie
 
 returns : tie.Need-returns
 unfolding sixOf

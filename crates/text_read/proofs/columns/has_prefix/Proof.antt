@@ -1,10 +1,10 @@
--- `text_read::fields::has_prefix` meets its contract: each return rewrites with the tests that led there. Assumes nothing.
+-- `text_read::columns::has_prefix` meets its contract: each return rewrites with the tests that led there. Assumes nothing.
 use mathlib.Core.Path.{sym}
 use borrow.Author.Tests.{eq-eqb, ne-eqb}
 use Rattle.text_read.specs.Meaning.{hasPrefix}
 use borrow.Author.Needs.{needs}
-use Rattle.text_read.proofs.fields.has_prefix.Statement.{statement}
-use Rattle.text_read.proofs.fields.has_prefix.Tie as tie
+use Rattle.text_read.proofs.columns.has_prefix.Statement.{statement}
+use Rattle.text_read.proofs.columns.has_prefix.Tie as tie
 
 returns : tie.Need-returns
 unfolding hasPrefix

@@ -1,9 +1,9 @@
--- `text_read::fields::digit` meets its contract: each return rewrites with the tests that led there. Assumes nothing.
+-- `text_read::columns::digit` meets its contract: each return rewrites with the tests that led there. Assumes nothing.
 use borrow.Author.Tests.{le-leb, lt-leb}
 use Rattle.text_read.specs.Meaning.{digitOf}
 use borrow.Author.Needs.{needs}
-use Rattle.text_read.proofs.fields.digit.Statement.{statement}
-use Rattle.text_read.proofs.fields.digit.Tie as tie
+use Rattle.text_read.proofs.columns.digit.Statement.{statement}
+use Rattle.text_read.proofs.columns.digit.Tie as tie
 
 returns : tie.Need-returns
 unfolding digitOf

@@ -1,7 +1,7 @@
--- `text_read::fields::is_either` meets its contract: each return rewrites with the tests that led there. Assumes nothing.
+-- `text_read::columns::is_either` meets its contract: each return rewrites with the tests that led there. Assumes nothing.
 use borrow.Author.Tests.{eq-eqb, ne-eqb}
-use Rattle.text_read.proofs.fields.is_either.Statement.{statement}
-use Rattle.text_read.proofs.fields.is_either.Tie as tie
+use Rattle.text_read.proofs.columns.is_either.Statement.{statement}
+use Rattle.text_read.proofs.columns.is_either.Tie as tie
 
 returns : tie.Need-returns
 returns c = rw (eq-eqb _ _ (c .if1 .taken))

@@ -1,11 +1,11 @@
--- `text_read::fields::is_named` meets its contract: each return rewrites with the tests that led there. Assumes nothing.
+-- `text_read::columns::is_named` meets its contract: each return rewrites with the tests that led there. Assumes nothing.
 use native.Mathlib.Nat.{add-zero}
 use borrow.Author.Tests.{eq-eqb, ne-eqb}
 use Rattle.text_read.specs.Meaning.{letter, isNamed}
 use mathlib.Core.Path.{sym}
 use borrow.Author.Needs.{needs}
-use Rattle.text_read.proofs.fields.is_named.Statement.{statement}
-use Rattle.text_read.proofs.fields.is_named.Tie as tie
+use Rattle.text_read.proofs.columns.is_named.Statement.{statement}
+use Rattle.text_read.proofs.columns.is_named.Tie as tie
 
 returns : tie.Need-returns
 unfolding isNamed letter

@@ -1,10 +1,10 @@
--- `text_read::fields::in_limits` meets its contract: each return rewrites with the tests that led there. Assumes nothing.
+-- `text_read::columns::in_limits` meets its contract: each return rewrites with the tests that led there. Assumes nothing.
 use borrow.Author.Tests.{eq-eqb, ne-eqb, le-leb, lt-leb, lt-ltb, le-ltb}
 use native.Mathlib.Omega.{arith}
 use Rattle.text_read.specs.Meaning.{inLimits}
 use borrow.Author.Needs.{needs}
-use Rattle.text_read.proofs.fields.in_limits.Statement.{statement}
-use Rattle.text_read.proofs.fields.in_limits.Tie as tie
+use Rattle.text_read.proofs.columns.in_limits.Statement.{statement}
+use Rattle.text_read.proofs.columns.in_limits.Tie as tie
 
 returns : tie.Need-returns
 unfolding inLimits

@@ -1,10 +1,10 @@
--- `text_read::fields::four` meets its contract: each return rewrites with the tests that led there. Assumes nothing.
+-- `text_read::columns::four` meets its contract: each return rewrites with the tests that led there. Assumes nothing.
 use borrow.Author.Tests.{lt-ltb, le-ltb}
 use native.Mathlib.Omega.{arith}
 use Rattle.text_read.specs.Meaning.{twoOf, fourOf}
 use borrow.Author.Needs.{needs}
-use Rattle.text_read.proofs.fields.four.Statement.{statement}
-use Rattle.text_read.proofs.fields.four.Tie as tie
+use Rattle.text_read.proofs.columns.four.Statement.{statement}
+use Rattle.text_read.proofs.columns.four.Tie as tie
 
 returns : tie.Need-returns
 unfolding fourOf

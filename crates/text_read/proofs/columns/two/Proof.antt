@@ -1,10 +1,10 @@
--- `text_read::fields::two` meets its contract: each return rewrites with the tests that led there. Assumes nothing.
+-- `text_read::columns::two` meets its contract: each return rewrites with the tests that led there. Assumes nothing.
 use borrow.Author.Tests.{lt-ltb, le-ltb}
 use native.Mathlib.Omega.{arith}
 use Rattle.text_read.specs.Meaning.{digitOf, twoOf}
 use borrow.Author.Needs.{needs}
-use Rattle.text_read.proofs.fields.two.Statement.{statement}
-use Rattle.text_read.proofs.fields.two.Tie as tie
+use Rattle.text_read.proofs.columns.two.Statement.{statement}
+use Rattle.text_read.proofs.columns.two.Tie as tie
 
 returns : tie.Need-returns
 unfolding twoOf

@@ -1,9 +1,9 @@
--- `text_read::fields::has_marks` meets its contract: each return rewrites with the tests that led there. Assumes nothing.
+-- `text_read::columns::has_marks` meets its contract: each return rewrites with the tests that led there. Assumes nothing.
 use borrow.Author.Tests.{eq-eqb, ne-eqb}
 use Rattle.text_read.specs.Meaning.{hasMarks}
 use borrow.Author.Needs.{needs}
-use Rattle.text_read.proofs.fields.has_marks.Statement.{statement}
-use Rattle.text_read.proofs.fields.has_marks.Tie as tie
+use Rattle.text_read.proofs.columns.has_marks.Statement.{statement}
+use Rattle.text_read.proofs.columns.has_marks.Tie as tie
 
 returns : tie.Need-returns
 unfolding hasMarks
