@@ -1,7 +1,7 @@
 -- The first row that applies, of any chain of tests whose numbers stand in the slip's order. Assumes nothing.
 use mathlib.Core.Path.{_≡_, refl, sym, ap, ap₂, _∙_}
 use mathlib.Core.Bool.{Bool, true, false, cond, not, _&&_, _||_}
-use mathlib.Core.List.{List, [], _∷_, _++_}
+use mathlib.Core.List.{List, [], _∷_, _++_, map}
 use Prim.Native.Nat.{ℕ}
 use native.Mathlib.Omega.{arith}
 use lib.Dec.{eqb}
@@ -9,7 +9,7 @@ use borrow.Author.Tests.{eqb-true, eq-eqb, ne-eqb}
 use Rattle.scales.specs.Meaning.{Judged, given, gives, Outcome, refused, answer, outcome, numbers, order, standsIn}
 use Rattle.scales.specs.Place.{and-both, and-false}
 use Rattle.leap.specs.Walk.{or-true}
-use Rattle.promises.specs.Meaning.{applies, firstOf, Kind, Promise}
+use Rattle.promises.specs.Meaning.{applies, rows, firstOf, Kind, Promise}
 
 abbrev pub member : ℕ → List ℕ → Bool
 member n [] = false
@@ -144,3 +144,15 @@ module _ (p : ℕ → Bool) where
           → (firstOf (before ++ (n ∷ after)) p ≡ n → (none p before ≡ true) × (p n ≡ true)) → (not (p b) && none p before ≡ true) × (p n ≡ true)
       go true q e m ih = absurd (let y : _≡_ {A = ℕ} 0 1 = ap bit (sym m ∙ ap (λ (i : ℕ). member i (before ++ (n ∷ after))) e ∙ member-later before after n) in omega arith)
       go false q e m ih = let w = ih e in (rw (q, w .0), w .1)
+
+-- ---- the rows by their names, in the slip's order
+pub rows-are : {A : Type 0} (j : Judged A) → map (applies j) order ≡ rows j
+rows-are j = refl
+
+-- a promised number is n exactly when row n applies and none before it in the order does
+pub exactly : {A R : Type 0} {hand : Outcome A → R} {number : R → ℕ} {r : R} {j : Judged A} → Promise hand number r j → (before after : List ℕ) (n : ℕ) → order ≡ before ++ (n ∷ after)
+    → (number r ≡ n → (none (applies j) before ≡ true) × (applies j n ≡ true)) × (none (applies j) before ≡ true → applies j n ≡ true → number r ≡ n)
+exactly {A} {R} {hand} {number} {r} {j} p before after n e = (
+  λ q. first-then (applies j) before after n (sym (ap clear e) ∙ order-clear) (sym (ap (λ (os : List ℕ). firstOf os (applies j)) e) ∙ sym (p .first) ∙ q),
+  λ w q. p .first ∙ ap (λ (os : List ℕ). firstOf os (applies j)) e ∙ then-first (applies j) before after n w q,
+)

@@ -20,6 +20,8 @@ use Rattle.text_laws.specs.Computed.{reads, sixty, read-early}
 use Rattle.correlation.specs.Meaning as Correlation
 use Rattle.correlation_laws.proofs.Cases.{marked}
 use Rattle.correlation_laws.proofs.Wider.{widened}
+use Rattle.promises.specs.Meaning.{lengthIsNone}
+use Rattle.promises.specs.First.{exactly}
 use Rattle.promises.specs.One.{cuc-read, cuc-write}
 use Rattle.promises.specs.Two.{cuc-time, proteus-time, cryosat-time, siral-time}
 use Rattle.promises.specs.Three.{FreshPaper, old-dates-stay}
@@ -28,6 +30,10 @@ use Rattle.promises.specs.Three.{FreshPaper, old-dates-stay}
 pub refusal-instance : Cuc.read [] ≡ record { number = 1; scale = S.Gps; day = pos 0; micro = 0 }
 unfolding Cuc.read
 refusal-instance = cuc-read [] .empty (λ q. omega arith)
+
+pub exactly-instance : lengthIsNone (Cuc.reading []) ≡ true
+unfolding Cuc.read
+exactly-instance = exactly (cuc-read []) [] (2 ∷ 3 ∷ 4 ∷ 5 ∷ 6 ∷ 7 ∷ 8 ∷ 9 ∷ 10 ∷ 11 ∷ 12 ∷ 13 ∷ []) 1 refl .0 refl .1
 
 pub kept-instance : Cuc.write (H.Record (recordOf S.Tai (pos 0) 0)) (9 ∷ []) ≡ record { number = 12; length = 0; bytes = 9 ∷ [] }
 unfolding Cuc.write

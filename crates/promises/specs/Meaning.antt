@@ -66,6 +66,12 @@ module _ {A : Type 0} (j : Judged A) where
   abbrev pub outputShorter : Bool
   outputShorter = applies j 13
 
+  -- the table, row by row
+  abbrev pub rows : List Bool
+  rows =
+      lengthIsNone ∷ markerWrong ∷ fieldOver ∷ decimalNotFinite ∷ listNotAccepted ∷ correlationNotAccepted ∷ outsideSpan ∷ notInForce ∷ listExpired ∷ secondLacking
+      ∷ resultOutside ∷ noImage ∷ outputShorter ∷ []
+
 -- ---- the first of some numbers that applies, and 0 where none does
 abbrev pub firstOf : List ℕ → (ℕ → Bool) → ℕ
 firstOf [] p = 0
