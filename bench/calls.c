@@ -85,7 +85,9 @@ static const char *const who[CONTENDERS] = {"desk", "plain", "listed", "erfa", "
 
 /* Answers in words: which of a struct's halves count, the rest being padding. */
 enum { FLAG, TIME, NUMBER, FIELDS_2, FIELDS_3, FIELDS_4, PROTEUS };
-static const size_t halves[] = {[FLAG] = 1, [TIME] = 6, [NUMBER] = 4, [FIELDS_2] = 3, [FIELDS_3] = 4, [FIELDS_4] = 5, [PROTEUS] = 7};
+static const size_t halves[] = {
+    [FLAG] = 1, [TIME] = 6, [NUMBER] = 4, [FIELDS_2] = 3, [FIELDS_3] = 4, [FIELDS_4] = 5, [PROTEUS] = 7,
+};
 
 struct row {
     const char *name;
@@ -178,8 +180,8 @@ static int compared(const struct row *row, uint32_t *numbers) {
             if (c > PLAIN && is_refused(row, expected[i])) continue;
             if (c == DATE && expected[i][2] >= UINT64_C(86400000000)) continue;
             if (same(row, answers[i], expected[i]) && memcmp(lent[i], expected_lent[i], LENT) == 0) continue;
-            printf("differ: %s, input %d: desk %lx %lx %lx, %s %lx %lx %lx\n", row->name, (int)i, expected[i][0], expected[i][1],
-                   expected[i][2], who[c], answers[i][0], answers[i][1], answers[i][2]);
+            printf("answer or lent bytes differ: %s, input %d: desk %lx %lx %lx, %s %lx %lx %lx\n", row->name, (int)i,
+                   expected[i][0], expected[i][1], expected[i][2], who[c], answers[i][0], answers[i][1], answers[i][2]);
             return -1;
         }
     }

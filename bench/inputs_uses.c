@@ -74,7 +74,7 @@ void make_sbt_tick(struct input *x, size_t i, size_t steps) {
 /* ---- lists and changes */
 
 void make_list(struct input *x, size_t i, size_t steps) {
-    x->list = refused(i) ? bad_list(refused(i), steps) : listed(steps);
+    x->list = refused(i) && steps == 0 ? bad_list(refused(i), steps) : listed(steps);
 }
 
 /* Of the UTC times one in sixteen is within a second 60. A time that is refused: in itself, expired, in a second that its day

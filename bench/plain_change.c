@@ -9,6 +9,18 @@ struct list {
     int64_t last;
 };
 
+/* First days of the 48 months of four years, counted from 1 January 1972, and of the next. */
+#define YEAR(n, leap)                                                                                                     \
+    n, n + 31, n + 59 + leap, n + 90 + leap, n + 120 + leap, n + 151 + leap, n + 181 + leap, n + 212 + leap, n + 243 + leap, \
+        n + 273 + leap, n + 304 + leap, n + 334 + leap
+static const uint16_t firsts[49] = {YEAR(0, 1), YEAR(366, 0), YEAR(731, 0), YEAR(1096, 0), 1461};
+
+/* A month has 487/16 days in the mean of four years, and no first of a month is far from that. */
+static inline int is_first(int64_t day) {
+    unsigned n = (unsigned)(day - FIRST_DAY) % 1461;
+    return firsts[(n * 16 + 26) / 487] == n;
+}
+
 static int is_accepted(const int64_t *days, size_t day_count, const uint64_t *offsets, size_t offset_count, int64_t last) {
     if (day_count != offset_count || day_count < 1 || day_count > MOST_STEPS) return 0;
     if (last < FIRST_DAY || last > LAST_DAY) return 0;
@@ -16,7 +28,7 @@ static int is_accepted(const int64_t *days, size_t day_count, const uint64_t *of
     for (size_t i = 1; i < day_count; i++) {
         if (days[i] <= days[i - 1] || days[i] > last + 1) return 0;
         if (offsets[i] != FIRST_OFFSET + i) return 0;
-        if (date_of((int)days[i]).day != 1) return 0;
+        if (!is_first(days[i])) return 0;
     }
     return 1;
 }

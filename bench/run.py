@@ -51,7 +51,7 @@ def other(name, compiler, source, links):
 
 
 def build():
-    """The program, the words that run it, and the contenders that are not there."""
+    """The words that run the program, and the contenders that are not there."""
     os.makedirs(ROOM, exist_ok=True)
     call("tools/build", stdout=subprocess.DEVNULL)
     objects = [compiled(part, f"bench/{part}.c") for part in PARTS]
@@ -69,11 +69,11 @@ def build():
     program = os.path.join(ROOM, "calls")
     if not shared:
         call("tools/x86-64-cc", program, "bench/calls.c", *objects, ARCHIVE)
-        return program, [RUN, program], absent
+        return [RUN, program], absent
     # These bring the machine's own C library with them, so that one is linked and run for all.
     objects.append(compiled("calls", "bench/calls.c", " ".join(flags)))
     call("g++" if shutil.which("g++") else "gcc", "-o", program, *objects, ARCHIVE, *shared, "-Wl,-rpath," + ROOM)
-    return program, [program], absent
+    return [program], absent
 
 
 def measured(words, repeats):
@@ -100,21 +100,29 @@ def count_instructions(words, rows):
         return
     count = emulated_count if EMULATED else valgrind_count
     for (row, steps), told in rows.items():
-        def of(who, calls):
-            return count([*words, "count", row, steps, who, str(COUNTED), str(calls)], os.devnull)
+        counts = {}
+        for who, calls in [("plain", 0), *((who, COUNTED) for who in told["ns"])]:
+            counts[who, calls] = count([*words, "count", row, steps, who, str(COUNTED), str(calls)], os.devnull)
+        start = counts["plain", 0]
+        told["instructions"] = {who: (counts[who, COUNTED] - start) / COUNTED for who in told["ns"]}
 
-        start = of("plain", 0)
-        told["instructions"] = {who: (of(who, COUNTED) - start) / COUNTED for who in told["ns"]}
+
+def told_ratio(figures):
+    return f"{figures['desk'] / figures['plain']:.2f}" if "desk" in figures else ""
 
 
 def cells(told):
+    """Nanoseconds and instructions of both, and their ratios."""
     nanos, counts = told["ns"], told.get("instructions", {})
-    for who in SAME:
-        yield f"{nanos[who]:.1f}" if who in nanos else ""
-    yield f"{nanos['desk'] / nanos['plain']:.2f}" if "desk" in nanos else ""
-    for who in SAME:
-        yield f"{counts[who]:.0f}" if who in counts else ""
-    yield f"{counts['desk'] / counts['plain']:.2f}" if "desk" in counts else ""
+    yield from (f"{nanos[who]:.1f}" if who in nanos else "" for who in SAME)
+    yield told_ratio(nanos)
+    yield from (f"{counts[who]:.0f}" if who in counts else "" for who in SAME)
+    yield told_ratio(counts)
+
+
+def refusals(told):
+    """How many inputs of the row are refused, and the numbers that were given."""
+    return f"{told['refused']}: " + " ".join(map(str, told["numbers"])) if told["numbers"] else str(told["refused"])
 
 
 def table(head, lines):
@@ -128,39 +136,52 @@ def table(head, lines):
 MEASURES = ["ns", "plain C ns", "ratio", "instructions", "plain C instructions", "ratio"]
 
 
-def shown(rows, absent):
-    mixed = [told for (_, steps), told in rows.items() if steps == "0"]
+def show_all(rows):
+    """Every function, and its commonest uses apart."""
     table(
-        ["call", *MEASURES, "refused"],
-        ([told["name"], *cells(told), str(told["refused"]) + "".join(f" {n}" for n in told["numbers"]).replace(" ", ": ", 1)]
-         for told in mixed),
+        ["call", *MEASURES, "refused, with"],
+        ([told["name"], *cells(told), refusals(told)] for (_, steps), told in rows.items() if steps == "0"),
     )
-    print("Contenders that do less, beside the same inputs; they are held to the answers, not to the refusals:\n")
-    less = [
+
+
+def show_less(rows, absent):
+    """The contenders that do less than the library."""
+    lines = [
         [told["name"], LESS[who], f"{nanos:.1f}", f"{nanos / told['ns']['plain']:.2f}",
          f"{told['instructions'][who]:.0f}" if "instructions" in told else ""]
-        for told in mixed for who, nanos in told["ns"].items() if who in LESS
+        for (_, steps), told in rows.items() if steps == "0" for who, nanos in told["ns"].items() if who in LESS
     ]
-    table(["call", "contender", "ns", "of plain C's", "instructions"], less + [["", LESS[who], why, "", ""] for who, why in absent.items()])
-    print("Growth with the number of steps:\n")
+    lines += [["", LESS[who], why, "", ""] for who, why in absent.items()]
+    table(["call", "contender", "ns", "of plain C's", "instructions"], lines)
+
+
+def show_growth(rows):
+    """Acceptance apart, and changes with it and less it."""
     growing = [(steps, told) for (_, steps), told in rows.items() if steps != "0"]
-    table(
-        ["call", "steps", *MEASURES, "plain C, list accepted before: ns", "instructions"],
-        ([told["name"], steps, *cells(told), f"{told['ns']['listed']:.1f}" if "listed" in told["ns"] else "",
-          f"{told['instructions']['listed']:.0f}" if "listed" in told.get("instructions", {}) else ""] for steps, told in growing),
-    )
+    accepted = {steps: told["ns"] for steps, told in growing if told["name"] == "list_accepted"}
+    lines = []
+    for steps, told in growing:
+        nanos, left = told["ns"], ["", "", ""]
+        if "listed" in nanos:
+            left = [f"{nanos[who] - accepted[steps][who]:.1f}" for who in SAME] + [f"{nanos['listed']:.1f}"]
+        lines.append([told["name"], steps, *cells(told), *left])
+    table(["call", "steps", *MEASURES, "ns less acceptance", "plain C ns less acceptance", "plain C ns, accepted before"], lines)
 
 
 def main():
     repeats = int(sys.argv[1]) if len(sys.argv) > 1 else REPEATS
-    _, words, absent = build()
+    words, absent = build()
     rows = measured(words, repeats)
     count_instructions(words, rows)
     inputs = max(told["inputs"] for told in rows.values())
     print(f"On {platform.machine()}" + (", all contenders under the same emulator for x86-64" if EMULATED else "") + ".")
     print(f"{inputs} inputs a row; all answers of all contenders compared, and equal; best of {repeats}, in turn.")
     print("A call's loop is in every figure; the row 'nothing' is the loop with a function that does nothing.\n")
-    shown(rows, absent)
+    show_all(rows)
+    print("Contenders that do less, over the same inputs; they are held to the answers, not to the refusals:\n")
+    show_less(rows, absent)
+    print("Growth with the number of steps, every list accepted and every time answered:\n")
+    show_growth(rows)
 
 
 if __name__ == "__main__":
