@@ -36,7 +36,7 @@ def compiled(name, source, flags=""):
 
 
 def other(name, compiler, source, links):
-    """The object file of another library's contender and what it links, or why there is none."""
+    """The shared library of another library's contender, or why there is none."""
     if EMULATED:
         return None, "not installed for x86-64"
     if shutil.which(compiler) is None:
