@@ -6,6 +6,7 @@ date library. It builds what it needs.
 
 import os
 import platform
+import re
 import shutil
 import subprocess
 import sys
@@ -94,6 +95,13 @@ def measured(words, repeats):
     return rows
 
 
+def without_row(rows):
+    """The functions of the header that no row measures."""
+    with open(os.path.join(ROOT, "include/vrikshonem.h"), encoding="utf-8") as file:
+        functions = set(re.findall(r"^[a-z]\w* vrk_(\w+)\(", file.read(), re.M))
+    return sorted(functions - {told["name"].split()[0] for told in rows.values()})
+
+
 def count_instructions(words, rows):
     """Instructions a call, with the loop around it and without all else, where they can be counted."""
     if not EMULATED and shutil.which("valgrind") is None:
@@ -172,6 +180,8 @@ def main():
     repeats = int(sys.argv[1]) if len(sys.argv) > 1 else REPEATS
     words, absent = build()
     rows = measured(words, repeats)
+    if missing := without_row(rows):
+        sys.exit("bench/run.py: no row for " + ", ".join(missing))
     count_instructions(words, rows)
     inputs = max(told["inputs"] for told in rows.values())
     print(f"On {platform.machine()}" + (", all contenders under the same emulator for x86-64" if EMULATED else "") + ".")
