@@ -1,7 +1,8 @@
 /* The program of text lines in plain C, to measure desk against: the same lines, the same refusals, the same blocks. The published
  * list stands in constant arrays and is not tested, as in desk. */
+#include "plain_dates.h"
+
 #include <stddef.h>
-#include <stdint.h>
 
 extern long read(int, void *, size_t);
 extern long write(int, const void *, size_t);
@@ -11,72 +12,15 @@ extern void perror(const char *);
 enum { BLOCK = 65536, LINE = 32 };
 enum { LENGTH = 1, FIELD = 3, SPAN = 7, EXPIRED = 9, LACKING = 10, RESULT = 11 };
 enum { UTC, TAI, GPS };
-enum { STEPS = 28, FIRST = -10227, FIRST_GPS = -7300, LAST = 36524, LAST_LISTED = 9131 };
-
-#define SECOND INT64_C(1000000)
-#define DAY (86400 * SECOND)
+enum { STEPS = 28, LAST_LISTED = 9131 };
 
 /* TAI minus UTC is 10 from the first step on, and one more from each further one. */
 static const int32_t step_days[STEPS] = {
     -10227, -10045, -9861, -9496, -9131, -8766, -8400, -8035, -7670, -7305, -6758, -6393, -6028, -5297,
     -4383,  -3652,  -3287, -2740, -2375, -2010, -1461, -914,  -365,  2192,  3288,  4565,  5660,  6210,
 };
-static const char month_names[] = "JANFEBMARAPRMAYJUNJULAUGSEPOCTNOVDEC";
-/* Days of a common year before each month. */
-static const uint16_t before[13] = {0, 31, 59, 90, 120, 151, 181, 212, 243, 273, 304, 334, 365};
-
-struct date { unsigned year, month, day; };
 
 /* ---- reading */
-
-/* Two digits, or a number over every limit. */
-static unsigned two(const unsigned char *s) {
-    unsigned a = s[0] - (unsigned)'0', b = s[1] - (unsigned)'0';
-    return a < 10 && b < 10 ? a * 10 + b : 1000000;
-}
-
-#define LETTERS(a, b, c) ((unsigned)(a) << 16 | (unsigned)(b) << 8 | (unsigned)(c))
-
-/* 1 to 12, or 0. */
-static unsigned month_of(const unsigned char *s) {
-    switch (LETTERS(s[0], s[1], s[2])) {
-    case LETTERS('J', 'A', 'N'): return 1;
-    case LETTERS('F', 'E', 'B'): return 2;
-    case LETTERS('M', 'A', 'R'): return 3;
-    case LETTERS('A', 'P', 'R'): return 4;
-    case LETTERS('M', 'A', 'Y'): return 5;
-    case LETTERS('J', 'U', 'N'): return 6;
-    case LETTERS('J', 'U', 'L'): return 7;
-    case LETTERS('A', 'U', 'G'): return 8;
-    case LETTERS('S', 'E', 'P'): return 9;
-    case LETTERS('O', 'C', 'T'): return 10;
-    case LETTERS('N', 'O', 'V'): return 11;
-    case LETTERS('D', 'E', 'C'): return 12;
-    }
-    return 0;
-}
-
-static int is_leap(unsigned year) { return year % 4 == 0 && (year % 100 != 0 || year % 400 == 0); }
-
-static int is_date(struct date d) {
-    if (d.month == 0 || d.day == 0) return 0;
-    return d.day <= (unsigned)(before[d.month] - before[d.month - 1]) + (d.month == 2 && is_leap(d.year));
-}
-
-/* From 1972 to 2099 every fourth year is a leap year. */
-static int day_of(struct date d) {
-    unsigned years = d.year - 1972;
-    return FIRST + (int)(years * 365 + (years + 3) / 4 + before[d.month - 1] + (d.month > 2 && is_leap(d.year)) + d.day - 1);
-}
-
-static struct date date_of(int day) {
-    unsigned n = (unsigned)(day - FIRST), of_four = n % 1461, year = of_four < 366 ? 0 : (of_four - 1) / 365;
-    /* The month, or the one before it: no month has more than 31 days. */
-    unsigned left = of_four - (year ? year * 365 + 1 : 0), leap = year == 0, month = left / 32 + 1;
-    if (left >= before[month] + (month > 1 ? leap : 0)) month++;
-    struct date d = {1972 + n / 1461 * 4 + year, month, left - before[month - 1] - (month > 2 ? leap : 0) + 1};
-    return d;
-}
 
 /* TAI minus UTC of a UTC time in seconds, or a refusal below zero. */
 static int offset_of(int day, int64_t micro) {
@@ -113,23 +57,18 @@ static int dated(const unsigned char *s, size_t n, int *tai_day, int64_t *tai_mi
     if (!is_date(d)) return FIELD;
     if (d.year < 1972 || d.year > 2099) return SPAN;
     int day = day_of(d), offset = 0;
-    if (scale == GPS && day < FIRST_GPS) return SPAN;
+    if (scale == GPS && day < FIRST_GPS_DAY) return SPAN;
     int64_t micro = ((hour * 60 + minute) * 60 + second) * SECOND + part;
     if (scale == UTC && (offset = offset_of(day, micro)) < 0) return -offset;
     if (scale == GPS) offset = 19;
     micro += offset * SECOND;
     if (micro >= DAY) micro -= DAY, day++;
-    if (day > LAST) return RESULT;
+    if (day > LAST_DAY) return RESULT;
     *tai_day = day, *tai_micro = micro;
     return 0;
 }
 
 /* ---- printing */
-
-static void put_two(unsigned char *out, unsigned n) {
-    out[0] = (unsigned char)('0' + n / 10);
-    out[1] = (unsigned char)('0' + n % 10);
-}
 
 static size_t print_time(unsigned char *out, int day, int64_t micro) {
     struct date d = date_of(day);

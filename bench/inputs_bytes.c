@@ -1,0 +1,141 @@
+/* The inputs of the byte layouts: bytes by chance within the fields' limits, and times that the layout holds. */
+#include "inputs.h"
+
+static void put(uint8_t *b, size_t n, uint64_t value) {
+    while (n-- > 0) b[n] = (uint8_t)value, value >>= 8;
+}
+
+/* ---- readers: a wrong length, and whatever else the layout refuses */
+
+static void wrong_length(struct input *x, size_t bad) { x->count = bad % 2 ? x->count - 1 : x->count + 1; }
+
+void make_cuc_read(struct input *x, size_t i, size_t steps) {
+    (void)steps;
+    size_t bad = refused(i);
+    x->count = 6;
+    put(x->bytes, 4, bad % 2 ? 3786480000 + below(508487296) : below(3786480000));
+    put(x->bytes + 4, 2, below(65536));
+    if (bad && bad % 2 == 0) wrong_length(x, bad / 2);
+}
+
+void make_goce_read(struct input *x, size_t i, size_t steps) {
+    (void)steps;
+    x->count = 6;
+    put(x->bytes, 6, below(UINT64_C(1) << 48));
+    if (refused(i)) wrong_length(x, refused(i));
+}
+
+void make_obet_read(struct input *x, size_t i, size_t steps) {
+    (void)steps;
+    size_t bad = refused(i);
+    x->count = 8;
+    put(x->bytes, 8, below(UINT64_C(1) << 56));
+    x->bytes[0] = bad % 2 ? 0x67 : 0x66;
+    if (bad && bad % 2 == 0) wrong_length(x, bad / 2);
+}
+
+void make_proteus_read(struct input *x, size_t i, size_t steps) {
+    (void)steps;
+    size_t bad = refused(i);
+    x->count = 8;
+    put(x->bytes, 2, below(4096) << 4 | below(2) | (bad % 3 == 1 ? 2 : 0));
+    put(x->bytes + 2, 4, bad % 3 == 2 ? 604800 : below(604800));
+    put(x->bytes + 6, 2, below(65536));
+    if (bad && bad % 3 == 0) wrong_length(x, bad / 3);
+}
+
+static void day_bytes(struct input *x, size_t bad) {
+    put(x->bytes, 2, bad % 4 == 1 ? 36525 + below(29000) : below(36525));
+    put(x->bytes + 2, 4, bad % 4 == 2 ? 86400000 : below(86400000));
+    put(x->bytes + 6, 2, bad % 4 == 3 ? 1000 : below(1000));
+    if (bad && bad % 4 == 0) wrong_length(x, bad / 4);
+}
+
+void make_cryosat_read(struct input *x, size_t i, size_t steps) {
+    (void)steps;
+    x->count = 8;
+    day_bytes(x, refused(i));
+}
+
+void make_siral_read(struct input *x, size_t i, size_t steps) {
+    (void)steps;
+    x->count = 10;
+    put(x->bytes + 8, 2, below(65536));
+    day_bytes(x, refused(i));
+}
+
+void make_sbt_read(struct input *x, size_t i, size_t steps) {
+    (void)steps;
+    x->count = 4;
+    put(x->bytes, 4, below(UINT64_C(1) << 32));
+    if (refused(i)) wrong_length(x, refused(i));
+}
+
+/* ---- writers: a time that is refused, one of another scale, no room */
+
+static void write_time(struct input *x, size_t i, uint32_t scale, int64_t first, uint32_t length) {
+    size_t bad = refused(i);
+    x->count = length + (uint32_t)below(3);
+    x->time = any_time(scale, first);
+    switch (bad ? bad % 4 : 4) {
+    case 0: x->time = bad_time(bad / 4); break;
+    case 1: x->time = any_time((scale + 1) % 3, 0); break;
+    case 2: x->time = scale == VRK_UTC ? second_60() : scale == VRK_TAI ? any_time(scale, FIRST_DAY) : x->time; break;
+    case 3: x->count = length - 1; break;
+    }
+}
+
+void make_cuc_write(struct input *x, size_t i, size_t steps) { (void)steps, write_time(x, i, VRK_GPS, FIRST_GPS_DAY, 6); }
+void make_cryosat_write(struct input *x, size_t i, size_t steps) { (void)steps, write_time(x, i, VRK_TAI, 0, 8); }
+void make_siral_write(struct input *x, size_t i, size_t steps) { (void)steps, write_time(x, i, VRK_TAI, 0, 10); }
+
+void make_proteus_write(struct input *x, size_t i, size_t steps) {
+    (void)steps;
+    write_time(x, i, VRK_UTC, FIRST_GPS_DAY, 8);
+    x->code = refused(i) % 5 == 4 ? 2 : (uint32_t)below(2);
+}
+
+/* ---- counts and fields: one over its limit, no room */
+
+static void write_count(struct input *x, size_t i, unsigned bits, uint32_t length) {
+    size_t bad = refused(i);
+    x->value = below(UINT64_C(1) << bits) | (uint64_t)(bad % 2) << bits;
+    x->count = bad && bad % 2 == 0 ? length - 1 : length;
+}
+
+void make_goce_write(struct input *x, size_t i, size_t steps) { (void)steps, write_count(x, i, 48, 6); }
+void make_obet_write(struct input *x, size_t i, size_t steps) { (void)steps, write_count(x, i, 56, 8); }
+
+void make_sbt_write(struct input *x, size_t i, size_t steps) {
+    (void)steps;
+    x->code = (uint32_t)below(UINT64_C(1) << 32);
+    x->count = refused(i) ? (uint32_t)below(4) : 4;
+}
+
+void make_cuc_parts(struct input *x, size_t i, size_t steps) {
+    (void)steps;
+    size_t bad = refused(i);
+    x->part[0] = (uint32_t)below(UINT64_C(1) << 32), x->part[1] = (uint32_t)below(65536) + (bad % 2 ? 65536 : 0);
+    x->count = bad && bad % 2 == 0 ? 5 : 6;
+}
+
+void make_proteus_parts(struct input *x, size_t i, size_t steps) {
+    (void)steps;
+    size_t bad = refused(i);
+    x->part[0] = (uint32_t)below(4096) + (bad % 5 == 1 ? 4096 : 0);
+    x->part[1] = (uint32_t)below(2) + (bad % 5 == 2 ? 2 : 0);
+    x->part[2] = (uint32_t)below(604800) + (bad % 5 == 3 ? 604800 : 0);
+    x->part[3] = (uint32_t)below(65536) + (bad % 5 == 4 ? 65536 : 0);
+    x->count = bad && bad % 5 == 0 ? 7 : 8;
+}
+
+static void day_parts(struct input *x, size_t bad, uint32_t length) {
+    x->part[0] = (uint32_t)below(65536) + (bad % 5 == 1 ? 65536 : 0);
+    x->part[1] = (uint32_t)below(86400000) + (bad % 5 == 2 ? 86400000 : 0);
+    x->part[2] = (uint32_t)below(1000) + (bad % 5 == 3 ? 1000 : 0);
+    x->part[3] = (uint32_t)below(65536) + (bad % 5 == 4 ? 65536 : 0);
+    x->count = bad && bad % 5 == 0 ? length - 1 : length;
+}
+
+void make_cryosat_parts(struct input *x, size_t i, size_t steps) { (void)steps, day_parts(x, refused(i), 8); }
+void make_siral_parts(struct input *x, size_t i, size_t steps) { (void)steps, day_parts(x, refused(i), 10); }

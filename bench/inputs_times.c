@@ -1,0 +1,88 @@
+/* Numbers by chance, times and leap lists. */
+#include "inputs.h"
+
+static uint64_t state;
+
+/* A step of splitmix64: any generator does that is the same at every time. */
+uint64_t below(uint64_t n) {
+    uint64_t z = state += UINT64_C(0x9E3779B97F4A7C15);
+    z = (z ^ z >> 30) * UINT64_C(0xBF58476D1CE4E5B9);
+    z = (z ^ z >> 27) * UINT64_C(0x94D049BB133111EB);
+    return (z ^ z >> 31) % n;
+}
+
+void make_inputs(struct input *x, size_t n, making *make, size_t steps) {
+    state = 1;
+    for (size_t i = 0; i < n; i++) {
+        x[i] = (struct input){0};
+        make(x + i, i, steps);
+    }
+}
+
+vrk_handed any_record(uint32_t scale, int64_t first) {
+    int64_t from = first > FIRST_GPS_DAY || scale != VRK_GPS ? first : FIRST_GPS_DAY;
+    return (vrk_handed){VRK_RECORD, scale, from + (int64_t)below((uint64_t)(LISTED - from + 1)), below(DAY), 0};
+}
+
+vrk_handed any_time(uint32_t scale, int64_t first) {
+    vrk_handed h = any_record(scale, first);
+    if (below(8) != 0) return h;
+    h.kind = VRK_DECIMAL;
+    h.decimal = (double)h.day + (double)below(UINT64_C(1) << 36) / (double)(UINT64_C(1) << 36);
+    h.day = 0, h.micro = 0;
+    return h;
+}
+
+vrk_handed bad_time(size_t which) {
+    vrk_handed h = {VRK_RECORD, VRK_TAI, 0, 0, 0};
+    switch (which % BAD_TIMES) {
+    case 0: h.kind = 2; break;
+    case 1: h.scale = 3; break;
+    case 2: h.kind = VRK_DECIMAL, h.decimal = __builtin_nan(""); break;
+    case 3: h.kind = VRK_DECIMAL, h.decimal = -__builtin_inf(); break;
+    case 4: h.scale = VRK_GPS, h.day = FIRST_GPS_DAY - 1; break;
+    case 5: h.scale = VRK_UTC, h.micro = DAY + SECOND; break;
+    case 6: h.kind = VRK_DECIMAL, h.decimal = 36525; break;
+    }
+    return h;
+}
+
+/* ---- leap lists */
+
+enum { PUBLISHED = 28 };
+
+static const int64_t published_days[PUBLISHED] = {
+    -10227, -10045, -9861, -9496, -9131, -8766, -8400, -8035, -7670, -7305, -6758, -6393, -6028, -5297,
+    -4383,  -3652,  -3287, -2740, -2375, -2010, -1461, -914,  -365,  2192,  3288,  4565,  5660,  6210,
+};
+static int64_t yearly_days[MOST], wrong_days[2][MOST];
+static uint64_t offsets[MOST], wrong_offsets[MOST];
+static struct leap_list good, bad[BAD_LISTS];
+
+vrk_handed second_60(void) {
+    return (vrk_handed){VRK_RECORD, VRK_UTC, published_days[1 + below(PUBLISHED - 1)] - 1, DAY + below(SECOND), 0};
+}
+
+/* The published list, or one with a step on each 1 January from 1972 on that speaks of all days. */
+const struct leap_list *listed(size_t steps) {
+    for (size_t k = 0; k < MOST; k++) {
+        struct date d = {1972 + (unsigned)k, 1, 1};
+        yearly_days[k] = day_of(d), offsets[k] = 10 + k;
+    }
+    good = steps ? (struct leap_list){yearly_days, offsets, steps, steps, LAST_DAY}
+                 : (struct leap_list){published_days, offsets, PUBLISHED, PUBLISHED, LISTED};
+    return &good;
+}
+
+/* Wrong in its last step, where it has more than one: no first of a month, or an offset that does not count up; wrong in its
+ * middle; of unlike lengths; empty. */
+const struct leap_list *bad_list(size_t which, size_t steps) {
+    const struct leap_list *l = listed(steps);
+    size_t n = l->day_count;
+    for (size_t k = 0; k < n; k++) wrong_days[0][k] = wrong_days[1][k] = l->days[k], wrong_offsets[k] = offsets[k];
+    wrong_days[0][n - 1]++, wrong_days[1][n / 2]--, wrong_offsets[n - 1]++;
+    bad[0] = bad[1] = bad[2] = bad[3] = *l;
+    bad[0].days = wrong_days[0], bad[1].days = wrong_days[1], bad[2].offsets = wrong_offsets, bad[3].offset_count--;
+    bad[4] = (struct leap_list){0, 0, 0, 0, LISTED};
+    return &bad[which % BAD_LISTS];
+}
