@@ -87,8 +87,10 @@ const PACKETS: i32 = if cfg!(target_arch = "aarch64") { 0o200_000 } else { 0o40_
 fn pipe(flags: i32) -> Option<(OwnedFd, OwnedFd)> {
     const CLOSE_ON_EXEC: i32 = 0o2_000_000;
     let mut ends = [-1, -1];
-    // SAFETY: two numbers are lent; both ends are this program's alone.
-    unsafe { (pipe2(ends.as_mut_ptr(), flags | CLOSE_ON_EXEC) == 0).then(|| (OwnedFd::from_raw_fd(ends[0]), OwnedFd::from_raw_fd(ends[1]))) }
+    // SAFETY: two numbers are lent.
+    let made = unsafe { pipe2(ends.as_mut_ptr(), flags | CLOSE_ON_EXEC) } == 0;
+    // SAFETY: both ends were opened here and belong to nobody else.
+    made.then(|| unsafe { (OwnedFd::from_raw_fd(ends[0]), OwnedFd::from_raw_fd(ends[1])) })
 }
 
 fn waited(child: &mut Child) -> Result<(), String> {

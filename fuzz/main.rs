@@ -135,7 +135,7 @@ impl Fuzz {
         let at = function.number as usize;
         let batch: Vec<Call> = (0..BATCH).map(|_| damage::call(random, function, &self.pools[at])).collect();
         let answers = self.ask(function.number, &batch);
-        let mut backs: BTreeMap<u32, Vec<laws::Back>> = BTreeMap::new();
+        let mut backs: BTreeMap<u32, Vec<(&Call, laws::Back)>> = BTreeMap::new();
         for (call, answer) in batch.iter().zip(&answers) {
             let right = (function.model)(call);
             *self.tallies[at].numbers.entry(answer.words[0]).or_default() += 1;
@@ -144,17 +144,17 @@ impl Fuzz {
             } else if let Some(why) = laws::broken(function.number, call, answer) {
                 self.keep(function.number, call, &format!("{why}: {answer:x?}"));
             } else if let Some(back) = laws::back(function.number, call, answer) {
-                backs.entry(back.function).or_default().push(back);
+                backs.entry(back.function).or_default().push((call, back));
             }
         }
         self.tallies[at].calls += batch.len();
         for (reader, backs) in backs {
-            let calls: Vec<Call> = backs.iter().map(|back| shape::copy(&back.call)).collect();
+            let calls: Vec<Call> = backs.iter().map(|(_, back)| shape::copy(&back.call)).collect();
             let answers = self.ask(reader, &calls);
             self.tallies[at].backs += calls.len();
-            for (back, answer) in backs.iter().zip(&answers) {
+            for ((call, back), answer) in backs.iter().zip(&answers) {
                 if !back.agrees(answer) {
-                    self.keep(reader, &back.call, &format!("what {} gave does not come back: {answer:x?}", function.name));
+                    self.keep(function.number, call, &format!("it does not come back: {answer:x?}"));
                 }
             }
         }
@@ -211,9 +211,15 @@ fn replay(file: &str) -> ! {
         let wrong = match &kept {
             kept::Kept::Call(function, call) => {
                 print!("{}", kept::told(*function, call));
-                let (answer, right) = (server.ask(*function, std::slice::from_ref(call)).remove(0), (FUNCTIONS[*function as usize].model)(call));
+                let answer = server.ask(*function, std::slice::from_ref(call)).remove(0);
+                let right = (FUNCTIONS[*function as usize].model)(call);
                 println!("    the library: {answer:x?}\n    independent: {right:x?}");
-                answer != right || laws::broken(*function, call, &answer).is_some()
+                let back = laws::back(*function, call, &answer).map(|back| {
+                    let again = server.ask(back.function, std::slice::from_ref(&back.call)).remove(0);
+                    println!("    called back: {again:x?}");
+                    back.agrees(&again)
+                });
+                answer != right || laws::broken(*function, call, &answer).is_some() || back == Some(false)
             }
             kept::Kept::Desk(run) => match desk::differs(&DESK, run, Path::new("target/fuzz")) {
                 Ok(lines) => {
