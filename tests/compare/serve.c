@@ -11,6 +11,15 @@ extern void *memset(void *, int, size_t);
 
 enum { ANSWER = 6, MOST = 8192, GUARD = 64 };
 
+/* Where a call's slices stand, and how many bytes behind the lent ones are watched: fuzz/serve.c says it otherwise. */
+enum { DAYS, OFFSETS, IN, OUT };
+#ifndef PLACED
+static unsigned char lent[MOST + 2 * GUARD];
+#define PLACED(slice, from, bytes) (from)
+#define LENT(bytes) (lent + GUARD)
+#define AFTER GUARD
+#endif
+
 /* The functions, numbered as in main.rs. */
 enum {
     DECIMAL_READ, DECIMAL_WRITE, SBT_DATE, SBT_TICK, LIST_ACCEPTED, CHANGE,
@@ -42,7 +51,8 @@ static vrk_correlation correlation_at(const uint64_t *a) {
 }
 
 /* A list: its last day, how many days and offsets, the days, the offsets. The empty slice is a null pointer. */
-#define LIST(a) (a)[1] ? (const int64_t *)(a) + 3 : 0, (a)[1], (a)[2] ? (a) + 3 + (a)[1] : 0, (a)[2], (int64_t)(a)[0]
+#define LIST(a) (a)[1] ? (const int64_t *)PLACED(DAYS, (a) + 3, (a)[1] * 8) : 0, (a)[1], \
+    (a)[2] ? (const uint64_t *)PLACED(OFFSETS, (a) + 3 + (a)[1], (a)[2] * 8) : 0, (a)[2], (int64_t)(a)[0]
 
 static void count_is(vrk_count c) { answer[0] = c.refusal, answer[1] = c.count; }
 
@@ -90,7 +100,7 @@ static int call(uint32_t function, const unsigned char *in, size_t in_len, unsig
     return 0;
 }
 
-static unsigned char input[1 << 20], output[1 << 20], lent[MOST + 2 * GUARD];
+static unsigned char input[1 << 20], output[1 << 20];
 
 static int flush(size_t n) {
     for (size_t done = 0; done < n;) {
@@ -117,19 +127,21 @@ int main(void) {
             if (have - at < whole) break;
             const unsigned char *p = input + at + sizeof head;
             memcpy(w, p, words);
-            memset(lent, 0xA5, sizeof lent);
-            memcpy(lent + GUARD, p + words + head[2], head[3]);
+            unsigned char *out = LENT(head[3]);
+            memset(out - GUARD, 0xA5, GUARD + head[3] + AFTER);
+            memcpy(out, p + words + head[2], head[3]);
             memset(answer, 0, sizeof answer);
             /* the empty slice is a null pointer */
-            if (!call(head[0], head[2] ? p + words : 0, head[2], head[3] ? lent + GUARD : 0, head[3])) return 2;
-            for (size_t k = 0; k < GUARD; k++)
-                if (lent[k] != 0xA5 || lent[GUARD + head[3] + k] != 0xA5) return 3;
+            const unsigned char *in = head[2] ? PLACED(IN, p + words, head[2]) : 0;
+            if (!call(head[0], in, head[2], head[3] ? out : 0, head[3])) return 2;
+            for (const unsigned char *k = out - GUARD; k < out + head[3] + AFTER; k++)
+                if ((k < out || k >= out + head[3]) && *k != 0xA5) return 3;
             if (made + sizeof answer + head[3] > sizeof output) {
                 if (!flush(made)) return 4;
                 made = 0;
             }
             memcpy(output + made, answer, sizeof answer);
-            memcpy(output + made + sizeof answer, lent + GUARD, head[3]);
+            memcpy(output + made + sizeof answer, out, head[3]);
             made += sizeof answer + head[3];
             at += whole;
         }

@@ -1,0 +1,30 @@
+/* The comparison's server with each slice of a call at the end of a page, before a page that nothing may touch: a byte read or
+ * written behind a slice ends it. */
+#include <stddef.h>
+
+extern void *mmap(void *, size_t, int, int, int, long);
+extern int mprotect(void *, size_t, int);
+extern void *memcpy(void *, const void *, size_t);
+extern void _exit(int);
+
+/* As large as a page of any machine, and larger than a slice with the bytes before it. */
+enum { ROOM = 1 << 16, SLICES = 4 };
+
+/* Where the room of a slice ends. */
+static unsigned char *end_of(int slice) {
+    static unsigned char *ends[SLICES];
+    if (!ends[slice]) {
+        enum { NONE = 0, READ_WRITE = 3, PRIVATE_ANONYMOUS = 0x22 };
+        unsigned char *room = mmap(0, 2 * ROOM, NONE, PRIVATE_ANONYMOUS, -1, 0);
+        if (room == (void *)-1 || mprotect(room, ROOM, READ_WRITE) != 0) _exit(5);
+        ends[slice] = room + ROOM;
+    }
+    return ends[slice];
+}
+
+static void *placed(int slice, const void *from, size_t bytes) { return memcpy(end_of(slice) - bytes, from, bytes); }
+
+#define PLACED(slice, from, bytes) placed(slice, from, bytes)
+#define LENT(bytes) (end_of(OUT) - (bytes))
+#define AFTER 0
+#include "../tests/compare/serve.c"
