@@ -1,30 +1,38 @@
 -- Each theorem with hypotheses at an input that meets them, where the conclusion is an answer. Assumes nothing.
-use mathlib.Core.Path.{_≡_, refl, sym, _∙_}
+use mathlib.Core.Path.{_≡_, refl, sym, ap, _∙_}
 use mathlib.Core.Bool.{true}
 use mathlib.Core.List.{[], _∷_}
 use Prim.Native.Nat.{ℕ}
 use native.Mathlib.Omega.{arith}
 use lib.Dec.{lit≤}
-use lib.IntN.{pos, negsuc}
+use lib.IntN.{ℤ, pos, negsuc}
 use Rattle.octets.specs.Meaning.{number}
-use Rattle.scales.specs.Meaning.{answer, dated, recordOf}
+use Rattle.scales.specs.Meaning.{Outcome, answer, Moment, dated, recordOf}
 use Rattle.scales.specs.declared.Scale.the-variants as S
 use Rattle.scales.specs.declared.Handed.the-variants as H
-use Rattle.decimal.specs.Meaning.{since}
+use Rattle.decimal.specs.Meaning.{since, plusZero}
 use Rattle.leap.specs.Meaning.{publishedDays, publishedOffsets, publishedLast}
 use Rattle.leap.specs.Published.{published}
-use Rattle.leap_laws.proofs.Marked.{published-6209, extended}
+use Rattle.changes.specs.Meaning.{changeOf}
+use Rattle.leap_laws.proofs.Marked.{published-6209, extended, marked as three-cases}
 use Rattle.layouts.specs.Cuc as Cuc
 use Rattle.layouts.specs.Cryosat as Cryosat
-use Rattle.text_laws.specs.Computed.{reads, sixty, read-early}
+use Rattle.text_read.specs.Meaning.{readText}
+use Rattle.text_write.specs.Meaning.{writeText}
+use Rattle.text_laws.specs.Computed.{reads, sixty, read-early, blank, write-early}
 use Rattle.correlation.specs.Meaning as Correlation
-use Rattle.correlation_laws.proofs.Cases.{marked}
+use Rattle.correlation_laws.proofs.Cases.{marked, case-8}
 use Rattle.correlation_laws.proofs.Wider.{widened}
 use Rattle.promises.specs.Meaning.{lengthIsNone}
 use Rattle.promises.specs.First.{exactly}
 use Rattle.promises.specs.One.{cuc-read, cuc-write}
 use Rattle.promises.specs.Two.{cuc-time, proteus-time, cryosat-time, siral-time}
-use Rattle.promises.specs.Three.{FreshPaper, old-dates-stay}
+use Rattle.rack.specs.Meaning as Rack
+use Rattle.rack.specs.Bytes as Bytes
+use Rattle.rack.specs.Texts as Texts
+use Rattle.rack.specs.declared.VrkHanded.{VrkHanded}
+use Rattle.rack.specs.declared.VrkCorrelation.{VrkCorrelation}
+use Rattle.promises.specs.Three.{FreshPaper, old-dates-stay, widenedForC, change-for-c, text-read-for-c, text-write-for-c, date-for-c, tick-for-c}
 
 -- ---- demand 1: CUC of no bytes is refused 1, with day 0 of GPS; a CryoSat time is no image of CUC, and the slice keeps its byte
 pub refusal-instance : Cuc.read [] ≡ record { number = 1; scale = S.Gps; day = pos 0; micro = 0 }
@@ -73,3 +81,68 @@ paper-instance =
 -- UTC=31-DEC-2016 23:59:60.000000 was an answer, and stays
 pub sixty-instance : reads sixty ≡ dated S.Utc (answer (record { day = pos 6209; micro = 86400000000 }))
 sixty-instance = paper-instance .texts .read sixty (λ q. let z : _≡_ {A = ℕ} 0 9 = (λ i. sym read-early i .number) ∙ q in omega arith) ∙ read-early
+
+-- ---- the same for C
+abbrev handed : ℕ → ℤ → ℕ → VrkHanded
+handed scale d u = record { kind = 0; scale = scale; day = d; micro = u; decimal = plusZero }
+
+-- the last microsecond of that second 60, in TAI
+changed-early : Rack.changed (handed 1 (pos 6209) 86400999999) 0 publishedDays publishedOffsets (pos 6209) ≡ record { refusal = 0; scale = 0; day = pos 6210; micro = 36999999 }
+unfolding Rack.changed changeOf
+changed-early = ap Rack.timeOut (three-cases .last-second)
+
+pub change-for-c-instance :
+    Rack.changed (handed 1 (pos 6209) 86400999999) 0 publishedDays publishedOffsets publishedLast ≡ record { refusal = 0; scale = 0; day = pos 6210; micro = 36999999 }
+change-for-c-instance =
+    change-for-c publishedDays publishedOffsets (pos 6209) publishedDays publishedOffsets publishedLast published-6209 published extended (handed 1 (pos 6209) 86400999999) 0
+    (λ q. let z : _≡_ {A = ℕ} 0 9 = (λ i. sym changed-early i .refusal) ∙ q in omega arith)
+    ∙ changed-early
+
+pub text-read-for-c-instance : Rack.timeOut (reads sixty) ≡ Rack.timeOut (readText sixty publishedDays publishedOffsets (pos 6209))
+text-read-for-c-instance =
+    text-read-for-c publishedDays publishedOffsets (pos 6209) publishedDays publishedOffsets publishedLast published-6209 published extended sixty
+    (λ q. let z : _≡_ {A = ℕ} 0 9 = (λ i. sym read-early i .number) ∙ q in omega arith)
+
+-- the second 60 itself, written in the longest form
+written-early : Bytes.writes (Bytes.handedWriting (Texts.textWriting 31 publishedDays publishedOffsets (pos 6209)) (handed 1 (pos 6209) 86400000000)) blank ≡ record { number = 0; length = 31; bytes = sixty }
+unfolding Bytes.writes writeText
+written-early = write-early
+
+pub text-write-for-c-instance :
+    Bytes.writes (Bytes.handedWriting (Texts.textWriting 31 publishedDays publishedOffsets publishedLast) (handed 1 (pos 6209) 86400000000)) blank ≡ record { number = 0; length = 31; bytes = sixty }
+text-write-for-c-instance =
+    text-write-for-c publishedDays publishedOffsets (pos 6209) publishedDays publishedOffsets publishedLast published-6209 published extended (handed 1 (pos 6209) 86400000000) 31 blank
+    (λ q. let z : _≡_ {A = ℕ} 0 9 = (λ i. sym written-early i .number) ∙ q in omega arith)
+    ∙ written-early
+
+-- marked case 8: tick 0 adds 3,906, and the time gives the tick
+abbrev reference : VrkCorrelation
+reference = record { tick = 4294967295; scale = 0; day = pos 0; micro = 0; period = 3906250000; back = 10; ahead = 10 }
+
+dated-before : Rack.sbtDate 0 reference (pos 0) 3906 ≡ record { refusal = 0; scale = 0; day = pos 0; micro = 3906 }
+unfolding Rack.sbtDate Rack.correlationOf Correlation.dateOf
+dated-before = ap (λ (o : Outcome Moment). Rack.timeOut (dated S.Tai o)) (case-8 .0)
+
+reference-accepted : Correlation.accepted (Rack.correlationOf reference) ≡ true
+unfolding Rack.correlationOf
+reference-accepted = accepts
+
+reference-wider : Correlation.accepted (Rack.correlationOf (widenedForC reference 11 12)) ≡ true
+unfolding Rack.correlationOf
+reference-wider = wider
+
+pub date-for-c-instance : Rack.sbtDate 0 (widenedForC reference 11 12) (pos 0) 3906 ≡ record { refusal = 0; scale = 0; day = pos 0; micro = 3906 }
+date-for-c-instance =
+    date-for-c reference 11 12 (lit≤ tt) (lit≤ tt) reference-accepted reference-wider 0 (pos 0) 3906
+    (λ q. let z : _≡_ {A = ℕ} 0 8 = (λ i. sym dated-before i .refusal) ∙ q in omega arith)
+    ∙ dated-before
+
+turned-before : Rack.sbtTick (handed 0 (pos 0) 3906) reference ≡ record { refusal = 0; count = 0 }
+unfolding Rack.sbtTick Rack.correlationOf
+turned-before = ap (λ (o : Outcome ℕ). Rack.tickOut (Correlation.ticked o)) (case-8 .2)
+
+pub tick-for-c-instance : Rack.sbtTick (handed 0 (pos 0) 3906) (widenedForC reference 11 12) ≡ record { refusal = 0; count = 0 }
+tick-for-c-instance =
+    tick-for-c reference 11 12 (lit≤ tt) (lit≤ tt) reference-accepted reference-wider (handed 0 (pos 0) 3906)
+    (λ q. let z : _≡_ {A = ℕ} 0 8 = (λ i. sym turned-before i .refusal) ∙ q in omega arith)
+    ∙ turned-before
