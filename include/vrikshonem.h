@@ -131,8 +131,8 @@ vrk_time vrk_sbt_date(uint32_t tick, vrk_correlation correlation, int64_t receip
 
 /* Given     a time and a correlation.
  * Returned  the last tick of the window whose time is not later, below 2^32.
- * Refused   3 unknown kind or scale of the time; 4; 6; 7; 12 another scale than the correlation's, or second 60; 8 outside the
- *           window's times, which is not judged of a time that gets 12. */
+ * Refused   3 unknown kind or scale of the time; 4; 6; 7; 8 outside the window's times, not judged of a time that gets 12; 12
+ *           another scale than the correlation's, or second 60. */
 vrk_count vrk_sbt_tick(vrk_handed time, vrk_correlation correlation);
 
 /* ---- the leap list, and changes of scale
