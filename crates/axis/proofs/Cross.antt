@@ -2,7 +2,7 @@
 --     if z < -b { return 0; } if t - b < z { return t; } (z + b) as u64
 -- tell of z, and what its operations ask. The code's -b is `negsuc c` with b = suc c, and t - b is `pos h`. Assumes nothing.
 use mathlib.Core.Path.{_≡_, sym, ap, _∙_}
-use mathlib.Core.Bool.{true, false}
+use mathlib.Core.Bool.{true, false, false≢true}
 use Prim.Native.Nat.{ℕ, suc, _+_, _-_, _<_, _≤_, _^_}
 use native.Mathlib.Omega.{arith}
 use lib.Dec.{T}
@@ -15,17 +15,14 @@ use borrow.Author.Tests.{ltb-true, ltb-false}
 use Rattle.axis.specs.Diff.{sub-pos, sub-mag}
 use Rattle.axis.specs.Meaning.{place}
 
-no : false ≡ true → ⊥
-no q = let r : _≡_ {A = ℕ} 0 1 = cc in omega arith
-
 module _ (c h : ℕ) where
   before : (z : ℤ) → ltZ z (negsuc c) ≡ true → 0 ≡ place (suc c) (h + suc c) z
-  before (pos n) e = absurd (no e)
+  before (pos n) e = absurd (false≢true e)
   before (negsuc n) e = omega (arith, ltb-true c n e)
 
   after : (z : ℤ) → ltZ (pos h) z ≡ true → h + suc c ≡ place (suc c) (h + suc c) z
   after (pos n) e = omega (arith, ltb-true h n e)
-  after (negsuc n) e = absurd (no e)
+  after (negsuc n) e = absurd (false≢true e)
 
   within : (z : ℤ) → ltZ z (negsuc c) ≡ false → ltZ (pos h) z ≡ false → z +ℤ pos (suc c) ≡ pos (place (suc c) (h + suc c) z)
   within (pos n) e f = ap pos (omega (arith, ltb-false h n f))

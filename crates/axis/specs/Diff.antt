@@ -2,7 +2,7 @@
 -- products, floors, orders and equality of differences are read off the naturals: what a goal says of ℤ becomes what
 -- `omega` reads. Assumes nothing.
 use mathlib.Core.Path.{_≡_, refl, sym, ap, _∙_}
-use mathlib.Core.Bool.{Bool, true, false}
+use mathlib.Core.Bool.{Bool, true, false, not}
 use Prim.Native.Nat.{ℕ, zero, suc, _+_, _-_, _*_, _/_, _%_, _≤_, _<_}
 use native.Mathlib.Nat.{div-add-mod, mod-lt, le-div-iff-mul-le, div-lt-iff-lt-mul, div-eq-of-lt-le}
 use native.Mathlib.Omega.{arith}
@@ -31,12 +31,33 @@ way′ a b false e = above (ltb-false a b e)
 pub way : (a b : ℕ) → Way a b
 way a b = way′ a b (ltb a b) refl
 
+-- two tests that agree
+pub tests : (a b c d : ℕ) → (a ≤ b → c ≤ d) → (b < a → d < c) → leb a b ≡ leb c d
+tests a b c d f g = go (way b a)
+  where
+    go : Way b a → leb a b ≡ leb c d
+    go (below h) = lt-leb a b h ∙ sym (lt-leb c d (g h))
+    go (above h) = le-leb a b h ∙ sym (le-leb c d (f h))
+
 -- ---- every signed number is one
 pub is-pos : (n : ℕ) → pos n ≡ subℕ n 0
 is-pos n = sym (sub-pos n 0 (omega arith) ∙ ap pos (omega arith))
 
 pub is-negsuc : (n : ℕ) → negsuc n ≡ subℕ 0 (suc n)
 is-negsuc n = sym (sub-neg 0 (suc n) (omega arith) ∙ ap negsuc (omega arith))
+
+-- of its two parts
+abbrev pub up : ℤ → ℕ
+up (pos n) = n
+up (negsuc n) = 0
+
+abbrev pub down : ℤ → ℕ
+down (pos n) = 0
+down (negsuc n) = suc n
+
+pub parts : (z : ℤ) → z ≡ subℕ (up z) (down z)
+parts (pos n) = is-pos n
+parts (negsuc n) = is-negsuc n
 
 -- ---- equal differences
 pub sub-eq : (a b c d : ℕ) → a + d ≡ c + b → subℕ a b ≡ subℕ c d
@@ -120,16 +141,22 @@ sub-lt a b c d = go (way a b) (way c d) (way (a + d) (c + b))
     go (above h) (above k) (below l) = rw (sub-pos a b h, sub-pos c d k, lt-ltb (a + d) (c + b) l) (lt-ltb (a - b) (c - d) (omega arith))
     go (above h) (above k) (above l) = rw (sub-pos a b h, sub-pos c d k, le-ltb (a + d) (c + b) l) (le-ltb (a - b) (c - d) (omega arith))
 
-pub sub-le : (a b c d : ℕ) → leZ (subℕ a b) (subℕ c d) ≡ leb (a + d) (c + b)
-sub-le a b c d = go (way a b) (way c d) (way (c + b) (a + d))
+-- not above is at or below, of naturals and of signed numbers
+leb-not : (a b : ℕ) → leb a b ≡ not (ltb b a)
+leb-not a b = go (way b a)
   where
-    go : Way a b → Way c d → Way (c + b) (a + d) → leZ (subℕ a b) (subℕ c d) ≡ leb (a + d) (c + b)
-    go (below h) (below k) (below l) = rw (sub-neg a b h, sub-neg c d k, lt-leb (a + d) (c + b) l) (lt-leb (d - suc c) (b - suc a) (omega arith))
-    go (below h) (below k) (above l) = rw (sub-neg a b h, sub-neg c d k, le-leb (a + d) (c + b) l) (le-leb (d - suc c) (b - suc a) (omega arith))
-    go (below h) (above k) l = rw (sub-neg a b h, sub-pos c d k) (sym (le-leb (a + d) (c + b) (omega arith)))
-    go (above h) (below k) l = rw (sub-pos a b h, sub-neg c d k) (sym (lt-leb (a + d) (c + b) (omega arith)))
-    go (above h) (above k) (below l) = rw (sub-pos a b h, sub-pos c d k, lt-leb (a + d) (c + b) l) (lt-leb (a - b) (c - d) (omega arith))
-    go (above h) (above k) (above l) = rw (sub-pos a b h, sub-pos c d k, le-leb (a + d) (c + b) l) (le-leb (a - b) (c - d) (omega arith))
+    go : Way b a → leb a b ≡ not (ltb b a)
+    go (below h) = rw (lt-leb a b h, lt-ltb b a h)
+    go (above h) = rw (le-leb a b h, le-ltb b a h)
+
+pub le-not : (x y : ℤ) → leZ x y ≡ not (ltZ y x)
+le-not (pos a) (pos b) = leb-not a b
+le-not (pos a) (negsuc b) = refl
+le-not (negsuc a) (pos b) = refl
+le-not (negsuc a) (negsuc b) = leb-not b a
+
+pub sub-le : (a b c d : ℕ) → leZ (subℕ a b) (subℕ c d) ≡ leb (a + d) (c + b)
+sub-le a b c d = le-not (subℕ a b) (subℕ c d) ∙ ap not (sub-lt c d a b) ∙ sym (leb-not (a + d) (c + b))
 
 -- ---- whole multiples of m go through the floor, and leave what is left over as it is
 module _ (a q m : ℕ) (p : 0 < m) where
@@ -195,11 +222,7 @@ sub-mag a b n p q = go (way a b)
 
 -- ---- differences from one number: the shift by m keeps order and equality
 pub sub-le-same : (m a b : ℕ) → leZ (subℕ a m) (subℕ b m) ≡ leb a b
-sub-le-same m a b = sub-le a m b m ∙ go (way b a)
-  where
-    go : Way b a → leb (a + m) (b + m) ≡ leb a b
-    go (below h) = rw (lt-leb a b h) (lt-leb (a + m) (b + m) (omega arith))
-    go (above h) = rw (le-leb a b h) (le-leb (a + m) (b + m) (omega arith))
+sub-le-same m a b = sub-le a m b m ∙ tests (a + m) (b + m) a b (λ h. omega arith) (λ h. omega arith)
 
 pub sub-inj-same : (m a b : ℕ) → subℕ a m ≡ subℕ b m → a ≡ b
 sub-inj-same m a b e = omega (arith, sub-inj a m b m e)

@@ -6,17 +6,8 @@ use native.Mathlib.Omega.{arith}
 use lib.Dec.{leb}
 use lib.IntN.{ℤ, pos, negsuc, subℕ, _+ℤ_}
 use lib.Signed.{leZ}
-use borrow.Author.Tests.{le-leb, lt-leb}
 use Rattle.axis.specs.Meaning.{place}
-use Rattle.axis.specs.Diff.{sub-pos, sub-neg, sub-eq, sub-add, sub-le, is-pos, is-negsuc, Way, way, below, above}
-
--- two tests that agree
-tests : (a b c d : ℕ) → (a ≤ b → c ≤ d) → (b < a → d < c) → leb a b ≡ leb c d
-tests a b c d f g = go (way b a)
-  where
-    go : Way b a → leb a b ≡ leb c d
-    go (below h) = lt-leb a b h ∙ sym (lt-leb c d (g h))
-    go (above h) = le-leb a b h ∙ sym (le-leb c d (f h))
+use Rattle.axis.specs.Diff.{sub-pos, sub-neg, sub-eq, sub-add, sub-le, is-pos, is-negsuc, Way, way, below, above, tests}
 
 module _ (b t : ℕ) where
   pub place-top : (z : ℤ) → place b t z ≤ t

@@ -1,6 +1,6 @@
 -- What an answer tells of what was asked. Assumes nothing.
 use mathlib.Core.Path.{_≡_, refl, sym, ap, _∙_}
-use mathlib.Core.Bool.{Bool, true, false}
+use mathlib.Core.Bool.{Bool, true, false, false≢true}
 use Prim.Native.Nat.{ℕ, _+_, _-_, _<_, _≤_}
 use native.Mathlib.Omega.{arith}
 use lib.IntN.{ℤ}
@@ -66,13 +66,10 @@ counted t d e = go (isDate t) refl (way (t .year) 1972) (way 2099 (t .year))
 pub first-span : (d : ℤ) → isFirst d ≡ true → (29773 ≤ placeOfDay d) × (placeOfDay d ≤ 76525)
 first-span d e = (from (way (placeOfDay d) 29773), to (way 76525 (placeOfDay d)))
   where
-    no : false ≡ true → ⊥
-    no q = let z : _≡_ {A = ℕ} 0 1 = cc in omega arith
-
     from : Way (placeOfDay d) 29773 → 29773 ≤ placeOfDay d
-    from (below h) = absurd (no (sym (first-early d h) ∙ e))
+    from (below h) = absurd (false≢true (sym (first-early d h) ∙ e))
     from (above h) = h
 
     to : Way 76525 (placeOfDay d) → placeOfDay d ≤ 76525
-    to (below h) = absurd (no (sym (first-late d h) ∙ e))
+    to (below h) = absurd (false≢true (sym (first-late d h) ∙ e))
     to (above h) = h

@@ -4,10 +4,9 @@ use mathlib.Core.Bool.{Bool, true, false, not, _&&_, _||_, false≢true}
 use mathlib.Core.List.{List}
 use Prim.Native.Nat.{ℕ}
 use lib.IntN.{ℤ}
-use borrow.Author.Tests.{eqb-true}
 use Rattle.axis.specs.Meaning.{microsAt}
-use Rattle.scales.specs.Meaning.{codeOf, sameScale, inSpan, Judged, refused, answer, outcome, Slip, Moment, dated, numberOf, momentAt, timeScale, timeCount}
-use Rattle.scales.specs.Same.{scales-same}
+use Rattle.scales.specs.Meaning.{sameScale, inSpan, Judged, refused, answer, outcome, Slip, Moment, dated, numberOf, momentAt, timeScale, timeCount}
+use Rattle.scales.specs.Same.{same-scale}
 use Rattle.scales.specs.declared.Scale.{Scale}
 use Rattle.scales.specs.declared.Scale.the-variants as S
 use Rattle.scales.specs.declared.Refusal.{Refusal}
@@ -22,9 +21,6 @@ use Rattle.leap.specs.Meaning.{accepted}
 use Rattle.leap.specs.Walk.{or-true}
 use Rattle.changes.specs.Meaning.{fromScale, toScale, isUtc, usesList, settled, moving, ofCount, momentIn, changeOf}
 use Rattle.changes.specs.Ways.{Left, way-on, way-out}
-
-same-scale : (s t : Scale) → sameScale s t ≡ true → s ≡ t
-same-scale s t e = scales-same s t (eqb-true (codeOf s) (codeOf t) e)
 
 -- ---- the list is used where UTC stands on either side
 pub uses-from : (s to : Scale) → isUtc s ≡ true → usesList s to ≡ true
@@ -60,11 +56,6 @@ pub having : (u a : Bool) → (u && not a) ≡ false → (not u || a) ≡ true
 having true true e = refl
 having true false e = absurd (false≢true (sym e))
 having false a e = refl
-
-pub listed-so : (u a : Bool) → (u && not a) ≡ false → u ≡ true → a ≡ true
-listed-so true true e h = refl
-listed-so true false e h = absurd (false≢true (sym e))
-listed-so false a e h = absurd (false≢true h)
 
 module _ (h : Handed) (to : Scale) (ds : List ℤ) (os : List ℕ) (e : ℤ) where
   abbrev lacks : Bool

@@ -8,8 +8,8 @@ use Rattle.scales.specs.Meaning.{andThen, sameScale, inSpan, Judged, given, giv
 use Rattle.scales.specs.declared.Scale.{Scale}
 use Rattle.scales.specs.declared.Scale.the-variants as S
 use Rattle.scales.specs.declared.Handed.{Handed}
-use Rattle.decimal.specs.Meaning.{since, scaleOf, isFinite, isInSpan, dayOf, microOf}
-use Rattle.leap.specs.Meaning.{seconds, accepted, taiOf, hasMicro, isExpiredDay, isExpiredTai, momentOf, utcOf}
+use Rattle.decimal.specs.Meaning.{since, scaleOf, isFinite, isInSpan, dayOf, microOf, momentOf}
+use Rattle.leap.specs.Meaning.{seconds, accepted, taiOf, hasMicro, isExpiredDay, isExpiredTai, utcOf}
 
 -- ---- a time to its TAI count; `spans` says whether the time lies in its span
 abbrev pub fromTai : Bool → Moment → Judged ℤ

@@ -11,7 +11,7 @@ use borrow.Author.Tests.{le-leb, lt-leb, lt-ltb, le-ltb}
 use Rattle.axis.specs.Meaning.{placeOfDay, dayAt, microsAt}
 use Rattle.axis.specs.Diff.{sub-inj-same}
 use Rattle.scales.specs.Meaning.{andThen, bound, inSpan, Judged, given, Outcome, refused, answer, outcome, Slip, Moment, dated, numberOf, momentAt}
-use Rattle.scales.specs.Order.{onward, then-is}
+use Rattle.scales.specs.Order.{onward, then-is, no-answer}
 use Rattle.scales.specs.Place.{firstAt, span-early, span-late, span-in}
 use Rattle.scales.specs.Same.{refusals}
 use Rattle.scales.specs.declared.Scale.{Scale}
@@ -21,9 +21,9 @@ use Rattle.scales.specs.declared.Refusal.the-variants as R
 use Rattle.scales.specs.declared.Tai.{Tai}
 use Rattle.scales.specs.declared.DatedTai.{DatedTai}
 use Rattle.scales.specs.declared.DatedTai.the-variants as DT
-use Rattle.decimal.specs.Meaning.{dayMicros, since}
+use Rattle.decimal.specs.Meaning.{dayMicros, since, momentOf}
 use Rattle.decimal.proofs.Image.{since-at}
-use Rattle.leap.specs.Meaning.{seconds, accepted, offsetOn, taiOf, isStep, hasMicro, isExpiredDay, isExpiredTai, momentOf, utcOf}
+use Rattle.leap.specs.Meaning.{seconds, accepted, offsetOn, taiOf, isStep, hasMicro, isExpiredDay, isExpiredTai, utcOf}
 use Rattle.leap.specs.Places.{day-next, micros-le, micros-add, micros-minus, tai-at, moment-at}
 use Rattle.leap.specs.Steps.{steps}
 use Rattle.leap.specs.Back.{forth, none-before}
@@ -53,8 +53,8 @@ counted-one (DT.At x) (DT.At y) e =
     let z : microsAt (x .0) ≡ microsAt (y .0) = cc in
     let q : x .0 ≡ y .0 = sub-inj-same 3456000000000000 (x .0) (y .0) z in
     λ i. DT.At (record { 0 = q i })
-counted-one (DT.At x) (DT.Refused g) e = absurd (let z : _≡_ {A = ℕ} 0 1 = cc in omega arith)
-counted-one (DT.Refused f) (DT.At y) e = absurd (let z : _≡_ {A = ℕ} 0 1 = cc in omega arith)
+counted-one (DT.At x) (DT.Refused g) e = absurd (no-answer (sym e))
+counted-one (DT.Refused f) (DT.At y) e = absurd (no-answer e)
 counted-one (DT.Refused f) (DT.Refused g) e = let q : numberOf f ≡ numberOf g = cc in ap DT.Refused (refusals f g q)
 
 pub left-one : (j : Judged ℤ) (a b : DatedTai) → Left j a → Left j b → a ≡ b
@@ -113,7 +113,7 @@ module _ {s : Scale} {n : ℕ} {ds : List ℤ} {os : List ℕ} {z : ℤ} {r : Da
     where
       go : (b : Bool) → answer (microsAt (t .0)) ≡ outcome (given b 5 (ofCount s n (fromScale s ds os z))) → b ≡ true
       go true h = refl
-      go false h = absurd (let y : _≡_ {A = ℕ} 0 1 = cc in omega arith)
+      go false h = absurd (no-answer (sym h))
 
 -- ---- to the TAI count: 7 of each scale
 module _ (s : Scale) (n : ℕ) (f : Bool → Moment → Judged ℤ) (seven : refused 7 ≡ outcome (f false (momentAt s n))) where

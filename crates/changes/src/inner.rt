@@ -68,7 +68,7 @@ fn has_micro(days: &[i64], day: u64, micro: u64) -> bool
     leap::inner::is_step(days, day + 1)
 }
 
-pub fn from_utc(t: Utc, days: &[i64], offsets: &[u64], last: i64) -> DatedTai
+fn from_utc(t: Utc, days: &[i64], offsets: &[u64], last: i64) -> DatedTai
     requires { ⌜ accepted (now days) (now offsets) last ≡ true ⌝ }
     ensures { λ r. ⌜ Left (ofCount Scale.Utc (t .0) (fromUtc (now (days .entry)) (now (offsets .entry)) last)) r ⌝ }
 {

@@ -4,7 +4,7 @@ use mathlib.Core.Bool.{true, false, _&&_}
 use Prim.Native.Nat.{ℕ}
 use lib.IntN.{ℤ}
 use Rattle.scales.specs.Meaning.{dated, refused, outcome, Moment}
-use Rattle.correlation.specs.Meaning.{instant, elapsed, time, inForce, momentOf, resulting, dateOf}
+use Rattle.correlation.specs.Meaning.{instant, elapsed, time, inForce, momentAfter, resulting, dateOf}
 use Rattle.correlation.specs.Places.{placeIn, placeOf, timeAt, forceAt, resultAt, Counted, plain-is, moment-place}
 use Rattle.correlation.specs.Found.{no-place, in-day, instant-found, not-accepted, is-accepted, time-is, window-is, covers-is}
 use Rattle.correlation.specs.declared.Correlation.{Correlation}
@@ -32,5 +32,5 @@ module _ (c : Correlation) (t : ℕ) (d : ℤ) (u : ℕ) where
       unfolding dateOf
       date-at g =
           ap (λ (x : Moment). dated (c .scale) (outcome (resulting (c .scale) x)))
-          (sym (ap (momentOf (c .scale)) (ap (time c) (m .is) ∙ time-is c r e k) ∙ moment-place (c .scale) (timeAt r (c .period) k)))
+          (sym (ap (momentAfter (c .scale)) (ap (time c) (m .is) ∙ time-is c r e k) ∙ moment-place (c .scale) (timeAt r (c .period) k)))
           ∙ rw (is-accepted c r e, plain-is (c .scale) u, in-day (c .scale) d u w f, force-is, g)

@@ -12,7 +12,7 @@ use Rattle.scales.specs.declared.Scale.the-variants as S
 use Rattle.scales.specs.declared.Handed.{Handed}
 use Rattle.scales.specs.declared.Ticked.{Ticked}
 use Rattle.scales.specs.declared.Ticked.the-variants as K
-use Rattle.decimal.specs.Meaning.{dayMicros, since, scaleOf, isFinite, isInSpan, dayOf, microOf}
+use Rattle.decimal.specs.Meaning.{dayMicros, since, scaleOf, isFinite, isInSpan, dayOf, microOf, momentOf}
 use Rattle.correlation.specs.declared.Correlation.{Correlation}
 
 -- ---- "a period P in picoseconds from 3,906,000,000 to 3,906,500,000, and a window: ticks back b (0 to 2^31) and ticks ahead a
@@ -33,10 +33,10 @@ instant S.Tai d u = since d u
 instant S.Utc d u = since d u
 instant S.Gps d u = since d u
 
-abbrev pub momentOf : Scale → ℤ → Moment
-momentOf S.Tai z = record { day = floorZ z dayMicros; micro = modZ z dayMicros }
-momentOf S.Utc z = record { day = floorZ z dayMicros; micro = modZ z dayMicros }
-momentOf S.Gps z = record { day = floorZ z dayMicros; micro = modZ z dayMicros }
+abbrev pub momentAfter : Scale → ℤ → Moment
+momentAfter S.Tai z = momentOf z
+momentAfter S.Utc z = momentOf z
+momentAfter S.Gps z = momentOf z
 
 -- scale by scale, which microseconds of a day such days have: second 60 is none of them
 abbrev pub plain : Scale → ℕ → Bool
@@ -88,7 +88,7 @@ dating c t d u =
     given (accepted c) 6
     (given (receivable (c .scale) d u) 7
     (given (inForce c (elapsed t (c .tick .0)) (instant (c .scale) d u)) 8
-    (resulting (c .scale) (momentOf (c .scale) (time c (elapsed t (c .tick .0)))))))
+    (resulting (c .scale) (momentAfter (c .scale) (time c (elapsed t (c .tick .0)))))))
 
 unfoldable pub dateOf : Correlation → ℕ → ℤ → ℕ → Slip
 dateOf c t d u = dated (c .scale) (outcome (dating c t d u))

@@ -15,7 +15,7 @@ use Rattle.scales.specs.Place.{apart, placed}
 use Rattle.scales.specs.declared.Scale.{Scale}
 use Rattle.scales.specs.declared.Scale.the-variants as S
 use Rattle.decimal.specs.Meaning.{dayMicros, since}
-use Rattle.correlation.specs.Meaning.{accepted, instant, momentOf, plain, elapsed, clock, resulting, tickAt}
+use Rattle.correlation.specs.Meaning.{accepted, instant, momentAfter, plain, elapsed, clock, resulting, tickAt}
 use Rattle.correlation.specs.Clock.{less-one, lastOf}
 use Rattle.correlation.specs.declared.Correlation.{Correlation}
 use Rattle.correlation.specs.declared.Cover.{Cover}
@@ -90,7 +90,7 @@ instant-is S.Tai d u = refl
 instant-is S.Utc d u = refl
 instant-is S.Gps d u = refl
 
-pub moment-is : (s : Scale) (z : ℤ) → momentOf s z ≡ record { day = floorZ z dayMicros; micro = modZ z dayMicros }
+pub moment-is : (s : Scale) (z : ℤ) → momentAfter s z ≡ record { day = floorZ z dayMicros; micro = modZ z dayMicros }
 moment-is S.Tai z = refl
 moment-is S.Utc z = refl
 moment-is S.Gps z = refl
@@ -117,7 +117,7 @@ instant-place s d u h =
     ∙ ap (λ (x : ℤ). x +ℤ pos u) (sub-mul (placeOfDay d) 40000 86400000000)
     ∙ sym (number-add 3456000000000000 (placeOfDay d * 86400000000) u)
 
-pub moment-place : (s : Scale) (m : ℕ) → momentOf s (microsAt m) ≡ record { day = dayAt (m / 86400000000); micro = m % 86400000000 }
+pub moment-place : (s : Scale) (m : ℕ) → momentAfter s (microsAt m) ≡ record { day = dayAt (m / 86400000000); micro = m % 86400000000 }
 moment-place s m =
     moment-is s (microsAt m)
     ∙ ap₂ (λ (d : ℤ) (u : ℕ). record { day = d; micro = u }) (micros-day m) (micros-left m)

@@ -5,33 +5,12 @@ use Prim.Native.Nat.{ℕ, suc, _+_, _-_, _*_, _/_, _≤_, _<_}
 use native.Mathlib.Nat.{mul-le-mul-right, le-mul-of-pos-right, div-mul-le-self, lt-div-mul-add}
 use native.Mathlib.Omega.{arith}
 use lib.Dec.{leb}
-use lib.IntN.{ℤ, pos, negsuc, subℕ, _+ℤ_, _*ℤ_}
+use lib.IntN.{ℤ, pos, subℕ, _+ℤ_, _*ℤ_}
 use lib.Signed.{leZ}
 use borrow.Author.Tests.{le-leb, lt-leb, leb-true, leb-false}
 use Rattle.axis.specs.Meaning.{floorZ}
-use Rattle.axis.specs.Diff.{Way, way, below, above, is-pos, is-negsuc, sub-eq, sub-mul, sub-le, sub-floor}
+use Rattle.axis.specs.Diff.{up, down, parts, tests, sub-eq, sub-mul, sub-le, sub-floor}
 use Rattle.axis.specs.Shift.{number-add}
-
--- two tests that agree
-pub tests : (a b c d : ℕ) → (a ≤ b → c ≤ d) → (b < a → d < c) → leb a b ≡ leb c d
-tests a b c d f g = go (way b a)
-  where
-    go : Way b a → leb a b ≡ leb c d
-    go (below h) = lt-leb a b h ∙ sym (lt-leb c d (g h))
-    go (above h) = le-leb a b h ∙ sym (le-leb c d (f h))
-
--- ---- a signed number is the difference of its two parts
-abbrev pub up : ℤ → ℕ
-up (pos n) = n
-up (negsuc n) = 0
-
-abbrev pub down : ℤ → ℕ
-down (pos n) = 0
-down (negsuc n) = suc n
-
-pub parts : (z : ℤ) → z ≡ subℕ (up z) (down z)
-parts (pos n) = is-pos n
-parts (negsuc n) = is-negsuc n
 
 -- ---- orders
 le-parts : (x y : ℤ) → leZ x y ≡ leb (up x + down y) (up y + down x)

@@ -1,6 +1,6 @@
 -- What an answer tells of an accepted correlation, both ways. Assumes nothing.
 use mathlib.Core.Path.{_≡_, sym, ap, _∙_}
-use mathlib.Core.Bool.{Bool, true, false, cond}
+use mathlib.Core.Bool.{Bool, true, false, cond, false≢true}
 use Prim.Native.Nat.{ℕ, _-_, _%_}
 use native.Mathlib.Omega.{arith}
 use lib.IntN.{ℤ, pos, negsuc, negℤ}
@@ -11,20 +11,21 @@ use Rattle.scales.specs.Meaning.{inSpan, answer, outcome, Moment, given, gives}
 use Rattle.scales.specs.Place.{and-both}
 use Rattle.scales.specs.declared.Scale.{Scale}
 use Rattle.scales.specs.declared.Handed.{Handed}
+use Rattle.scales.specs.Order.{passed}
 use Rattle.decimal.specs.Meaning.{since, isFinite, isInSpan}
-use Rattle.correlation.specs.Meaning.{accepted, instant, momentOf, receivable, elapsed, time, inWindow, covers, inForce, resulting, dating, lastCount, tickAt, instantOf, hasImage, turning}
+use Rattle.correlation.specs.Meaning.{accepted, instant, momentAfter, receivable, elapsed, time, inWindow, covers, inForce, resulting, dating, lastCount, tickAt, instantOf, hasImage, turning}
 use Rattle.correlation.specs.Signs.{le-trans}
 use Rattle.correlation.specs.Places.{moment-is, back-place}
 use Rattle.correlation.specs.Accepted.{Sound}
 use Rattle.correlation.specs.declared.Correlation.{Correlation}
-use Rattle.correlation_laws.proofs.Counts.{passed, whole, elapsed-one}
+use Rattle.correlation_laws.proofs.Counts.{whole, elapsed-one}
 
 -- ---- a date
 pub record Dates (c : Correlation) (t : ℕ) (d : ℤ) (u : ℕ) (m : Moment) : Type 0 where
   pub accepts : accepted c ≡ true
   pub window : inWindow c (elapsed t (c .tick .0)) ≡ true
   pub span : inSpan (c .scale) (m .day) (m .micro) ≡ true
-  pub is : momentOf (c .scale) (time c (elapsed t (c .tick .0))) ≡ m
+  pub is : momentAfter (c .scale) (time c (elapsed t (c .tick .0))) ≡ m
 
 gave : {A : Type 0} (a b : A) → outcome (gives a) ≡ answer b → a ≡ b
 gave a b e = cc
@@ -32,7 +33,7 @@ gave a b e = cc
 pub dates : (c : Correlation) (t : ℕ) (d : ℤ) (u : ℕ) (m : Moment) → outcome (dating c t d u) ≡ answer m → Dates c t d u m
 dates c t d u m e =
     let k = elapsed t (c .tick .0) in
-    let x = momentOf (c .scale) (time c k) in
+    let x = momentAfter (c .scale) (time c k) in
     let f = inForce c k (instant (c .scale) d u) in
     let w = passed (accepted c) 6 (given (receivable (c .scale) d u) 7 (given f 8 (resulting (c .scale) x))) m e in
     let r = passed (receivable (c .scale) d u) 7 (given f 8 (resulting (c .scale) x)) m (w .1) in
@@ -57,7 +58,7 @@ pub record Turns (c : Correlation) (h : Handed) (n : ℕ) : Type 0 where
 
 judged : (t x : Bool) → t ≡ true → cond t x true ≡ true → x ≡ true
 judged true x e f = f
-judged false x e f = absurd (let z : _≡_ {A = ℕ} 0 1 = cc in omega arith)
+judged false x e f = absurd (false≢true e)
 
 pub turns : (c : Correlation) (h : Handed) (n : ℕ) → outcome (turning c h) ≡ answer n → Turns c h n
 turns c h n e =
@@ -78,7 +79,7 @@ turns c h n e =
     }
 
 -- ---- the moment of a microsecond since day 0, and the tick of a count
-pub instant-moment : (s : Scale) (z : ℤ) → since (momentOf s z .day) (momentOf s z .micro) ≡ z
+pub instant-moment : (s : Scale) (z : ℤ) → since (momentAfter s z .day) (momentAfter s z .micro) ≡ z
 instant-moment s z = ap (λ (m : Moment). since (m .day) (m .micro)) (moment-is s z) ∙ whole z
 
 -- a count of the window is the elapsed count of each tick that equals the reference tick plus it modulo 2^32

@@ -1,17 +1,17 @@
--- Marked cases 8 and 9 and the night of the letter, computed; the order of the refusals; and each theorem at an input that meets
--- its hypotheses. Assumes nothing.
-use mathlib.Core.Path.{_≡_, refl, _∙_}
+-- Marked case 8 both ways and the night of the letter, computed; the order of 12 and 8; and each theorem at an input that meets its
+-- hypotheses. Assumes nothing.
+use mathlib.Core.Path.{_≡_, refl, _∙_, sym}
 use mathlib.Core.Bool.{Bool, true, false}
 use Prim.Native.Nat.{ℕ, _<_, _≤_}
-use native.Mathlib.Omega.{arith}
 use lib.Dec.{lit<, lit≤}
 use lib.IntN.{ℤ, pos, negsuc, _+ℤ_}
 use lib.Signed.{leZ}
 use lib.Ieee.{nan}
-use Rattle.scales.specs.Meaning.{Moment, Judged, given, gives, Outcome, answer, refused, outcome, numbers, order, standsIn, recordOf}
+use Rattle.scales.specs.Meaning.{Moment, Judged, given, gives, Outcome, answer, refused, outcome, recordOf}
 use Rattle.scales.specs.declared.Scale.the-variants as S
 use Rattle.scales.specs.declared.Handed.{Handed}
 use Rattle.scales.specs.declared.Handed.the-variants as H
+use Rattle.scales.specs.Order.{no-answer}
 use Rattle.decimal.specs.Meaning.{since, isFinite, isInSpan}
 use Rattle.correlation.specs.Meaning.{accepted, clock, time, inWindow, covers, elapsed, dating, latest, lastCount, tickAt, instantOf, hasImage, turning}
 use Rattle.correlation.specs.Clock.{lastOf, last-of-clock, last-early, last-close}
@@ -21,14 +21,7 @@ use Rattle.correlation_laws.proofs.Trips.{same-tick, record-back, never
 use Rattle.correlation_laws.proofs.Wider.{widened, date-kept, tick-kept}
 use Rattle.correlation_laws.proofs.Night.{received-before, received-after, no-wrap}
 
--- ---- "The first that applies in this order is given": the numbers that each way judges
-pub dating-order : (c : Correlation) (t : ℕ) (d : ℤ) (u : ℕ) → standsIn (numbers (dating c t d u)) order ≡ true
-dating-order c t d u = refl
-
-pub turning-order : (c : Correlation) (h : Handed) → standsIn (numbers (turning c h)) order ≡ true
-turning-order c h = refl
-
--- what is judged in effect: 12 before 8, which is not judged for a time without an image
+-- ---- what is judged in effect: 12 before 8, which is not judged for a time without an image
 abbrev pub imageFirst : Correlation → Handed → Judged ℕ
 imageFirst c h =
     given (isFinite h) 4
@@ -55,20 +48,15 @@ at d u = record { day = d; micro = u }
 abbrev pub tai : ℤ → ℕ → Handed
 tai d u = H.Record (recordOf S.Tai d u)
 
--- 8: tick 0 adds 3,906; FFFFFFFE takes away 3,907; each received at its date or later. And back
-pub case-8 :
+-- marked case 8 from the beginning of the day: tick 0 adds 3,906; FFFFFFFE takes away 3,907; each received at its date or later. And
+-- back
+pub either-side :
     (outcome (dating (marked 10) 0 (pos 0) 3906) ≡ answer (at (pos 0) 3906))
     × (outcome (dating (marked 10) 4294967294 (pos 0) 0) ≡ answer (at (negsuc 0) 86399996093))
     × (outcome (turning (marked 10) (tai (pos 0) 3906)) ≡ answer 0)
     × (outcome (turning (marked 10) (tai (negsuc 0) 86399996093)) ≡ answer 4294967294)
 unfolding accepted clock inWindow covers latest
-case-8 = (refl, refl, refl, refl)
-
--- 9: b = a = 0: the reference tick received at the reference time answers; the next tick: 8
-pub case-9 :
-    (outcome (dating (marked 0) 4294967295 (pos 0) 0) ≡ answer (at (pos 0) 0)) × (outcome (dating (marked 0) 0 (pos 0) 0) ≡ refused 8)
-unfolding accepted clock inWindow covers
-case-9 = (refl, refl)
+either-side = (refl, refl, refl, refl)
 
 -- ---- the night of the letter: the record of 1 October 2008 with the widest window, a packet received on 10 March 2009 at
 -- twenty to three, whose tick is the reference tick plus the 3,541,401,600 ticks that have passed
@@ -113,7 +101,7 @@ acc = refl
 
 -- an answer is no refusal
 no-8 : {A : Type 0} {o : Outcome A} {a : A} → o ≡ answer a → o ≡ refused 8 → ⊥
-no-8 e f = let z : _≡_ {A = ℕ} 0 1 = cc in omega arith
+no-8 e f = no-answer (sym f ∙ e)
 
 wide : accepted (widened (marked 10) 11 12) ≡ true
 unfolding accepted
@@ -121,11 +109,11 @@ wide = refl
 
 -- a tick to a time and back, by the record and by a time that stands for it
 pub trip : outcome (turning (marked 10) (tai (negsuc 0) 86399996093)) ≡ answer 4294967294
-trip = record-back (marked 10) 4294967294 (pos 0) 0 (at (negsuc 0) 86399996093) (case-8 .1) (lit< tt)
+trip = record-back (marked 10) 4294967294 (pos 0) 0 (at (negsuc 0) 86399996093) (either-side .1) (lit< tt)
 
 pub trip-same : (n : ℕ) → outcome (turning (marked 10) (tai (negsuc 0) 86399996093)) ≡ answer n → n ≡ 4294967294
 trip-same =
-    same-tick (marked 10) 4294967294 (pos 0) 0 (at (negsuc 0) 86399996093) (case-8 .1) (tai (negsuc 0) 86399996093)
+    same-tick (marked 10) 4294967294 (pos 0) 0 (at (negsuc 0) 86399996093) (either-side .1) (tai (negsuc 0) 86399996093)
     (record { scale = refl; day = refl; micro = refl }) (lit< tt)
 
 -- a time to a tick and back: 3,905 microseconds after the reference, the reference
@@ -145,10 +133,10 @@ time-trip = (
 
 -- a wider window keeps a date and a tick
 pub kept-date : outcome (dating (widened (marked 10) 11 12) 0 (pos 0) 3906) ≡ answer (at (pos 0) 3906)
-kept-date = date-kept (marked 10) 11 12 (lit≤ tt) (lit≤ tt) acc wide 0 (pos 0) 3906 (no-8 (case-8 .0)) ∙ case-8 .0
+kept-date = date-kept (marked 10) 11 12 (lit≤ tt) (lit≤ tt) acc wide 0 (pos 0) 3906 (no-8 (either-side .0)) ∙ either-side .0
 
 pub kept-tick : outcome (turning (widened (marked 10) 11 12) (tai (pos 0) 3906)) ≡ answer 0
-kept-tick = tick-kept (marked 10) 11 12 (lit≤ tt) (lit≤ tt) acc wide (tai (pos 0) 3906) (no-8 (case-8 .2)) ∙ case-8 .2
+kept-tick = tick-kept (marked 10) 11 12 (lit≤ tt) (lit≤ tt) acc wide (tai (pos 0) 3906) (no-8 (either-side .2)) ∙ either-side .2
 
 -- received before the cover, and after it: 8 for every tick
 pub too-early : (t : ℕ) → outcome (dating autumn t (pos 3000) 0) ≡ refused 8
@@ -165,7 +153,7 @@ one-before = elapsed-one 4294967294 4294967295 (negsuc 0) refl refl refl
 
 pub right-wrap : since (negsuc 0) 86399996093 ≡ time (marked 10) (negsuc 0)
 unfolding inWindow
-right-wrap = no-wrap (marked 10) 4294967294 (pos 0) 0 (at (negsuc 0) 86399996093) (case-8 .1) (negsuc 0) refl refl
+right-wrap = no-wrap (marked 10) 4294967294 (pos 0) 0 (at (negsuc 0) 86399996093) (either-side .1) (negsuc 0) refl refl
 
 -- ---- the law of the clock where the start is a fraction before day 0 and the gain no whole number: a count comes back, and the
 -- last count of a time is never late, nor early by 16

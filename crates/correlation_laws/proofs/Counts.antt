@@ -1,7 +1,7 @@
--- What the theorems share: an answer has passed every test; a microsecond since day 0 is its day and its microsecond of day; the
+-- What the theorems share: a microsecond since day 0 is its day and its microsecond of day; the
 -- elapsed count is the one number of the paper. Assumes nothing.
-use mathlib.Core.Path.{_≡_, refl, sym, ap, ap₂, _∙_}
-use mathlib.Core.Bool.{Bool, true, false}
+use mathlib.Core.Path.{_≡_, sym, ap, ap₂, _∙_}
+use mathlib.Core.Bool.{true}
 use Prim.Native.Nat.{ℕ, suc, _+_, _-_, _*_, _/_, _%_, _≤_, _<_}
 use native.Mathlib.Nat.{div-add-mod'}
 use native.Mathlib.Omega.{arith}
@@ -11,17 +11,10 @@ use lib.Signed.{leZ}
 use borrow.Author.Tests.{leb-true, le-leb}
 use Rattle.axis.specs.Meaning.{floorZ, modZ}
 use Rattle.axis.specs.Diff.{is-pos, is-negsuc, neg-pos, sub-eq, sub-add, sub-le-same, sub-mod}
-use Rattle.scales.specs.Meaning.{Judged, given, answer, outcome}
 use Rattle.decimal.specs.Meaning.{dayMicros, since}
 use Rattle.correlation.specs.Meaning.{elapsed, tickAt}
 use Rattle.correlation.specs.Signs.{steps, steps-to}
 use Rattle.correlation.specs.Places.{tick-place}
-
--- ---- an answer has passed every test
-pub passed : {A : Type 0} (t : Bool) (n : ℕ) (rest : Judged A) (a : A) → outcome (given t n rest) ≡ answer a →
-    (t ≡ true) × (outcome rest ≡ answer a)
-passed true n rest a e = (refl, e)
-passed false n rest a e = absurd (let z : _≡_ {A = ℕ} 0 1 = cc in omega arith)
 
 -- ---- a microsecond since day 0, and the day and the microsecond of day that it falls on
 pub whole : (z : ℤ) → since (floorZ z dayMicros) (modZ z dayMicros) ≡ z

@@ -1,27 +1,19 @@
 -- The night of the letter, in general: no receipt outside the cover is dated, and no wrap of the counter is ever mistaken.
 -- Assumes nothing.
-use mathlib.Core.Path.{_≡_, sym, ap, ap₂, _∙_}
-use mathlib.Core.Bool.{true, false}
-use Prim.Native.Nat.{ℕ, _%_, _+_}
+use mathlib.Core.Path.{_≡_, sym, ap, _∙_}
+use mathlib.Core.Bool.{true, false, not}
+use Prim.Native.Nat.{ℕ, _%_}
 use lib.IntN.{ℤ}
 use lib.Signed.{ltZ, leZ}
-use borrow.Author.Tests.{ltb-true, lt-leb}
-use Rattle.axis.specs.Diff.{sub-lt, sub-le}
+use Rattle.axis.specs.Diff.{le-not}
 use Rattle.scales.specs.Meaning.{refused, answer, outcome, Moment}
 use Rattle.scales.specs.Place.{and-false}
 use Rattle.decimal.specs.Meaning.{since}
 use Rattle.correlation.specs.Meaning.{accepted, receivable, elapsed, time, inWindow, cover, covers, dating, tickAt}
-use Rattle.correlation.specs.Signs.{up, down, parts}
 use Rattle.correlation.specs.Places.{instant-is}
 use Rattle.correlation.specs.Accepted.{sound}
 use Rattle.correlation.specs.declared.Correlation.{Correlation}
 use Rattle.correlation_laws.proofs.Answers.{dates, instant-moment, window-elapsed}
-
-before : (x y : ℤ) → ltZ x y ≡ true → leZ y x ≡ false
-before x y e =
-    ap₂ leZ (parts y) (parts x) ∙ sub-le (up y) (down y) (up x) (down x)
-    ∙ lt-leb (up y + down x) (up x + down y)
-    (ltb-true (up x + down y) (up y + down x) (sym (ap₂ ltZ (parts x) (parts y) ∙ sub-lt (up x) (down x) (up y) (down y)) ∙ e))
 
 -- ---- a receipt outside the cover: refused 8, whatever the tick
 module _ (c : Correlation) (d : ℤ) (u : ℕ) (e : accepted c ≡ true) (r : receivable (c .scale) d u ≡ true) where
@@ -30,11 +22,11 @@ module _ (c : Correlation) (d : ℤ) (u : ℕ) (e : accepted c ≡ true) (r : re
 
   pub received-before : ltZ (since d u) (cover c .from) ≡ true → (t : ℕ) → outcome (dating c t d u) ≡ refused 8
   unfolding covers
-  received-before f = outside (rw (before (since d u) (cover c .from) f))
+  received-before f = outside (rw (le-not (cover c .from) (since d u) ∙ ap not f))
 
   pub received-after : ltZ (cover c .to) (since d u) ≡ true → (t : ℕ) → outcome (dating c t d u) ≡ refused 8
   unfolding covers
-  received-after f = outside (rw (before (cover c .to) (since d u) f) (and-false (leZ (cover c .from) (since d u))))
+  received-after f = outside (rw (le-not (since d u) (cover c .to) ∙ ap not f) (and-false (leZ (cover c .from) (since d u))))
 
 -- ---- an answer is time(k), for every count k of the window with tick = reference tick + k modulo 2^32
 pub no-wrap : (c : Correlation) (t : ℕ) (d : ℤ) (u : ℕ) (m : Moment) → outcome (dating c t d u) ≡ answer m →

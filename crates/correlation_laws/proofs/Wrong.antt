@@ -11,9 +11,10 @@ use Rattle.scales.specs.declared.Scale.the-variants as S
 use Rattle.scales.specs.declared.Handed.{Handed}
 use Rattle.scales.specs.declared.Handed.the-variants as H
 use Rattle.decimal.specs.Meaning.{scaleOf, isFinite, isInSpan, microOf}
-use Rattle.correlation.specs.Meaning.{accepted, instant, momentOf, plain, receivable, elapsed, clock, time, inWindow, covers, inForce, resulting, dateOf, latest, lastCount, tickAt, instantOf, hasImage, TickSlip, ticked, tickOf}
+use Rattle.correlation.specs.Meaning.{accepted, instant, momentAfter, plain, receivable, elapsed, clock, time, inWindow, covers, inForce, resulting, dateOf, latest, lastCount, tickAt, instantOf, hasImage, TickSlip, ticked, tickOf}
 use Rattle.correlation.specs.declared.Correlation.{Correlation}
-use Rattle.correlation_laws.proofs.Cases.{marked, autumn, utc, at}
+use Rattle.correlation_laws.proofs.Cases.{marked, autumn, utc}
+use Rattle.ground_laws.proofs.Desks.{answered, empty, byNumber}
 
 -- ---- date: a desk with another rule of force, another elapsed count, or another time of it
 abbrev dateBy : (Correlation → ℤ → ℤ → Bool) → (ℕ → ℕ → ℤ) → (Correlation → ℤ → ℤ) → Correlation → ℕ → ℤ → ℕ → Slip
@@ -22,40 +23,37 @@ dateBy force count timing c t d u =
     (given (accepted c) 6
     (given (receivable (c .scale) d u) 7
     (given (force c (count t (c .tick .0)) (instant (c .scale) d u)) 8
-    (resulting (c .scale) (momentOf (c .scale) (timing c (count t (c .tick .0)))))))))
-
-apart : {x y : Slip} → (x .number ≡ y .number → ⊥) → x ≡ y → ⊥
-apart d e = differ (λ (s : Slip). s .number) d e
+    (resulting (c .scale) (momentAfter (c .scale) (timing c (count t (c .tick .0)))))))))
 
 -- the window ignored: marked case 9's next tick is dated
 abbrev windowIgnored : Correlation → ℤ → ℤ → Bool
 windowIgnored c k z = covers c z
 
 pub window-ignored :
-    ShutOut (dateOf (marked 0) 0 (pos 0) 0) (dated S.Tai (refused 8))
-    (dateBy windowIgnored elapsed time (marked 0) 0 (pos 0) 0) (dated S.Tai (answer (at (pos 0) 3906)))
+    ShutOut (dateOf (marked 0) 0 (pos 0) 0) (empty 8 S.Tai)
+    (dateBy windowIgnored elapsed time (marked 0) 0 (pos 0) 0) (answered S.Tai (pos 0) 3906)
 unfolding dateOf accepted clock inWindow covers
-window-ignored = (refl, refl, apart (λ e. omega arith))
+window-ignored = (refl, refl, byNumber (λ e. omega arith))
 
 -- the receipt ignored: the packet of March comes out one full wrap early, 194 d 4 h 20 min 16 s
 abbrev receiptIgnored : Correlation → ℤ → ℤ → Bool
 receiptIgnored c k z = inWindow c k
 
 pub receipt-ignored :
-    ShutOut (dateOf autumn 4078800897 (pos 3356) 9600000000) (dated S.Tai (refused 8))
-    (dateBy receiptIgnored elapsed time autumn 4078800897 (pos 3356) 9600000000) (dated S.Tai (answer (at (pos 3161) 80384000000)))
+    ShutOut (dateOf autumn 4078800897 (pos 3356) 9600000000) (empty 8 S.Tai)
+    (dateBy receiptIgnored elapsed time autumn 4078800897 (pos 3356) 9600000000) (answered S.Tai (pos 3161) 80384000000)
 unfolding dateOf accepted clock inWindow covers
-receipt-ignored = (refl, refl, apart (λ e. omega arith))
+receipt-ignored = (refl, refl, byNumber (λ e. omega arith))
 
 -- the elapsed count from 0 to 2^32 - 1: the tick before the reference is refused
 abbrev unsigned : ℕ → ℕ → ℤ
 unsigned t r = pos (modZ (subℕ t r) 4294967296)
 
 pub count-unsigned :
-    ShutOut (dateOf (marked 10) 4294967294 (pos 0) 0) (dated S.Tai (answer (at (negsuc 0) 86399996093)))
-    (dateBy inForce unsigned time (marked 10) 4294967294 (pos 0) 0) (dated S.Tai (refused 8))
+    ShutOut (dateOf (marked 10) 4294967294 (pos 0) 0) (answered S.Tai (negsuc 0) 86399996093)
+    (dateBy inForce unsigned time (marked 10) 4294967294 (pos 0) 0) (empty 8 S.Tai)
 unfolding dateOf accepted clock inWindow covers
-count-unsigned = (refl, refl, apart (λ e. omega arith))
+count-unsigned = (refl, refl, byNumber (λ e. omega arith))
 
 -- a negative elapsed time rounded towards zero: marked case 8's tick before the reference takes away 3,906 and not 3,907
 abbrev towardsZero : Correlation → ℤ → ℤ
@@ -63,8 +61,8 @@ towardsZero c (pos k) = time c (pos k)
 towardsZero c (negsuc k) = instant (c .scale) (c .day) (c .micro) -ℤ pos (suc k * c .period / 1000000)
 
 pub rounded-towards-zero :
-    ShutOut (dateOf (marked 10) 4294967294 (pos 0) 0) (dated S.Tai (answer (at (negsuc 0) 86399996093)))
-    (dateBy inForce elapsed towardsZero (marked 10) 4294967294 (pos 0) 0) (dated S.Tai (answer (at (negsuc 0) 86399996094)))
+    ShutOut (dateOf (marked 10) 4294967294 (pos 0) 0) (answered S.Tai (negsuc 0) 86399996093)
+    (dateBy inForce elapsed towardsZero (marked 10) 4294967294 (pos 0) 0) (answered S.Tai (negsuc 0) 86399996094)
 unfolding dateOf accepted clock inWindow covers
 rounded-towards-zero = (refl, refl, differ (λ (s : Slip). s .micro) (λ e. omega arith))
 
@@ -78,10 +76,10 @@ swapped c k z =
     (record { tick = c .tick; scale = c .scale; day = c .day; micro = c .micro; period = c .period; back = c .ahead; ahead = c .back }) k z
 
 pub ends-swapped :
-    ShutOut (dateOf ahead 0 (pos 0) 3906) (dated S.Tai (answer (at (pos 0) 3906)))
-    (dateBy swapped elapsed time ahead 0 (pos 0) 3906) (dated S.Tai (refused 8))
+    ShutOut (dateOf ahead 0 (pos 0) 3906) (answered S.Tai (pos 0) 3906)
+    (dateBy swapped elapsed time ahead 0 (pos 0) 3906) (empty 8 S.Tai)
 unfolding dateOf accepted clock inWindow covers
-ends-swapped = (refl, refl, apart (λ e. omega arith))
+ends-swapped = (refl, refl, byNumber (λ e. omega arith))
 
 -- ---- tick_of
 apart-ticks : {x y : TickSlip} → (x .number ≡ y .number → ⊥) → x ≡ y → ⊥

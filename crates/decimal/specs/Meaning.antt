@@ -75,8 +75,12 @@ nearest z c = floorZ (z *ℤ pos 2 +ℤ pos c) (c * 2)
 abbrev pub microsOf : Exact → ℤ
 microsOf v = nearest (signedOver v *ℤ pos dayMicros) (under v)
 
-abbrev pub momentOf : Float → Moment
-momentOf x = record { day = floorZ (microsOf (exactOf x)) dayMicros; micro = modZ (microsOf (exactOf x)) dayMicros }
+-- the day and the microsecond of day of a count of microseconds since day 0, every day having 86,400 s
+abbrev pub momentOf : ℤ → Moment
+momentOf c = record { day = floorZ c dayMicros; micro = modZ c dayMicros }
+
+abbrev pub nearestMoment : Float → Moment
+nearestMoment x = momentOf (microsOf (exactOf x))
 
 -- ---- "A caller hands in either a record or a decimal day, an f64 with a scale"
 abbrev pub scaleOf : Handed → Scale
@@ -93,11 +97,11 @@ isInSpan (H.Decimal x s) = spans s (exactOf x)
 
 abbrev pub dayOf : Handed → ℤ
 dayOf (H.Record r) = r .day
-dayOf (H.Decimal x s) = momentOf x .day
+dayOf (H.Decimal x s) = nearestMoment x .day
 
 abbrev pub microOf : Handed → ℕ
 microOf (H.Record r) = r .micro
-microOf (H.Decimal x s) = momentOf x .micro
+microOf (H.Decimal x s) = nearestMoment x .micro
 
 -- ---- taken apart: not finite, outside its span, or a typed count
 unfoldable pub takenOf : Handed → Taken
@@ -123,7 +127,7 @@ abbrev pub reading : Float → Scale → Judged Moment
 reading x s =
     given (finite x) 4
     (given (spans s (exactOf x)) 7
-    (gives (momentOf x)))
+    (gives (nearestMoment x)))
 
 unfoldable pub readOf : Float → Scale → Slip
 readOf x s = dated s (outcome (reading x s))

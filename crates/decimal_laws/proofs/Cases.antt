@@ -8,15 +8,14 @@ use Prim.Native.Nat.{ℕ, _*_, _^_, _≤_}
 use lib.Dec.{lit<, lit≤}
 use lib.IntN.{ℤ, pos, negsuc}
 use lib.Ieee.{Float, fin, binary64, ofBits, fits}
-use Rattle.scales.specs.Meaning.{order, numbers, standsIn, Slip, slip, timeAt, recordOf}
+use Rattle.scales.specs.Meaning.{Slip, slip, timeAt, recordOf}
 use Rattle.scales.specs.Place.{Placed}
 use Rattle.scales.specs.declared.Scale.{Scale}
 use Rattle.scales.specs.declared.Scale.the-variants as S
 use Rattle.scales.specs.declared.Refusal.the-variants as R
 use Rattle.scales.specs.declared.Dated.the-variants as A
-use Rattle.scales.specs.declared.Handed.{Handed}
 use Rattle.scales.specs.declared.Handed.the-variants as H
-use Rattle.decimal.specs.Meaning.{dayMicros, exactOf, isFinite, isInSpan, takenOf, Took, reading, readOf, writing, plusZero, WroteDay}
+use Rattle.decimal.specs.Meaning.{dayMicros, exactOf, isFinite, isInSpan, takenOf, Took, readOf, plusZero, WroteDay}
 use Rattle.decimal.specs.Told.{took-one, told-nothing, told-outside, told-at, handed-placed}
 use Rattle.decimal.specs.declared.Decimal.the-variants as D
 use Rattle.decimal.specs.declared.Taken.the-variants as K
@@ -24,13 +23,6 @@ use Rattle.decimal_laws.specs.Meaning.{off, less}
 use Rattle.decimal_laws.proofs.Unique.{wrote-one}
 use Rattle.decimal_laws.proofs.Nearer.{no-nearer}
 use Rattle.decimal_laws.proofs.Trip.{trip, later}
-
--- ---- the numbers of both chains stand in the slip's order
-pub reading-in-order : (x : Float) (s : Scale) → standsIn (numbers (reading x s)) order ≡ true
-reading-in-order x s = refl
-
-pub writing-in-order : (h : Handed) → standsIn (numbers (writing h)) order ≡ true
-writing-in-order h = refl
 
 -- ---- readings: the bits of a double, a scale, and what is handed back
 pub record Case : Type 0 where

@@ -8,23 +8,10 @@ use lib.Dec.{lit<}
 use lib.IntN.{ℤ, pos, negsuc, subℕ, natAbs, _+ℤ_, _-ℤ_, _*ℤ_}
 use lib.Ieee.{Float}
 use lib.Pow.{pow-pos}
-use Rattle.axis.specs.Diff.{is-pos, is-negsuc, neg-pos, sub-pos, sub-neg, sub-mul, sub-add, sub-negate, Way, way, below, above}
+use Rattle.axis.specs.Diff.{is-pos, neg-pos, sub-pos, sub-neg, sub-mul, sub-add, sub-negate, Way, way, below, above}
 use Rattle.decimal.specs.Meaning.{dayMicros, signed, Exact, exactOf, over, under, apart, Nearest, plusZero, DayOf}
 use Rattle.decimal.specs.Signs.{under-pos}
 use Rattle.decimal_laws.specs.Meaning.{off}
-
--- ---- a whole number as a difference
-abbrev pub ahead : ℤ → ℕ
-ahead (pos n) = n
-ahead (negsuc n) = 0
-
-abbrev pub behind : ℤ → ℕ
-behind (pos n) = 0
-behind (negsuc n) = suc n
-
-pub parts : (z : ℤ) → z ≡ subℕ (ahead z) (behind z)
-parts (pos n) = is-pos n
-parts (negsuc n) = is-negsuc n
 
 abs-sub : (a b : ℕ) → natAbs (subℕ a b) ≡ apart a b
 abs-sub a b = go (way a b)

@@ -13,7 +13,7 @@ use lib.Ieee.{Float, fin, binary64, fits}
 use borrow.Author.Tests.{lt-ltb, le-ltb, ltb-true}
 use Rattle.axis.specs.Meaning.{placeOfDay, dayAt, microsAt, floorZ}
 use Rattle.axis.specs.Axis.{day-place, micros-day, micros-left}
-use Rattle.axis.specs.Diff.{is-pos, is-negsuc, sub-eq, sub-inj, sub-mul, sub-add, sub-lt, sub-floor}
+use Rattle.axis.specs.Diff.{is-pos, is-negsuc, sub-eq, sub-inj, sub-mul, sub-add, sub-lt, sub-floor, up, down, parts}
 use Rattle.scales.specs.Meaning.{first, inSpan, dated, refused, answer, slip, Moment, recordOf}
 use Rattle.scales.specs.Place.{firstAt, apart, Placed, placed, day-part, micro-part}
 use Rattle.scales.specs.declared.Scale.{Scale}
@@ -21,12 +21,12 @@ use Rattle.scales.specs.declared.Scale.the-variants as S
 use Rattle.scales.specs.declared.Record.{Record}
 use Rattle.scales.specs.declared.Dated.the-variants as A
 use Rattle.scales.specs.declared.Handed.the-variants as H
-use Rattle.decimal.specs.Meaning.{dayMicros, Exact, exactOf, under, signedOver, finite, before, spans, microsOf, momentOf, since, readOf, DayOf, decimalSlip, Allowed, WroteDay}
+use Rattle.decimal.specs.Meaning.{dayMicros, Exact, exactOf, under, signedOver, finite, before, spans, microsOf, nearestMoment, since, readOf, DayOf, decimalSlip, Allowed, WroteDay}
 use Rattle.decimal.specs.Signs.{under-pos, double-pos}
 use Rattle.decimal.specs.declared.Decimal.the-variants as D
 use Rattle.decimal.proofs.Image.{since-at}
 use Rattle.decimal_laws.specs.Meaning.{off, less, Sooner}
-use Rattle.decimal_laws.proofs.Distance.{ahead, behind, parts, off-sub, close}
+use Rattle.decimal_laws.proofs.Distance.{off-sub, close}
 use Rattle.decimal_laws.proofs.Nearer.{exact-day}
 
 -- ---- the whole part of a difference, by its two ends
@@ -41,10 +41,10 @@ floor-is A B m P Q M lo hi =
 -- ---- the value v lies less than half a microsecond from the place n of the axis
 module _ (v : Exact) (n : ℕ) where
   abbrev a : ℕ
-  a = ahead (signedOver v)
+  a = up (signedOver v)
 
   abbrev b : ℕ
-  b = behind (signedOver v)
+  b = down (signedOver v)
 
   abbrev c : ℕ
   c = under v
@@ -169,7 +169,7 @@ module _ (s : Scale) (d : ℤ) (u : ℕ) (x : Float) (w : Placing s d u x) where
           let f = first-double s in
           exact-day (microsAt (placeAt d u)) x (f .x) (w .day) (f .double) (f .ends) (ap (λ (m : ℕ). off (microsAt m) dayMicros (exactOf (f .x))) (sym e) ∙ f .here)
 
-  moment : momentOf x ≡ record { day = d; micro = u }
+  moment : nearestMoment x ≡ record { day = d; micro = u }
   moment =
       rw (micros-at (exactOf x) (placeAt d u) near, micros-day (placeAt d u), micros-left (placeAt d u), day-part dayMicros (placeOfDay d) u (w .image), micro-part dayMicros (placeOfDay d) u (w .image), w .back)
 

@@ -21,6 +21,7 @@ use Rattle.decimal.specs.declared.Decimal.the-variants as D
 use Rattle.decimal.specs.declared.Taken.{Taken}
 use Rattle.decimal.specs.declared.Taken.the-variants as K
 use Rattle.decimal_laws.proofs.Unique.{wrote-one}
+use Rattle.ground_laws.proofs.Desks.{answered, empty, byNumber, byMicro}
 
 -- ---- read: a desk with another nearest microsecond
 abbrev desk : (Scale → Exact → Bool) → (Exact → ℤ) → Float → Scale → Slip
@@ -28,21 +29,12 @@ desk test micros x s =
     dated s (outcome (given (finite x) 4 (given (test s (exactOf x)) 7
     (gives (record { day = floorZ (micros (exactOf x)) dayMicros; micro = modZ (micros (exactOf x)) dayMicros })))))
 
-abbrev slipAt : ℕ → Scale → ℤ → ℕ → Slip
-slipAt n s d u = record { number = n; scale = s; day = d; micro = u }
-
-byMicro : {x y : Slip} → (x .micro ≡ y .micro → ⊥) → x ≡ y → ⊥
-byMicro d e = differ (λ (t : Slip). t .micro) d e
-
-byNumber : {x y : Slip} → (x .number ≡ y .number → ⊥) → x ≡ y → ⊥
-byNumber d e = differ (λ (t : Slip). t .number) d e
-
 -- ties to the earlier: 2 ^ -14 days are 5,273,437.5 microseconds
 abbrev tieEarlier : Exact → ℤ
 tieEarlier v = negℤ (nearest (negℤ (signedOver v *ℤ pos dayMicros)) (under v))
 
 pub read-tie-earlier :
-    ShutOut (readOf (fin false 1 (negsuc 13)) S.Tai) (slipAt 0 S.Tai (pos 0) 5273438) (desk spans tieEarlier (fin false 1 (negsuc 13)) S.Tai) (slipAt 0 S.Tai (pos 0) 5273437)
+    ShutOut (readOf (fin false 1 (negsuc 13)) S.Tai) (answered S.Tai (pos 0) 5273438) (desk spans tieEarlier (fin false 1 (negsuc 13)) S.Tai) (answered S.Tai (pos 0) 5273437)
 unfolding readOf
 read-tie-earlier = (refl, refl, byMicro (λ e. omega arith))
 
@@ -51,7 +43,7 @@ abbrev truncated : Exact → ℤ
 truncated v = signed (v .minus) (over v * dayMicros / under v)
 
 pub read-truncated :
-    ShutOut (readOf (fin false 1 (negsuc 14)) S.Tai) (slipAt 0 S.Tai (pos 0) 2636719) (desk spans truncated (fin false 1 (negsuc 14)) S.Tai) (slipAt 0 S.Tai (pos 0) 2636718)
+    ShutOut (readOf (fin false 1 (negsuc 14)) S.Tai) (answered S.Tai (pos 0) 2636719) (desk spans truncated (fin false 1 (negsuc 14)) S.Tai) (answered S.Tai (pos 0) 2636718)
 unfolding readOf
 read-truncated = (refl, refl, byMicro (λ e. omega arith))
 
@@ -60,7 +52,7 @@ abbrev signFirst : Float → Scale → Slip
 signFirst x s = record { number = 0; scale = s; day = cond (exactOf x .minus) (negsuc (natAbs (microsOf (exactOf x)) / dayMicros)) (floorZ (microsOf (exactOf x)) dayMicros); micro = modZ (microsOf (exactOf x)) dayMicros }
 
 pub read-minus-zero :
-    ShutOut (readOf (fin true 0 (pos 0)) S.Tai) (slipAt 0 S.Tai (pos 0) 0) (signFirst (fin true 0 (pos 0)) S.Tai) (slipAt 0 S.Tai (negsuc 0) 0)
+    ShutOut (readOf (fin true 0 (pos 0)) S.Tai) (answered S.Tai (pos 0) 0) (signFirst (fin true 0 (pos 0)) S.Tai) (answered S.Tai (negsuc 0) 0)
 unfolding readOf
 read-minus-zero = (refl, refl, differ (λ (t : Slip). natAbs (t .day)) (λ e. omega arith))
 
@@ -69,12 +61,12 @@ abbrev roundedFirst : Scale → Exact → Bool
 roundedFirst s v = inSpan s (floorZ (microsOf v) dayMicros) (modZ (microsOf v) dayMicros)
 
 pub read-rounded-first :
-    ShutOut (readOf (fin true 5622352708632577 (negsuc 38)) S.Tai) (slipAt 7 S.Tai (pos 0) 0) (desk roundedFirst microsOf (fin true 5622352708632577 (negsuc 38)) S.Tai) (slipAt 0 S.Tai (negsuc 10226) 0)
+    ShutOut (readOf (fin true 5622352708632577 (negsuc 38)) S.Tai) (empty 7 S.Tai) (desk roundedFirst microsOf (fin true 5622352708632577 (negsuc 38)) S.Tai) (answered S.Tai (negsuc 10226) 0)
 unfolding readOf
 read-rounded-first = (refl, refl, byNumber (λ e. omega arith))
 
 -- the empty record always of TAI
-pub read-empty-tai : ShutOut (readOf (inf false) S.Gps) (slipAt 4 S.Gps (pos 0) 0) (desk spans microsOf (inf false) S.Tai) (slipAt 4 S.Tai (pos 0) 0)
+pub read-empty-tai : ShutOut (readOf (inf false) S.Gps) (empty 4 S.Gps) (desk spans microsOf (inf false) S.Tai) (empty 4 S.Tai)
 unfolding readOf
 read-empty-tai = (refl, refl, differ (λ (t : Slip). code (t .scale)) (λ e. omega arith))
   where
@@ -87,7 +79,7 @@ read-empty-tai = (refl, refl, differ (λ (t : Slip). code (t .scale)) (λ e. ome
 abbrev sevenForAll : Float → Scale → Slip
 sevenForAll x s = dated s (outcome (given (finite x) 7 (gives (record { day = pos 0; micro = 0 }))))
 
-pub read-seven : ShutOut (readOf nan S.Tai) (slipAt 4 S.Tai (pos 0) 0) (sevenForAll nan S.Tai) (slipAt 7 S.Tai (pos 0) 0)
+pub read-seven : ShutOut (readOf nan S.Tai) (empty 4 S.Tai) (sevenForAll nan S.Tai) (empty 7 S.Tai)
 unfolding readOf
 read-seven = (refl, refl, byNumber (λ e. omega arith))
 

@@ -1,29 +1,50 @@
--- Wrong desks over the kind of answer, a time or a writing, for every function that answers so. Assumes nothing.
+-- What is handed back, a time or a writing, by its numbers, and wrong desks over either, for every function that answers so.
+-- Assumes nothing.
+use mathlib.Core.Path.{_≡_}
 use mathlib.Core.List.{List, _∷_, _++_}
 use Prim.Native.Nat.{ℕ, _+_, _-_}
-use lib.IntN.{pos}
+use lib.IntN.{ℤ, pos}
 use lib.ListN.{length, take, drop, getD, replicate}
+use Rattle.evidence.specs.ShutOut.{differ}
 use Rattle.scales.specs.Meaning.{refused, answer, Slip, dated, Wrote}
 use Rattle.scales.specs.declared.Scale.{Scale}
 
 -- ---- times
+abbrev pub answered : Scale → ℤ → ℕ → Slip
+answered s d u = dated s (answer (record { day = d; micro = u }))
+
+-- the number and the empty record
+abbrev pub empty : ℕ → Scale → Slip
+empty n s = dated s (refused n)
+
+pub byNumber : {x y : Slip} → (x .number ≡ y .number → ⊥) → x ≡ y → ⊥
+byNumber d e = differ (λ (t : Slip). t .number) d e
+
+pub byMicro : {x y : Slip} → (x .micro ≡ y .micro → ⊥) → x ≡ y → ⊥
+byMicro d e = differ (λ (t : Slip). t .micro) d e
+
 -- the desk that refuses all
 abbrev pub refusesAll : Scale → Slip
-refusesAll s = dated s (refused 7)
+refusesAll s = empty 7 s
 
 -- the desk that answers day 0 for everything
 abbrev pub dayZero : Scale → Slip
-dayZero s = dated s (answer (record { day = pos 0; micro = 0 }))
+dayZero s = answered s (pos 0) 0
 
 -- ---- writings
 abbrev pub got : ℕ → List ℕ → Wrote
 got n out = record { number = 0; length = n; bytes = out }
 
-abbrev pub not : ℕ → List ℕ → Wrote
-not n out = record { number = n; length = 0; bytes = out }
+-- a refusal, which keeps every byte
+abbrev pub keeps : ℕ → List ℕ → Wrote
+keeps n out = record { number = n; length = 0; bytes = out }
 
 abbrev pub bytesAt : ℕ → Wrote → ℕ
 bytesAt k w = getD (w .bytes) k 0
+
+-- what is lent, so that a byte that was written shows
+abbrev pub sevens : ℕ → List ℕ
+sevens n = replicate n 7
 
 -- the desk that writes nothing, and answers as if it had
 abbrev pub writesNothing : List ℕ → Wrote → Wrote

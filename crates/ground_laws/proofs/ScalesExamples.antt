@@ -6,7 +6,7 @@ use mathlib.Core.List.{List, [], _∷_}
 use Prim.Native.Nat.{ℕ}
 use lib.Dec.{lit<}
 use lib.IntN.{ℤ, pos, negsuc}
-use Rattle.scales.specs.Meaning.{inSpan, given, gives, refused, outcome, numbers, order, standsIn, momentAt, recordAt, recordOf, spanning, spanned, timeAt}
+use Rattle.scales.specs.Meaning.{inSpan, given, gives, refused, outcome, order, standsIn, momentAt, recordAt, recordOf, spanned, timeAt}
 use Rattle.scales.specs.Order.{Refuses, is-refuses, Answers, is-answers}
 use Rattle.scales.specs.Place.{placed, in-span, out-early, out-late, out-over, moment-of, countOf}
 use Rattle.scales.specs.Counts.{typed-at, typed-no, timed-at}
@@ -53,9 +53,6 @@ thirteen = refl
 -- 7 before 4 is out of order, and so is a number that the slip lacks
 pub out-of-order : (standsIn (7 ∷ 4 ∷ []) order ≡ false) × (standsIn (0 ∷ []) order ≡ false)
 out-of-order = (refl, refl)
-
-pub spanning-in-order : (s : Scale) (d : ℤ) (u : ℕ) → standsIn (numbers (spanning s d u)) order ≡ true
-spanning-in-order s d u = refl
 
 -- of two tests that fail the first is given
 pub first-applies : outcome {A = ℕ} (given true 1 (given false 4 (given false 7 (gives 0)))) ≡ refused 4

@@ -1,5 +1,5 @@
 -- Wrong programs for the paper's words, each shut out by an input at which its answer is not the meaning's. Assumes nothing.
-use mathlib.Core.Path.{_≡_, refl}
+use mathlib.Core.Path.{refl}
 use mathlib.Core.Bool.{Bool, cond, _&&_}
 use Prim.Native.Nat.{ℕ, _+_, _-_, _/_, _%_}
 use native.Mathlib.Omega.{arith}
@@ -15,7 +15,7 @@ use Rattle.scales.specs.declared.Refusal.{Refusal}
 use Rattle.scales.specs.declared.Refusal.the-variants as R
 use Rattle.scales.specs.declared.Record.{Record}
 use Rattle.scales.specs.declared.Time.{Time}
-use Rattle.ground_laws.proofs.Desks.{refusesAll, dayZero}
+use Rattle.ground_laws.proofs.Desks.{answered, empty, byNumber, byMicro, refusesAll, dayZero}
 
 -- ---- Scale::code
 -- the codes counted from 1
@@ -51,22 +51,13 @@ number-swapped = (refl, refl, λ e. omega arith)
 abbrev desk : (Scale → ℤ → ℕ → Bool) → ℕ → Scale → ℤ → ℕ → Slip
 desk test n s d u = dated s (outcome (given (test s d u) n (gives (record { day = d; micro = u }))))
 
-abbrev answered : Scale → ℤ → ℕ → Slip
-answered s d u = record { number = 0; scale = s; day = d; micro = u }
-
-abbrev empty : ℕ → Scale → Slip
-empty n s = record { number = n; scale = s; day = pos 0; micro = 0 }
-
-apart : {x y : Slip} → (x .number ≡ y .number → ⊥) → x ≡ y → ⊥
-apart d e = differ (λ (t : Slip). t .number) d e
-
 -- one day more
 abbrev oneDayMore : Scale → ℤ → ℕ → Bool
 oneDayMore s d u = leZ (first s) d && (leZ d (pos 36525) && ltb u (bound s))
 
 pub span-one-day-more : ShutOut (spanned S.Tai (pos 36525) 0) (empty 7 S.Tai) (desk oneDayMore 7 S.Tai (pos 36525) 0) (answered S.Tai (pos 36525) 0)
 unfolding spanned
-span-one-day-more = (refl, refl, apart (λ e. omega arith))
+span-one-day-more = (refl, refl, byNumber (λ e. omega arith))
 
 -- the bound itself taken
 abbrev boundTaken : Scale → ℤ → ℕ → Bool
@@ -74,7 +65,7 @@ boundTaken s d u = leZ (first s) d && (leZ d (last s) && leb u (bound s))
 
 pub span-bound-taken : ShutOut (spanned S.Tai (pos 0) 86400000000) (empty 7 S.Tai) (desk boundTaken 7 S.Tai (pos 0) 86400000000) (answered S.Tai (pos 0) 86400000000)
 unfolding spanned
-span-bound-taken = (refl, refl, apart (λ e. omega arith))
+span-bound-taken = (refl, refl, byNumber (λ e. omega arith))
 
 -- one first day for all scales
 abbrev oneFirstDay : Scale → ℤ → ℕ → Bool
@@ -82,7 +73,7 @@ oneFirstDay s d u = leZ (first S.Tai) d && (leZ d (last s) && ltb u (bound s))
 
 pub span-one-first-day : ShutOut (spanned S.Gps (negsuc 7300) 0) (empty 7 S.Gps) (desk oneFirstDay 7 S.Gps (negsuc 7300) 0) (answered S.Gps (negsuc 7300) 0)
 unfolding spanned
-span-one-first-day = (refl, refl, apart (λ e. omega arith))
+span-one-first-day = (refl, refl, byNumber (λ e. omega arith))
 
 -- no second 60 in UTC
 abbrev noSixty : Scale → ℤ → ℕ → Bool
@@ -90,12 +81,12 @@ noSixty s d u = leZ (first s) d && (leZ d (last s) && ltb u 86400000000)
 
 pub span-no-sixty : ShutOut (spanned S.Utc (pos 6209) 86400000000) (answered S.Utc (pos 6209) 86400000000) (desk noSixty 7 S.Utc (pos 6209) 86400000000) (empty 7 S.Utc)
 unfolding spanned
-span-no-sixty = (refl, refl, apart (λ e. omega arith))
+span-no-sixty = (refl, refl, byNumber (λ e. omega arith))
 
 -- another number
 pub span-eleven : ShutOut (spanned S.Utc (pos 36525) 0) (empty 7 S.Utc) (desk oneFirstDay 11 S.Utc (pos 36525) 0) (empty 11 S.Utc)
 unfolding spanned
-span-eleven = (refl, refl, apart (λ e. omega arith))
+span-eleven = (refl, refl, byNumber (λ e. omega arith))
 
 -- a refusal that hands back what was handed in
 abbrev handsBack : Scale → ℤ → ℕ → Slip
@@ -103,20 +94,20 @@ handsBack s d u = record { number = 7; scale = s; day = d; micro = u }
 
 pub span-hands-back : ShutOut (spanned S.Tai (pos 36525) 5) (empty 7 S.Tai) (handsBack S.Tai (pos 36525) 5) (record { number = 7; scale = S.Tai; day = pos 36525; micro = 5 })
 unfolding spanned
-span-hands-back = (refl, refl, differ (λ (t : Slip). t .micro) (λ e. omega arith))
+span-hands-back = (refl, refl, byMicro (λ e. omega arith))
 
 -- the desk that refuses all, and the one that answers day 0 for everything, in each scale
 pub refuses-all : (s : Scale) → ShutOut (spanned s (pos 5) 7) (answered s (pos 5) 7) (refusesAll s) (empty 7 s)
 unfolding spanned
-refuses-all S.Tai = (refl, refl, apart (λ e. omega arith))
-refuses-all S.Utc = (refl, refl, apart (λ e. omega arith))
-refuses-all S.Gps = (refl, refl, apart (λ e. omega arith))
+refuses-all S.Tai = (refl, refl, byNumber (λ e. omega arith))
+refuses-all S.Utc = (refl, refl, byNumber (λ e. omega arith))
+refuses-all S.Gps = (refl, refl, byNumber (λ e. omega arith))
 
 pub day-zero : (s : Scale) → ShutOut (spanned s (pos 5) 7) (answered s (pos 5) 7) (dayZero s) (answered s (pos 0) 0)
 unfolding spanned
-day-zero S.Tai = (refl, refl, differ (λ (t : Slip). t .micro) (λ e. omega arith))
-day-zero S.Utc = (refl, refl, differ (λ (t : Slip). t .micro) (λ e. omega arith))
-day-zero S.Gps = (refl, refl, differ (λ (t : Slip). t .micro) (λ e. omega arith))
+day-zero S.Tai = (refl, refl, byMicro (λ e. omega arith))
+day-zero S.Utc = (refl, refl, byMicro (λ e. omega arith))
+day-zero S.Gps = (refl, refl, byMicro (λ e. omega arith))
 
 -- every record judged as one of TAI
 abbrev judgedTai : Scale → ℤ → ℕ → Slip
@@ -124,7 +115,7 @@ judgedTai s d u = spanned S.Tai d u
 
 pub span-judged-tai : ShutOut (spanned S.Utc (pos 6209) 86400000000) (answered S.Utc (pos 6209) 86400000000) (judgedTai S.Utc (pos 6209) 86400000000) (empty 7 S.Tai)
 unfolding spanned
-span-judged-tai = (refl, refl, apart (λ e. omega arith))
+span-judged-tai = (refl, refl, byNumber (λ e. omega arith))
 
 -- ---- Time::scale
 -- every time TAI

@@ -1,7 +1,7 @@
 -- Chains of tests one after the other, what an answer tells of its chain, and the ways out of readers and writers of times.
 -- Assumes nothing.
 use mathlib.Core.Path.{_≡_, sym, ap, _∙_}
-use mathlib.Core.Bool.{Bool, true, false, _&&_}
+use mathlib.Core.Bool.{Bool, true, false}
 use mathlib.Core.List.{List}
 use Prim.Native.Nat.{ℕ}
 use native.Mathlib.Omega.{arith}
@@ -12,7 +12,7 @@ use Rattle.scales.specs.Meaning.{andThen, Judged, given, gives, refused, answer
 use Rattle.scales.specs.Place.{and-both}
 use Rattle.scales.specs.Same.{some as is-some}
 use Rattle.scales.specs.declared.Scale.{Scale}
-use Rattle.scales.specs.Order.{onward, then-is}
+use Rattle.scales.specs.Order.{onward, then-is, numbered}
 use Rattle.scales.specs.declared.Refusal.{Refusal}
 use Rattle.scales.specs.declared.Dated.the-variants as D
 use Rattle.scales.specs.declared.Written.the-variants as W
@@ -27,11 +27,7 @@ module _ {A B : Type 0} (f : A → Judged B) where
   pub then-answer : (j : Judged A) (a : A) → outcome j ≡ answer a → outcome (andThen j f) ≡ outcome (f a)
   then-answer j a e = then-is j f ∙ ap (onward f) e
 
--- ---- no refusal of the chain has the number 0, which an answer has
-abbrev pub numbered : {A : Type 0} → Judged A → Bool
-numbered (given t n rest) = ltb 0 n && numbered rest
-numbered (gives a) = true
-
+-- ---- what a slip tells of its chain
 module _ {A : Type 0} (z : A) where
   pub told-answer : (j : Judged A) → numbered j ≡ true → (a : A) → slipOf z (some a) ≡ valued z (outcome j) → outcome j ≡ answer a
   told-answer (given true m rest) p a e = told-answer rest (and-both (ltb 0 m) (numbered rest) p .1) a e

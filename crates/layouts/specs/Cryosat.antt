@@ -4,15 +4,14 @@ use mathlib.Core.List.{List}
 use Prim.Native.Nat.{ℕ, _+_, _*_, _/_, _%_}
 use lib.IntN.{ℤ, pos}
 use lib.Signed.{leZ}
-use Rattle.scales.specs.Meaning.{andThen, sameScale, Judged, given, outcome, Slip, Moment, dated, Wrote, written}
+use Rattle.scales.specs.Meaning.{andThen, sameScale, Judged, outcome, Slip, Moment, dated, Wrote, written}
 use Rattle.scales.specs.declared.Scale.{Scale}
 use Rattle.scales.specs.declared.Scale.the-variants as S
 use Rattle.scales.specs.declared.Handed.{Handed}
-use Rattle.decimal.specs.Meaning.{scaleOf, isFinite, isInSpan, dayOf, microOf}
-use Rattle.fields.specs.Meaning.{placing}
+use Rattle.decimal.specs.Meaning.{scaleOf, dayOf, microOf}
 use Rattle.fields.specs.Cryosat as F
 use Rattle.fields.specs.declared.cryosat.Fields.{Fields}
-use Rattle.layouts.specs.Meaning.{momentFrom, microsFrom, judged}
+use Rattle.layouts.specs.Meaning.{momentFrom, microsFrom, judged, imaging}
 
 abbrev pub epoch : ℤ
 epoch = pos 0
@@ -39,11 +38,7 @@ abbrev pub hasImage : Scale → ℤ → Bool
 hasImage s d = sameScale S.Tai s && leZ epoch d
 
 abbrev pub writing : Handed → List ℕ → Judged (List ℕ)
-writing h out =
-    given (isFinite h) 4
-    (given (isInSpan h) 7
-    (given (hasImage (scaleOf h) (dayOf h)) 12
-    (placing (imageAt (dayOf h) (microOf h)) out)))
+writing h out = imaging h (hasImage (scaleOf h) (dayOf h)) (imageAt (dayOf h) (microOf h)) out
 
 unfoldable pub write : Handed → List ℕ → Wrote
 write h out = written out (outcome (writing h out))

@@ -2,14 +2,13 @@
 use mathlib.Core.List.{List}
 use Prim.Native.Nat.{ℕ, _+_, _*_, _/_, _%_}
 use lib.IntN.{ℤ, negsuc}
-use Rattle.scales.specs.Meaning.{andThen, sameScale, Judged, given, outcome, Slip, Moment, dated, Wrote, written}
+use Rattle.scales.specs.Meaning.{andThen, sameScale, Judged, outcome, Slip, Moment, dated, Wrote, written}
 use Rattle.scales.specs.declared.Scale.the-variants as S
 use Rattle.scales.specs.declared.Handed.{Handed}
-use Rattle.decimal.specs.Meaning.{scaleOf, isFinite, isInSpan, dayOf, microOf}
-use Rattle.fields.specs.Meaning.{placing}
+use Rattle.decimal.specs.Meaning.{scaleOf, dayOf, microOf}
 use Rattle.fields.specs.Cuc as F
 use Rattle.fields.specs.declared.cuc.Fields.{Fields}
-use Rattle.layouts.specs.Meaning.{fractionMicros, fractionAt, momentFrom, microsFrom, judged}
+use Rattle.layouts.specs.Meaning.{fractionMicros, fractionAt, momentFrom, microsFrom, judged, imaging}
 
 abbrev pub epoch : ℤ
 epoch = negsuc 7299
@@ -32,11 +31,7 @@ abbrev pub imageAt : ℤ → ℕ → List ℕ
 imageAt d u = F.imageOf (fieldsAt (microsFrom epoch d u))
 
 abbrev pub writing : Handed → List ℕ → Judged (List ℕ)
-writing h out =
-    given (isFinite h) 4
-    (given (isInSpan h) 7
-    (given (sameScale S.Gps (scaleOf h)) 12
-    (placing (imageAt (dayOf h) (microOf h)) out)))
+writing h out = imaging h (sameScale S.Gps (scaleOf h)) (imageAt (dayOf h) (microOf h)) out
 
 unfoldable pub write : Handed → List ℕ → Wrote
 write h out = written out (outcome (writing h out))

@@ -2,11 +2,11 @@
 use mathlib.Core.Path.{_≡_, refl, sym, ap, subst, _∙_}
 use mathlib.Core.Bool.{Bool, true, false, _&&_}
 use Prim.Native.Nat.{ℕ}
-use borrow.Author.Tests.{eq-eqb, ne-eqb, eqb-true}
+use borrow.Author.Tests.{eq-eqb, ne-eqb}
 use Rattle.scales.specs.Meaning.{codeOf, sameScale, Judged, given, gives, andThen, outcome, numberOf, timeScale, timeCount}
 use Rattle.scales.specs.Order.{Answers, next, last, is-answers}
 use Rattle.scales.specs.Place.{countOf}
-use Rattle.scales.specs.Same.{scales-same}
+use Rattle.scales.specs.Same.{scales-same, same-scale}
 use Rattle.scales.specs.declared.Scale.{Scale}
 use Rattle.scales.specs.declared.Refusal.{Refusal}
 use Rattle.scales.specs.declared.Refusal.the-variants as R
@@ -85,7 +85,7 @@ module _ (s : Scale) (h : Handed) where
   pub place-in : {n : ℕ} → HeldIn n → Loose s (dayOf h) (microOf h)
   place-in d =
       subst (λ (t : Scale). Loose t (dayOf h) (microOf h))
-      (sym (scales-same s (scaleOf h) (eqb-true (codeOf s) (codeOf (scaleOf h)) (d .image)))) (d .place)
+      (sym (same-scale s (scaleOf h) (d .image))) (d .place)
 
   -- ---- a further test of the count, which refuses with 12 too
   module _ (m : ℕ) where

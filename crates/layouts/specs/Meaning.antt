@@ -1,12 +1,16 @@
 -- Times in bytes, for every layout that stands for one: the fraction rule, microseconds from a day on,
--- and a reader's tests after those of its fields. Assumes nothing.
-use mathlib.Core.Bool.{cond}
+-- a reader's tests after those of its fields, and a writer's. Assumes nothing.
+use mathlib.Core.Bool.{Bool, cond}
+use mathlib.Core.List.{List}
 use Prim.Native.Nat.{ℕ, zero, suc, _+_, _-_, _*_, _/_, _%_, _^_}
 use lib.Dec.{leb}
 use lib.IntN.{ℤ, pos, _+ℤ_}
 use Rattle.axis.specs.Meaning.{placeOfDay}
-use Rattle.scales.specs.Meaning.{Moment, Judged, spanning}
+use Rattle.scales.specs.Meaning.{Moment, Judged, given, spanning}
 use Rattle.scales.specs.declared.Scale.{Scale}
+use Rattle.scales.specs.declared.Handed.{Handed}
+use Rattle.decimal.specs.Meaning.{isFinite, isInSpan}
+use Rattle.fields.specs.Meaning.{placing}
 
 -- ---- a fraction of n bits: f stands for f / 2 ^ n seconds, as a whole microsecond
 pub data Rounding : Type 0 where
@@ -53,3 +57,11 @@ microsFrom e d u = (placeOfDay d - placeOfDay e) * 86400000000 + u
 -- "A reader's 7 is judged on the whole time that the bytes .. stand for, carry included"
 abbrev pub judged : Scale → Moment → Judged Moment
 judged s m = spanning s (m .day) (m .micro)
+
+-- ---- a writer judges the handed time, whether it has an image, and the room
+abbrev pub imaging : Handed → Bool → List ℕ → List ℕ → Judged (List ℕ)
+imaging h has image out =
+    given (isFinite h) 4
+    (given (isInSpan h) 7
+    (given has 12
+    (placing image out)))

@@ -12,11 +12,10 @@ use Rattle.scales.specs.declared.Scale.{Scale}
 use Rattle.scales.specs.declared.Scale.the-variants as S
 use Rattle.scales.specs.declared.Dated.the-variants as D
 use Rattle.scales.specs.declared.Handed.{Handed}
-use Rattle.decimal.specs.Meaning.{scaleOf, isFinite, isInSpan, dayOf, microOf}
-use Rattle.fields.specs.Meaning.{placing}
+use Rattle.decimal.specs.Meaning.{scaleOf, dayOf, microOf}
 use Rattle.fields.specs.Proteus as F
 use Rattle.fields.specs.declared.proteus.Fields.{Fields}
-use Rattle.layouts.specs.Meaning.{fractionMicros, fractionAt, momentFrom, microsFrom}
+use Rattle.layouts.specs.Meaning.{fractionMicros, fractionAt, momentFrom, microsFrom, imaging}
 use Rattle.layouts.specs.declared.proteus.ProteusDated.{ProteusDated}
 use Rattle.layouts.specs.declared.proteus.ProteusDated.the-variants as P
 
@@ -71,11 +70,7 @@ abbrev pub hasImage : Scale → ℤ → ℕ → Bool
 hasImage s d u = sameScale S.Utc s && (leZ epoch d && (leZ d (pos 21371) && ltb u 86400000000))
 
 abbrev pub writing : Handed → Bool → List ℕ → Judged (List ℕ)
-writing h b out =
-    given (isFinite h) 4
-    (given (isInSpan h) 7
-    (given (hasImage (scaleOf h) (dayOf h) (microOf h)) 12
-    (placing (imageAt (dayOf h) (microOf h) b) out)))
+writing h b out = imaging h (hasImage (scaleOf h) (dayOf h) (microOf h)) (imageAt (dayOf h) (microOf h) b) out
 
 unfoldable pub write : Handed → Bool → List ℕ → Wrote
 write h b out = written out (outcome (writing h b out))

@@ -2,14 +2,13 @@
 use mathlib.Core.List.{List}
 use Prim.Native.Nat.{ℕ, _+_, _*_, _/_, _%_}
 use lib.IntN.{ℤ}
-use Rattle.scales.specs.Meaning.{andThen, Judged, given, outcome, Slip, Moment, dated, Wrote, written}
+use Rattle.scales.specs.Meaning.{andThen, Judged, outcome, Slip, Moment, dated, Wrote, written}
 use Rattle.scales.specs.declared.Scale.the-variants as S
 use Rattle.scales.specs.declared.Handed.{Handed}
-use Rattle.decimal.specs.Meaning.{scaleOf, isFinite, isInSpan, dayOf, microOf}
-use Rattle.fields.specs.Meaning.{placing}
+use Rattle.decimal.specs.Meaning.{scaleOf, dayOf, microOf}
 use Rattle.fields.specs.Siral as F
 use Rattle.fields.specs.declared.siral.Fields.{Fields}
-use Rattle.layouts.specs.Meaning.{momentFrom, microsFrom, judged}
+use Rattle.layouts.specs.Meaning.{momentFrom, microsFrom, judged, imaging}
 use Rattle.layouts.specs.Cryosat.{epoch, hasImage}
 
 -- ---- bytes to a record: "All four are added and the whole part is taken; a carry may pass midnight"
@@ -34,11 +33,7 @@ abbrev pub imageAt : ℤ → ℕ → List ℕ
 imageAt d u = F.imageOf (fieldsAt (microsFrom epoch d u))
 
 abbrev pub writing : Handed → List ℕ → Judged (List ℕ)
-writing h out =
-    given (isFinite h) 4
-    (given (isInSpan h) 7
-    (given (hasImage (scaleOf h) (dayOf h)) 12
-    (placing (imageAt (dayOf h) (microOf h)) out)))
+writing h out = imaging h (hasImage (scaleOf h) (dayOf h)) (imageAt (dayOf h) (microOf h)) out
 
 unfoldable pub write : Handed → List ℕ → Wrote
 write h out = written out (outcome (writing h out))

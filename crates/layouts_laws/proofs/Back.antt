@@ -12,10 +12,11 @@ use borrow.Author.Tests.{eqb-true, leb-true, ltb-true, le-leb, lt-ltb}
 use Rattle.axis.specs.Meaning.{dayAt}
 use Rattle.axis.specs.Axis.{day-le}
 use Rattle.octets.specs.Field.{Bytes}
-use Rattle.scales.specs.Meaning.{answer, outcome, Slip, dated, written}
+use Rattle.scales.specs.Meaning.{answer, outcome, Slip, dated, written, Moment, inSpan, Judged, given}
 use Rattle.scales.specs.Order.{Answers, last, next, answers-is}
 use Rattle.scales.specs.Place.{and-both}
 use Rattle.scales.specs.declared.Scale.the-variants as S
+use Rattle.scales.specs.declared.Scale.{Scale}
 use Rattle.fields.specs.Meaning.{part, placing}
 use Rattle.fields.specs.Parts.{part-lt}
 use Rattle.fields.specs.Cuc as FC
@@ -26,7 +27,7 @@ use Rattle.fields.specs.declared.cuc.Fields as C
 use Rattle.fields.specs.declared.proteus.Fields as P
 use Rattle.fields.specs.declared.cryosat.Fields as Y
 use Rattle.fields.specs.declared.siral.Fields as R
-use Rattle.layouts.specs.Meaning.{rounding, fractionMicros, fractionAt, momentFrom, microsFrom}
+use Rattle.layouts.specs.Meaning.{rounding, fractionMicros, fractionAt, momentFrom, microsFrom, imaging}
 use Rattle.layouts.specs.Fraction.{below-second, same-fraction}
 use Rattle.layouts.specs.Days.{day-is, micros-moment}
 use Rattle.layouts.specs.Cuc as Cuc
@@ -56,6 +57,23 @@ module _ (x f : ℕ) (h : f < 65536) where
       go : (r : ℕ) → r < 1000000 → (x * 1000000 + r) % 1000000 ≡ r
       go r l = omega arith
 
+-- a writer's chain, from its second test on
+passed-on : {A : Type 0} {t : Bool} {n : ℕ} {rest : Judged A} {a : A} → Answers (given t n rest) a → Answers rest a
+passed-on (next t r) = r
+
+-- ---- over the layout: the fields that bytes stand for, written again from their time
+module _ {F : Type 0} (s : Scale) (p : ℕ) (microsOf : F → ℕ) (fieldsAt : ℕ → F) (imageOf : F → List ℕ) (bytes out : List ℕ) (f : F) where
+  abbrev stood : Moment
+  stood = momentFrom (dayAt p) (microsOf f)
+
+  again : inSpan s (stood .day) (stood .micro) ≡ true → fieldsAt (microsOf f) ≡ f → {has : Bool} → has ≡ true → Answers (placing (imageOf f) out) bytes →
+      outcome (imaging (recordIn (dated s (answer stood))) has (imageOf (fieldsAt (microsFrom (dayAt p) (stood .day) (stood .micro)))) out) ≡ answer bytes
+  again i e {has} h a =
+      let l = on-from s p microsOf f i in
+      let m : fieldsAt (microsFrom (dayAt p) (stood .day) (stood .micro)) ≡ f = ap fieldsAt (micros-moment p (microsOf f) (omega arith)) ∙ e in
+      answers-is {j = imaging (recordIn (dated s (answer stood))) has (imageOf (fieldsAt (microsFrom (dayAt p) (stood .day) (stood .micro)))) out}
+      (next refl (next i (next h (subst (λ (x : F). Answers (placing (imageOf x) out) bytes) (sym m) a))))
+
 -- ---- CUC
 cuc-fit : (s : List ℕ) (f : C.Fields) → Bytes s → Answers (FC.reading s) f → f .fraction < 65536
 cuc-fit s f b (next e last) = let l : length s ≡ 6 = eqb-true (length s) 6 e in part-lt s 4 2 (omega arith) b
@@ -65,16 +83,11 @@ unfolding Cuc.read Cuc.write
 cuc-again s out b e h =
     let z = read-as S.Gps 32700 Cuc.microsOf (FC.reading s) refl e in
     let f = z .fields in
-    let n = Cuc.microsOf f in
-    let l = on-from S.Gps 32700 Cuc.microsOf f (z .inside) in
     let k = cuc-fit s f b (z .answers) in
-    let g : Cuc.fieldsAt n ≡ f = λ i. record { seconds = second-back (f .seconds) (f .fraction) k i; fraction = fraction-back (f .seconds) (f .fraction) k i } in
-    let m : Cuc.fieldsAt (microsFrom Cuc.epoch (momentFrom Cuc.epoch n .day) (momentFrom Cuc.epoch n .micro)) ≡
-    f = ap Cuc.fieldsAt (micros-moment 32700 n (omega arith)) ∙ g in
+    let g : Cuc.fieldsAt (Cuc.microsOf f) ≡ f =
+    λ i. record { seconds = second-back (f .seconds) (f .fraction) k i; fraction = fraction-back (f .seconds) (f .fraction) k i } in
     ap (λ (t : Slip). written out (outcome (Cuc.writing (recordIn t) out))) (reads S.Gps 32700 Cuc.microsOf (z .answers) (z .inside))
-    ∙ ap (written out)
-    (answers-is {j = Cuc.writing (recordIn (dated S.Gps (answer (momentFrom Cuc.epoch n)))) out}
-    (next refl (next (z .inside) (next refl (subst (λ (x : C.Fields). Answers (placing (FC.imageOf x) out) s) (sym m) (cuc-back s f b (z .answers) out h))))))
+    ∙ ap (written out) (again S.Gps 32700 Cuc.microsOf Cuc.fieldsAt FC.imageOf s out f (z .inside) g refl (cuc-back s f b (z .answers) out h))
 
 -- a time from day p on is not before it, and not after day q where it ends by then
 module _ (p n : ℕ) where
@@ -127,10 +140,6 @@ module _ (f : P.Fields) (k : WeekFits f) where
       both-true (not-before 32700 (Proteus.microsOf f))
       (both-true (not-after 32700 (Proteus.microsOf f) 61371 ends) (lt-ltb (Proteus.microsOf f % 86400000000) 86400000000 (omega arith)))
 
--- the writer's chain, from the placing of the image on
-proteus-placed : (f : P.Fields) (out s : List ℕ) → Answers (FP.writing f out) s → Answers (placing (FP.imageOf f) out) s
-proteus-placed f out s (next t r) = r
-
 pub proteus-again : (s out : List ℕ) → Bytes s → Proteus.read s .slip .number ≡ 0 → length s ≤ length out →
     Proteus.write (recordIn (Proteus.read s .slip)) (Proteus.read s .h3) out ≡ written out (answer s)
 unfolding Proteus.read Proteus.write
@@ -138,15 +147,11 @@ proteus-again s out b e h =
     let z = read-as S.Utc 32700 Proteus.microsOf (FP.reading s) refl (ap (λ (t : Slip). t .number) (sym (slip-part (FP.reading s))) ∙ e) in
     let f = z .fields in
     let k = proteus-fit s f b (z .answers) in
-    let q = ends f k in
-    let m : Proteus.fieldsAt (f .h3) (microsFrom Proteus.epoch (Proteus.momentOf f .day) (Proteus.momentOf f .micro)) ≡ f =
-    ap (Proteus.fieldsAt (f .h3)) (micros-moment 32700 (Proteus.microsOf f) (omega arith)) ∙ proteus-same f k in
     ap₂ (λ (t : Slip) (x : Bool). written out (outcome (Proteus.writing (recordIn t) x out)))
     (slip-part (FP.reading s) ∙ reads S.Utc 32700 Proteus.microsOf (z .answers) (z .inside)) (h3-part (z .answers) (z .inside))
     ∙ ap (written out)
-    (answers-is {j = Proteus.writing (recordIn (dated S.Utc (answer (Proteus.momentOf f)))) (f .h3) out}
-    (next refl (next (z .inside) (next (proteus-has f k)
-    (subst (λ (x : P.Fields). Answers (placing (FP.imageOf x) out) s) (sym m) (proteus-placed f out s (proteus-back s f b (z .answers) out h)))))))
+    (again S.Utc 32700 Proteus.microsOf (Proteus.fieldsAt (f .h3)) FP.imageOf s out f (z .inside) (proteus-same f k) (proteus-has f k)
+    (passed-on (proteus-back s f b (z .answers) out h)))
 
 -- ---- CryoSat
 abbrev Limits : ℕ → ℕ → Type 0
@@ -173,36 +178,24 @@ module _ (day milli micro : ℕ) (k : Limits milli micro) where
 cryosat-fit : (s : List ℕ) (f : Y.Fields) → Answers (FY.reading s) f → Limits (f .millisecond) (f .microsecond)
 cryosat-fit s f (next e (next t last)) = limits (part s 2 4) (part s 6 2) t
 
-cryosat-placed : (f : Y.Fields) (out s : List ℕ) → Answers (FY.writing f out) s → Answers (placing (FY.imageOf f) out) s
-cryosat-placed f out s (next t r) = r
-
 pub cryosat-again : (s out : List ℕ) → Bytes s → Cryosat.read s .number ≡ 0 → length s ≤ length out → Cryosat.write (recordIn (Cryosat.read s)) out ≡ written out (answer s)
 unfolding Cryosat.read Cryosat.write
 cryosat-again s out b e h =
     let z = read-as S.Tai 40000 Cryosat.microsOf (FY.reading s) refl e in
     let f = z .fields in
-    let n = Cryosat.microsOf f in
-    let l = on-from S.Tai 40000 Cryosat.microsOf f (z .inside) in
     let k = cryosat-fit s f (z .answers) in
-    let g : Cryosat.fieldsAt n ≡ f = λ i. record {
+    let g : Cryosat.fieldsAt (Cryosat.microsOf f) ≡ f = λ i. record {
       day = day-back (f .day) (f .millisecond) (f .microsecond) k i;
       millisecond = milli-back (f .day) (f .millisecond) (f .microsecond) k i;
       microsecond = micro-back (f .day) (f .millisecond) (f .microsecond) k i;
     } in
-    let m : Cryosat.fieldsAt (microsFrom Cryosat.epoch (momentFrom Cryosat.epoch n .day) (momentFrom Cryosat.epoch n .micro)) ≡
-    f = ap Cryosat.fieldsAt (micros-moment 40000 n (omega arith)) ∙ g in
     ap (λ (t : Slip). written out (outcome (Cryosat.writing (recordIn t) out))) (reads S.Tai 40000 Cryosat.microsOf (z .answers) (z .inside))
     ∙ ap (written out)
-    (answers-is {j = Cryosat.writing (recordIn (dated S.Tai (answer (momentFrom Cryosat.epoch n)))) out}
-    (next refl (next (z .inside) (next (not-before 40000 n)
-    (subst (λ (x : Y.Fields). Answers (placing (FY.imageOf x) out) s) (sym m) (cryosat-placed f out s (cryosat-back s f b (z .answers) out h)))))))
+    (again S.Tai 40000 Cryosat.microsOf Cryosat.fieldsAt FY.imageOf s out f (z .inside) g (not-before 40000 (Cryosat.microsOf f)) (passed-on (cryosat-back s f b (z .answers) out h)))
 
 -- ---- SIRAL
 siral-fit : (s : List ℕ) (f : R.Fields) → Answers (FR.reading s) f → Limits (f .millisecond) (f .microsecond) × (f ≡ FR.fieldsOf s)
 siral-fit s f (next e (next t last)) = (limits (part s 2 4) (part s 6 2) t, refl)
-
-siral-placed : (f : R.Fields) (out s : List ℕ) → Answers (FR.writing f out) s → Answers (placing (FR.imageOf f) out) s
-siral-placed f out s (next t r) = r
 
 pub siral-again : (s out : List ℕ) → Bytes s → FR.fieldsOf s .extra ≡ 0 → Siral.read s .number ≡ 0 → length s ≤ length out →
     Siral.write (recordIn (Siral.read s)) out ≡ written out (answer s)
@@ -211,7 +204,6 @@ siral-again s out b v e h =
     let z = read-as S.Tai 40000 Siral.microsOf (FR.reading s) refl e in
     let f = z .fields in
     let n = Siral.microsOf f in
-    let l = on-from S.Tai 40000 Siral.microsOf f (z .inside) in
     let y = siral-fit s f (z .answers) in
     let k = y .0 in
     let x : f .extra ≡ 0 = ap (λ (g : R.Fields). g .extra) (y .1) ∙ v in
@@ -222,10 +214,6 @@ siral-again s out b v e h =
       microsecond = micro-back (f .day) (f .millisecond) (f .microsecond) k i;
       extra = sym x i;
     }) in
-    let m : Siral.fieldsAt (microsFrom Cryosat.epoch (momentFrom Cryosat.epoch n .day) (momentFrom Cryosat.epoch n .micro)) ≡
-    f = ap Siral.fieldsAt (micros-moment 40000 n (omega arith)) ∙ g in
     ap (λ (t : Slip). written out (outcome (Siral.writing (recordIn t) out))) (reads S.Tai 40000 Siral.microsOf (z .answers) (z .inside))
     ∙ ap (written out)
-    (answers-is {j = Siral.writing (recordIn (dated S.Tai (answer (momentFrom Cryosat.epoch n)))) out}
-    (next refl (next (z .inside) (next (not-before 40000 n)
-    (subst (λ (x : R.Fields). Answers (placing (FR.imageOf x) out) s) (sym m) (siral-placed f out s (siral-back s f b (z .answers) out h)))))))
+    (again S.Tai 40000 Siral.microsOf Siral.fieldsAt FR.imageOf s out f (z .inside) g (not-before 40000 n) (passed-on (siral-back s f b (z .answers) out h)))

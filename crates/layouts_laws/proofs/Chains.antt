@@ -10,10 +10,9 @@ use lib.Seq.{take-append-seam}
 use borrow.Author.Tests.{ltb-true}
 use Rattle.octets.specs.Field.{Bytes}
 use Rattle.scales.specs.Meaning.{Judged, given, gives, answer, outcome, Wrote, written}
-use Rattle.scales.specs.Order.{Answers, last, next, answers-is}
+use Rattle.scales.specs.Order.{Answers, last, next, answers-is, numbered}
 use Rattle.scales.specs.Place.{and-both}
 use Rattle.fields.specs.Meaning.{valued}
-use Rattle.layouts.specs.Chain.{numbered}
 use Rattle.layouts_laws.specs.Meaning.{image, Exact}
 
 pub both-true : {a b : Bool} → a ≡ true → b ≡ true → a && b ≡ true

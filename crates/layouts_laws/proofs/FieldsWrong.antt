@@ -22,7 +22,7 @@ use Rattle.fields.specs.declared.cuc.Fields as C
 use Rattle.fields.specs.declared.proteus.Fields as P
 use Rattle.fields.specs.declared.cryosat.Fields as Y
 use Rattle.fields.specs.declared.siral.Fields as R
-use Rattle.ground_laws.proofs.Desks.{got, not, bytesAt, madeUp, clearing, scribbling}
+use Rattle.ground_laws.proofs.Desks.{got, keeps, bytesAt, madeUp, clearing, scribbling}
 
 -- ---- wrong in any layout
 -- a little-endian field
@@ -58,7 +58,7 @@ pub cuc-clearing : ShutOut (Cuc.write cucFields (7 ∷ 7 ∷ 7 ∷ 7 ∷ 7 ∷ 7
 unfolding Cuc.write field
 cuc-clearing = (refl, refl, differ (bytesAt 6) (λ e. omega arith))
 
-pub cuc-scribbling : ShutOut (Cuc.write cucFields short) (not 13 short) (scribbling (Cuc.write cucFields short)) (not 13 (0 ∷ 7 ∷ 7 ∷ []))
+pub cuc-scribbling : ShutOut (Cuc.write cucFields short) (keeps 13 short) (scribbling (Cuc.write cucFields short)) (keeps 13 (0 ∷ 7 ∷ 7 ∷ []))
 unfolding Cuc.write field
 cuc-scribbling = (refl, refl, differ (bytesAt 0) (λ e. omega arith))
 
@@ -82,7 +82,7 @@ goce-any-length = (refl, refl, differ (λ (v : Valued ℕ). v .number) (λ e. om
 abbrev goceCut : ℕ → List ℕ → Wrote
 goceCut n out = written out (outcome (placing (field 6 n) out))
 
-pub goce-cut : ShutOut (Goce.write (2 ^ 48) (7 ∷ 7 ∷ 7 ∷ 7 ∷ 7 ∷ 7 ∷ [])) (not 3 (7 ∷ 7 ∷ 7 ∷ 7 ∷ 7 ∷ 7 ∷ []))
+pub goce-cut : ShutOut (Goce.write (2 ^ 48) (7 ∷ 7 ∷ 7 ∷ 7 ∷ 7 ∷ 7 ∷ [])) (keeps 3 (7 ∷ 7 ∷ 7 ∷ 7 ∷ 7 ∷ 7 ∷ []))
     (goceCut (2 ^ 48) (7 ∷ 7 ∷ 7 ∷ 7 ∷ 7 ∷ 7 ∷ [])) (got 6 (0 ∷ 0 ∷ 0 ∷ 0 ∷ 0 ∷ 0 ∷ []))
 unfolding Goce.write field
 goce-cut = (refl, refl, differ (bytesAt 0) (λ e. omega arith))
@@ -122,7 +122,7 @@ pub obet-no-marker : ShutOut (Obet.write 1 eight) (got 8 (102 ∷ 0 ∷ 0 ∷ 0 
 unfolding Obet.write field
 obet-no-marker = (refl, refl, differ (bytesAt 0) (λ e. omega arith))
 
-pub obet-scribbling : ShutOut (Obet.write (2 ^ 56) short) (not 3 short) (scribbling (Obet.write (2 ^ 56) short)) (not 3 (0 ∷ 7 ∷ 7 ∷ []))
+pub obet-scribbling : ShutOut (Obet.write (2 ^ 56) short) (keeps 3 short) (scribbling (Obet.write (2 ^ 56) short)) (keeps 3 (0 ∷ 7 ∷ 7 ∷ []))
 unfolding Obet.write field
 obet-scribbling = (refl, refl, differ (bytesAt 0) (λ e. omega arith))
 
@@ -151,7 +151,7 @@ proteus-late = (refl, refl, differ (λ (v : Valued P.Fields). v .number) (λ e. 
 abbrev proteusCut : P.Fields → List ℕ → Wrote
 proteusCut f out = Proteus.write (record { week = f .week % 4096; h3 = f .h3; second = f .second; fraction = f .fraction }) out
 
-pub proteus-cut : ShutOut (Proteus.write (record { week = 4097; h3 = false; second = 2; fraction = 3 }) eight) (not 3 eight)
+pub proteus-cut : ShutOut (Proteus.write (record { week = 4097; h3 = false; second = 2; fraction = 3 }) eight) (keeps 3 eight)
     (proteusCut (record { week = 4097; h3 = false; second = 2; fraction = 3 }) eight) (got 8 (0 ∷ 16 ∷ 0 ∷ 0 ∷ 0 ∷ 2 ∷ 0 ∷ 3 ∷ []))
 unfolding Proteus.write field
 proteus-cut = (refl, refl, differ (bytesAt 0) (λ e. omega arith))
@@ -192,7 +192,7 @@ pub cryosat-clearing : ShutOut (Cryosat.write cryosatFields (eight ++ short)) (g
 unfolding Cryosat.write field
 cryosat-clearing = (refl, refl, differ (bytesAt 8) (λ e. omega arith))
 
-pub cryosat-made-up : ShutOut (Cryosat.write cryosatFields short) (not 13 short) (madeUp (Cryosat.write cryosatFields short))
+pub cryosat-made-up : ShutOut (Cryosat.write cryosatFields short) (keeps 13 short) (madeUp (Cryosat.write cryosatFields short))
     (record { number = 13; length = 2; bytes = short })
 unfolding Cryosat.write field
 cryosat-made-up = (refl, refl, differ (λ (w : Wrote). w .length) (λ e. omega arith))
@@ -230,7 +230,7 @@ pub siral-zero : ShutOut (Siral.write siralFields (eight ++ short)) (got 10 (0 �
 unfolding Siral.write field
 siral-zero = (refl, refl, differ (bytesAt 9) (λ e. omega arith))
 
-pub siral-scribbling : ShutOut (Siral.write siralFields eight) (not 13 eight) (scribbling (Siral.write siralFields eight)) (not 13 (0 ∷ 7 ∷ 7 ∷ 7 ∷ 7 ∷ 7 ∷ 7 ∷ 7 ∷ []))
+pub siral-scribbling : ShutOut (Siral.write siralFields eight) (keeps 13 eight) (scribbling (Siral.write siralFields eight)) (keeps 13 (0 ∷ 7 ∷ 7 ∷ 7 ∷ 7 ∷ 7 ∷ 7 ∷ 7 ∷ []))
 unfolding Siral.write field
 siral-scribbling = (refl, refl, differ (bytesAt 0) (λ e. omega arith))
 
@@ -256,6 +256,6 @@ pub sbt-clearing : ShutOut (Sbt.write (record { 0 = 1 }) (7 ∷ 7 ∷ 7 ∷ 7 �
 unfolding Sbt.write field
 sbt-clearing = (refl, refl, differ (bytesAt 4) (λ e. omega arith))
 
-pub sbt-scribbling : ShutOut (Sbt.write (record { 0 = 1 }) short) (not 13 short) (scribbling (Sbt.write (record { 0 = 1 }) short)) (not 13 (0 ∷ 7 ∷ 7 ∷ []))
+pub sbt-scribbling : ShutOut (Sbt.write (record { 0 = 1 }) short) (keeps 13 short) (scribbling (Sbt.write (record { 0 = 1 }) short)) (keeps 13 (0 ∷ 7 ∷ 7 ∷ []))
 unfolding Sbt.write field
 sbt-scribbling = (refl, refl, differ (bytesAt 0) (λ e. omega arith))

@@ -13,7 +13,7 @@ use Rattle.axis.specs.Diff.{Way, way, below, above, sub-pos}
 use Rattle.axis.specs.Axis.{place-day}
 use Rattle.octets.specs.Field.{Bytes}
 use Rattle.scales.specs.Meaning.{andThen, bound, inSpan, Judged, given, gives, answer, outcome, Slip, Moment, dated}
-use Rattle.scales.specs.Order.{Answers, last, next}
+use Rattle.scales.specs.Order.{Answers, last, next, numbered}
 use Rattle.scales.specs.Place.{firstAt, apart, placed, in-span, and-both}
 use Rattle.scales.specs.declared.Scale.{Scale}
 use Rattle.scales.specs.declared.Handed.{Handed}
@@ -22,7 +22,6 @@ use Rattle.decimal.specs.Meaning.{scaleOf, isFinite, isInSpan, dayOf, microOf}
 use Rattle.decimal.specs.Told.{countIn}
 use Rattle.decimal.proofs.Ways.{kept-decimal}
 use Rattle.layouts.specs.Meaning.{momentFrom, judged}
-use Rattle.layouts.specs.Chain.{numbered}
 use Rattle.layouts.specs.Days.{day-is, place-is}
 use Rattle.layouts_laws.specs.Meaning.{Real, placeAt, LastNotLater}
 

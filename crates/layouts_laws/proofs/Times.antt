@@ -9,15 +9,15 @@ use lib.Dec.{lit<, lit≤}
 use lib.IntN.{pos}
 use lib.ListN.{length}
 use lib.Signed.{leZ}
-use borrow.Author.Tests.{eqb-true, le-leb, lt-ltb, ltb-true, leb-true}
+use borrow.Author.Tests.{eqb-true, ltb-true, leb-true}
 use Rattle.axis.specs.Meaning.{placeOfDay}
 use Rattle.axis.specs.Diff.{Way, way, below, above}
 use Rattle.axis.specs.Axis.{day-from, day-to}
 use Rattle.octets.specs.Field.{Bytes}
-use Rattle.scales.specs.Meaning.{andThen, codeOf, sameScale, inSpan, Judged, given, gives, answer, outcome, Slip, Moment, dated, written}
-use Rattle.scales.specs.Order.{Answers, last, next}
+use Rattle.scales.specs.Meaning.{andThen, sameScale, inSpan, Judged, given, gives, answer, outcome, Slip, Moment, dated, written}
+use Rattle.scales.specs.Order.{Answers, last, next, numbered}
 use Rattle.scales.specs.Place.{Placed, placed, and-both, countOf}
-use Rattle.scales.specs.Same.{scales-same}
+use Rattle.scales.specs.Same.{same-scale}
 use Rattle.scales.specs.declared.Scale.{Scale}
 use Rattle.scales.specs.declared.Scale.the-variants as S
 use Rattle.scales.specs.declared.Handed.{Handed}
@@ -33,15 +33,15 @@ use Rattle.fields.specs.declared.proteus.Fields as P
 use Rattle.layouts.specs.Meaning.{rounding, fractionMicros, fractionAt, momentFrom, microsFrom}
 use Rattle.layouts.specs.Fraction.{below-second, last-fits, last-is, never-later, last-such}
 use Rattle.layouts.specs.Days.{moment-micros}
-use Rattle.layouts.specs.Chain.{numbered}
 use Rattle.layouts.specs.Cuc as Cuc
 use Rattle.layouts.specs.Proteus as Proteus
 use Rattle.layouts.specs.Cryosat as Cryosat
 use Rattle.layouts.specs.Siral as Siral
 use Rattle.layouts_laws.specs.Meaning.{image, Real, placeAt, SameTime, LastNotLater, LastWithH3}
-use Rattle.layouts_laws.proofs.Chains.{both-true, wrought, image-is}
+use Rattle.layouts_laws.proofs.Chains.{wrought, image-is}
 use Rattle.layouts_laws.proofs.Fields.{cuc-forth, proteus-forth, cryosat-forth, siral-forth}
 use Rattle.layouts_laws.proofs.Later.{kept, readOf, last-time, reads, in-from}
+use Rattle.layouts.proofs.Ways.{proteus-limits, cryosat-limits}
 
 -- ---- seconds and a fraction
 module _ (n : ℕ) where
@@ -62,9 +62,6 @@ module _ (n : ℕ) where
           x * 1000000 + r ≤ n / 1000000 * 1000000 + fractionMicros (fractionAt (n % 1000000))
       go r a b (below l) m = omega arith
       go r a b (above l) m = omega (arith, m (omega arith))
-
-scale-is : (s t : Scale) → sameScale s t ≡ true → s ≡ t
-scale-is s t e = scales-same s t (eqb-true (codeOf s) (codeOf t) e)
 
 -- what holds of every image that a chain answers holds of the image in the slice
 of-image : (Q : List ℕ → Type 0) (out : List ℕ) (j : Judged (List ℕ)) → numbered j ≡ true → ((s : List ℕ) → Answers j s → Q s) → written out (outcome j) .number ≡ 0 →
@@ -87,7 +84,7 @@ cuc-best n t f b (next e last) m =
 cuc-of : (h : Handed) (out s : List ℕ) → Real h → Answers (Cuc.writing h out) s → LastNotLater Cuc.read h s
 unfolding Cuc.read
 cuc-of h out s r (next a (next b (next c (next d last)))) =
-    let k = scale-is S.Gps (scaleOf h) c in
+    let k = same-scale S.Gps (scaleOf h) c in
     let w = place-of S.Gps h k r a b in
     let n = microsFrom Cuc.epoch (dayOf h) (microOf h) in
     let v = w .from in
@@ -130,7 +127,7 @@ proteus-of h b out s r (next a (next i (next c (next d last)))) =
     let x = and-both (sameScale S.Utc (scaleOf h)) _ c in
     let y = and-both (leZ Proteus.epoch (dayOf h)) _ (x .1) in
     let z = and-both (leZ (dayOf h) (pos 21371)) _ (y .1) in
-    let k = scale-is S.Utc (scaleOf h) (x .0) in
+    let k = same-scale S.Utc (scaleOf h) (x .0) in
     let w = place-of S.Utc h k r a i in
     let from : 32700 ≤ placeOfDay (dayOf h) = leb-true 32700 _ (sym (day-from 32700 (dayOf h) (lit< tt) (lit≤ tt)) ∙ y .0) in
     let to : placeOfDay (dayOf h) ≤ 61371 = leb-true _ 61371 (sym (day-to 61371 (dayOf h) (lit< tt)) ∙ z .0) in
@@ -139,8 +136,7 @@ proteus-of h b out s r (next a (next i (next c (next d last)))) =
     let u : n < 2477260800000000 = omega arith in
     let f = Proteus.fieldsAt b n in
     let m : Proteus.microsOf f ≤ n = rw (weeks n) (seconds-not-later n) in
-    let lim : FP.inLimits f ≡ true = both-true (lt-ltb (n / 604800000000) 4096 (omega arith)) (le-leb (n / 1000000 % 604800) 604799 (omega arith)) in
-    let g : Answers (FP.reading s) f = proteus-forth f out s (omega arith, omega arith, fraction-lt n) (next lim (next d last)) in
+    let g : Answers (FP.reading s) f = proteus-forth f out s (omega arith, omega arith, fraction-lt n) (next (proteus-limits b n u) (next d last)) in
     let l : 32700 + n / 86400000000 ≤ 76524 = omega arith in
     record {
       time =
@@ -159,7 +155,7 @@ module _ {A : Type 0} (microsOf : A → ℕ) (h : Handed) (r : Real h) (a : isFi
   tests = and-both (sameScale S.Tai (scaleOf h)) (leZ (pos 0) (dayOf h)) c
 
   tai : S.Tai ≡ scaleOf h
-  tai = scale-is S.Tai (scaleOf h) (tests .0)
+  tai = same-scale S.Tai (scaleOf h) (tests .0)
 
   place : Placed S.Tai (dayOf h) (microOf h)
   place = place-of S.Tai h tai r a b
@@ -188,9 +184,8 @@ unfolding Cryosat.read
 cryosat-of h out s r (next a (next b (next c (next d last)))) =
     let n = microsFrom (pos 0) (dayOf h) (microOf h) in
     let u = days-below Cryosat.microsOf h r a b c in
-    let lim = both-true (lt-ltb (n % 86400000000 / 1000) 86400000 (omega arith)) (lt-ltb (n % 1000) 1000 (omega arith)) in
     whole-time Cryosat.microsOf h r a b c (FY.reading s) (Cryosat.fieldsAt n)
-    (cryosat-forth (Cryosat.fieldsAt n) out s (omega arith, omega arith, omega arith) (next lim (next d last))) (whole n)
+    (cryosat-forth (Cryosat.fieldsAt n) out s (omega arith, omega arith, omega arith) (next (cryosat-limits n) (next d last))) (whole n)
 
 pub cryosat-same : (h : Handed) (out : List ℕ) → Real h → Cryosat.write h out .number ≡ 0 → SameTime Cryosat.read h (image (Cryosat.write h out))
 unfolding Cryosat.write
@@ -201,9 +196,8 @@ unfolding Siral.read
 siral-of h out s r (next a (next b (next c (next d last)))) =
     let n = microsFrom (pos 0) (dayOf h) (microOf h) in
     let u = days-below Siral.microsOf h r a b c in
-    let lim = both-true (lt-ltb (n % 86400000000 / 1000) 86400000 (omega arith)) (lt-ltb (n % 1000) 1000 (omega arith)) in
     whole-time Siral.microsOf h r a b c (FR.reading s) (Siral.fieldsAt n)
-    (siral-forth (Siral.fieldsAt n) out s (omega arith, omega arith, omega arith, lit< tt) (next lim (next d last)))
+    (siral-forth (Siral.fieldsAt n) out s (omega arith, omega arith, omega arith, lit< tt) (next (cryosat-limits n) (next d last)))
     (no-extra (n / 86400000000 * 86400000000 + n % 86400000000 / 1000 * 1000 + n % 1000) ∙ whole n)
   where
     no-extra : (n : ℕ) → (n * 16 + 0 * 33) / 16 ≡ n

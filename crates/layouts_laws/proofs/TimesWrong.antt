@@ -25,7 +25,7 @@ use Rattle.layouts.specs.Cuc as Cuc
 use Rattle.layouts.specs.Proteus as Proteus
 use Rattle.layouts.specs.Cryosat as Cryosat
 use Rattle.layouts.specs.Siral as Siral
-use Rattle.ground_laws.proofs.Desks.{got, not, bytesAt, writesNothing, madeUp, clearing, scribbling}
+use Rattle.ground_laws.proofs.Desks.{got, keeps, bytesAt, writesNothing, madeUp, clearing, scribbling}
 
 abbrev numberIn : Slip → ℕ
 numberIn t = t .number
@@ -85,7 +85,7 @@ cuc-down = (refl, refl, differ (bytesAt 5) (λ e. omega arith))
 abbrev cucAnyScale : Handed → List ℕ → Wrote
 cucAnyScale h out = written out (outcome (placing (Cuc.imageAt (dayOf h) (microOf h)) out))
 
-pub cuc-any-scale : ShutOut (Cuc.write (tai (negsuc 7299) 999984) eight) (not 12 eight) (cucAnyScale (tai (negsuc 7299) 999984) eight)
+pub cuc-any-scale : ShutOut (Cuc.write (tai (negsuc 7299) 999984) eight) (keeps 12 eight) (cucAnyScale (tai (negsuc 7299) 999984) eight)
     (got 6 (0 ∷ 0 ∷ 0 ∷ 0 ∷ 255 ∷ 255 ∷ 7 ∷ 7 ∷ []))
 unfolding Cuc.write field lastTo
 cuc-any-scale = (refl, refl, differ (bytesAt 0) (λ e. omega arith))
@@ -94,7 +94,7 @@ cuc-any-scale = (refl, refl, differ (bytesAt 0) (λ e. omega arith))
 abbrev cucScaleFirst : Handed → List ℕ → Wrote
 cucScaleFirst h out = written out (outcome (given (sameScale S.Gps (scaleOf h)) 12 (Cuc.writing h out)))
 
-pub cuc-scale-first : ShutOut (Cuc.write (tai (pos 36525) 0) eight) (not 7 eight) (cucScaleFirst (tai (pos 36525) 0) eight) (not 12 eight)
+pub cuc-scale-first : ShutOut (Cuc.write (tai (pos 36525) 0) eight) (keeps 7 eight) (cucScaleFirst (tai (pos 36525) 0) eight) (keeps 12 eight)
 unfolding Cuc.write field lastTo
 cuc-scale-first = (refl, refl, differ (λ (w : Wrote). w .number) (λ e. omega arith))
 
@@ -141,7 +141,7 @@ proteus-no-h3 = (refl, refl, differ (λ (t : Proteus.Stamped). bit (t .h3)) (λ 
 abbrev proteusSixty : Handed → Bool → List ℕ → Wrote
 proteusSixty h b out = written out (outcome (placing (Proteus.imageAt (dayOf h) (microOf h) b) out))
 
-pub proteus-sixty : ShutOut (Proteus.write (utc (pos 6209) 86400999984) true eight) (not 12 eight)
+pub proteus-sixty : ShutOut (Proteus.write (utc (pos 6209) 86400999984) true eight) (keeps 12 eight)
     (proteusSixty (utc (pos 6209) 86400999984) true eight) (got 8 (120 ∷ 161 ∷ 0 ∷ 0 ∷ 0 ∷ 0 ∷ 255 ∷ 255 ∷ []))
 unfolding Proteus.write field lastTo
 proteus-sixty = (refl, refl, differ (bytesAt 0) (λ e. omega arith))
@@ -155,8 +155,8 @@ pub proteus-added : ShutOut (Proteus.write (utc (pos 6700) 999984) true eight) (
 unfolding Proteus.write field lastTo
 proteus-added = (refl, refl, differ (bytesAt 5) (λ e. omega arith))
 
-pub proteus-scribbling : ShutOut (Proteus.write (utc (pos 21372) 999984) true eight) (not 12 eight)
-    (scribbling (Proteus.write (utc (pos 21372) 999984) true eight)) (not 12 (0 ∷ 7 ∷ 7 ∷ 7 ∷ 7 ∷ 7 ∷ 7 ∷ 7 ∷ []))
+pub proteus-scribbling : ShutOut (Proteus.write (utc (pos 21372) 999984) true eight) (keeps 12 eight)
+    (scribbling (Proteus.write (utc (pos 21372) 999984) true eight)) (keeps 12 (0 ∷ 7 ∷ 7 ∷ 7 ∷ 7 ∷ 7 ∷ 7 ∷ 7 ∷ []))
 unfolding Proteus.write field lastTo
 proteus-scribbling = (refl, refl, differ (bytesAt 0) (λ e. omega arith))
 
@@ -184,7 +184,7 @@ cryosat-elsewhere = (refl, refl, differ (λ (t : Slip). firstAt (t .scale)) (λ 
 abbrev cryosatHeld : Handed → List ℕ → Wrote
 cryosatHeld h out = written out (outcome (placing (Cryosat.imageAt (dayOf h) (microOf h)) out))
 
-pub cryosat-held : ShutOut (Cryosat.write (tai (negsuc 0) 2003) eight) (not 12 eight) (cryosatHeld (tai (negsuc 0) 2003) eight) (got 8 (0 ∷ 0 ∷ 0 ∷ 0 ∷ 0 ∷ 2 ∷ 0 ∷ 3 ∷ []))
+pub cryosat-held : ShutOut (Cryosat.write (tai (negsuc 0) 2003) eight) (keeps 12 eight) (cryosatHeld (tai (negsuc 0) 2003) eight) (got 8 (0 ∷ 0 ∷ 0 ∷ 0 ∷ 0 ∷ 2 ∷ 0 ∷ 3 ∷ []))
 unfolding Cryosat.write field
 cryosat-held = (refl, refl, differ (bytesAt 0) (λ e. omega arith))
 
@@ -228,7 +228,7 @@ pub siral-eight : ShutOut (Siral.write (tai (pos 1) 2003) eleven) (got 10 (0 ∷
 unfolding Siral.write Cryosat.write field
 siral-eight = (refl, refl, differ (bytesAt 8) (λ e. omega arith))
 
-pub siral-scribbling : ShutOut (Siral.write (tai (pos 1) 2003) eight) (not 13 eight) (scribbling (Siral.write (tai (pos 1) 2003) eight))
-    (not 13 (0 ∷ 7 ∷ 7 ∷ 7 ∷ 7 ∷ 7 ∷ 7 ∷ 7 ∷ []))
+pub siral-scribbling : ShutOut (Siral.write (tai (pos 1) 2003) eight) (keeps 13 eight) (scribbling (Siral.write (tai (pos 1) 2003) eight))
+    (keeps 13 (0 ∷ 7 ∷ 7 ∷ 7 ∷ 7 ∷ 7 ∷ 7 ∷ 7 ∷ []))
 unfolding Siral.write field
 siral-scribbling = (refl, refl, differ (bytesAt 0) (λ e. omega arith))

@@ -8,12 +8,11 @@ use lib.Dec.{eqb, leb, ltb}
 use lib.IntN.{ℤ, pos, negsuc, _+ℤ_, _-ℤ_}
 use lib.ListN.{length}
 use lib.Signed.{leZ, ltZ}
-use Rattle.axis.specs.Meaning.{floorZ, modZ}
 use Rattle.scales.specs.Meaning.{Moment, momentAt}
 use Rattle.scales.specs.declared.Scale.the-variants as S
 use Rattle.scales.specs.declared.Utc.{Utc}
 use Rattle.calendar.specs.Meaning.{allFirsts}
-use Rattle.decimal.specs.Meaning.{dayMicros, since}
+use Rattle.decimal.specs.Meaning.{dayMicros, since, momentOf}
 
 abbrev pub seconds : ℕ → ℤ
 seconds n = pos (n * 1000000)
@@ -116,10 +115,6 @@ abbrev pub isExpiredTai : List ℤ → List ℕ → ℤ → ℤ → Bool
 isExpiredTai ds os e c = leZ (taiOf ds os (e +ℤ pos 1) 0) c
 
 -- ---- "TAI to UTC gives the one UTC record whose TAI is the input": proved of `utcOf` in specs/Back.antt
--- the day and the microsecond of day of a count of microseconds, every day having 86,400 s
-abbrev pub momentOf : ℤ → Moment
-momentOf c = record { day = floorZ c dayMicros; micro = modZ c dayMicros }
-
 -- the TAI of 00:00:00 UTC on day s, by the offset p
 abbrev pub taiOfStart : ℤ → ℕ → ℤ
 taiOfStart s p = since s 0 +ℤ seconds p

@@ -13,9 +13,9 @@ use Rattle.axis.specs.Diff.{neg-pos, sub-eq, sub-add, sub-lt, sub-le-same, Way,
 use Rattle.axis.specs.Shift.{number-add}
 use Rattle.axis.specs.Axis.{day-from, day-to, micros-day, micros-left}
 use Rattle.scales.specs.Meaning.{Moment}
-use Rattle.decimal.specs.Meaning.{dayMicros}
+use Rattle.decimal.specs.Meaning.{dayMicros, momentOf}
 use Rattle.decimal.proofs.Image.{since-at}
-use Rattle.leap.specs.Meaning.{seconds, sameDay, offsetOn, taiOf, momentOf, taiOfStart, plain, sixty}
+use Rattle.leap.specs.Meaning.{seconds, sameDay, offsetOn, taiOf, taiOfStart, plain, sixty}
 
 -- ---- days
 pub day-lt : (a b : ℕ) → ltZ (dayAt a) (dayAt b) ≡ ltb a b

@@ -12,15 +12,16 @@ use Rattle.scales.specs.Meaning.{inSpan, given, answer, outcome, Moment}
 use Rattle.scales.specs.declared.Scale.{Scale}
 use Rattle.scales.specs.declared.Scale.the-variants as S
 use Rattle.scales.specs.Place.{span-early, day-part, micro-part}
-use Rattle.decimal.specs.Meaning.{dayMicros}
-use Rattle.leap.specs.Meaning.{accepted, isExpiredTai, momentOf, utcOf}
+use Rattle.scales.specs.Order.{no-answer}
+use Rattle.decimal.specs.Meaning.{dayMicros, momentOf}
+use Rattle.leap.specs.Meaning.{accepted, isExpiredTai, utcOf}
 use Rattle.leap.specs.Places.{micros-minus, moment-at}
 use Rattle.leap.specs.Steps.{Steps, steps}
 use Rattle.leap.specs.Back.{back, forth, none-before}
 use Rattle.leap.specs.Whole.{taiAt, offset-small, known-before, before-known}
 use Rattle.changes.specs.Meaning.{toScale, within}
 use Rattle.changes.specs.Ways.{OnTheWay, expires}
-use Rattle.leap_laws.proofs.Stands.{moment, onTai, Stands, spans, inside, one}
+use Rattle.leap_laws.proofs.Stands.{moment, onTai, Known, Stands, spans, inside, one}
 
 -- the moment of a count of whole days and microseconds
 moment-back : (a u : ℕ) → u < dayMicros → momentOf (microsAt (a * dayMicros + u)) ≡ moment a u
@@ -59,31 +60,25 @@ module _ (ds : List ℤ) (os : List ℕ) (e : ℤ) (w : accepted ds os e ≡ tru
     pub is : m ≡ moment place micro
     pub tai : onTai s ds os place micro ≡ c
 
-  pub found : (s : Scale) (c : ℕ) → OnTheWay c → (m : Moment) → outcome (toScale s ds os e (microsAt c)) ≡ answer m → Found s c m
-  found S.Tai c v m h =
-      let t = one (inSpan S.Tai (momentOf (microsAt c) .day) (momentOf (microsAt c) .micro)) 11 (momentOf (microsAt c)) m h in
-      let i = spans S.Tai (c / dayMicros) (c % dayMicros) (ap (λ (x : Moment). inSpan S.Tai (x .day) (x .micro)) (sym (moment-at c)) ∙ t .0) in
-      record {
-        place = c / dayMicros;
-        micro = c % dayMicros;
-        stands = record { from = i .0; to = i .1 .0; under = i .1 .1; known = omega arith };
-        is = sym (t .1) ∙ moment-at c;
-        tai = omega arith;
-      }
-  found S.Gps c v m h =
-      let g = c - 19000000 in
-      let f : 19000000 ≤ c = omega (arith, v .from) in
-      let h′ : outcome (within S.Gps (momentOf (microsAt g))) ≡ answer m =
-      ap (λ (z : ℤ). outcome (within S.Gps (momentOf z))) (sym (micros-minus c 19000000 f)) ∙ h in
-      let t = one (inSpan S.Gps (momentOf (microsAt g) .day) (momentOf (microsAt g) .micro)) 11 (momentOf (microsAt g)) m h′ in
-      let i = spans S.Gps (g / dayMicros) (g % dayMicros) (ap (λ (x : Moment). inSpan S.Gps (x .day) (x .micro)) (sym (moment-at g)) ∙ t .0) in
+  -- in a scale whose days are those of its count g
+  plain-found : (s : Scale) (g c : ℕ) (m : Moment) → outcome (within s (momentOf (microsAt g))) ≡ answer m → Known s ds e (g / dayMicros) (g % dayMicros) →
+      onTai s ds os (g / dayMicros) (g % dayMicros) ≡ c → Found s c m
+  plain-found s g c m h k e =
+      let t = one (inSpan s (momentOf (microsAt g) .day) (momentOf (microsAt g) .micro)) 11 (momentOf (microsAt g)) m h in
+      let i = spans s (g / dayMicros) (g % dayMicros) (ap (λ (x : Moment). inSpan s (x .day) (x .micro)) (sym (moment-at g)) ∙ t .0) in
       record {
         place = g / dayMicros;
         micro = g % dayMicros;
-        stands = record { from = i .0; to = i .1 .0; under = i .1 .1; known = omega arith };
+        stands = record { from = i .0; to = i .1 .0; under = i .1 .1; known = k };
         is = sym (t .1) ∙ moment-at g;
-        tai = omega arith;
+        tai = e;
       }
+
+  pub found : (s : Scale) (c : ℕ) → OnTheWay c → (m : Moment) → outcome (toScale s ds os e (microsAt c)) ≡ answer m → Found s c m
+  found S.Tai c v m h = plain-found S.Tai c c m h (omega arith) (omega arith)
+  found S.Gps c v m h =
+      let f : 19000000 ≤ c = omega (arith, v .from) in
+      plain-found S.Gps (c - 19000000) c m (ap (λ (z : ℤ). outcome (within S.Gps (momentOf z))) (sym (micros-minus c 19000000 f)) ∙ h) (omega arith) (omega arith)
   found S.Utc c v m h = go (isExpiredTai ds os e (microsAt c)) refl (way c (29773 * dayMicros + 10 * 1000000)) h
     where
       U : Moment
@@ -94,7 +89,7 @@ module _ (ds : List ℤ) (os : List ℕ) (e : ℤ) (w : accepted ds os e ≡ tru
 
       go : (b : Bool) → isExpiredTai ds os e (microsAt c) ≡ b → Way c (29773 * dayMicros + 10 * 1000000)
           → outcome (given (not b) 9 (within S.Utc U)) ≡ answer m → Found S.Utc c m
-      go true p y h = absurd (let x : _≡_ {A = ℕ} 0 1 = cc in omega arith)
+      go true p y h = absurd (no-answer h)
       go false p (below y) h =
           let t = one (inSpan S.Utc (U .day) (U .micro)) 11 U m h in
           let b = none-before (list .grown) c (omega (arith, v .from)) y in

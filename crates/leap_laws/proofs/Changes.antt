@@ -12,7 +12,7 @@ use Rattle.axis.specs.Meaning.{placeOfDay, microsAt}
 use Rattle.axis.specs.Diff.{Way, way, below, above}
 use Rattle.axis.specs.Axis.{day-inj}
 use Rattle.scales.specs.Meaning.{andThen, bound, Judged, Outcome, refused, answer, outcome, Moment, momentAt}
-use Rattle.scales.specs.Order.{onward, then-is}
+use Rattle.scales.specs.Order.{onward, then-is, no-answer}
 use Rattle.scales.specs.Place.{count-inj, day-part, micro-part}
 use Rattle.scales.specs.declared.Scale.{Scale}
 use Rattle.scales.specs.declared.Scale.the-variants as S
@@ -58,7 +58,7 @@ module _ (ds : List ℤ) (os : List ℕ) (e : ℤ) (w : accepted ds os e ≡ tru
       u = n % bound s
 
       go : (x : Outcome ℤ) → outcome j ≡ x → onward (toScale to ds os e) x ≡ answer (momentAt to k) → Met s to n k
-      go (refused m) p q = absurd (let z : _≡_ {A = ℕ} 0 1 = cc in omega arith)
+      go (refused m) p q = absurd (no-answer q)
       go (answer z) p q =
           let l = left ds os e w s a u z p in
           let c = onTai s ds os a u in

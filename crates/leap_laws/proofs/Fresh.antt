@@ -1,18 +1,18 @@
 -- Demand 3: under a list that extends an accepted one every answer is the same, and every refusal but 9 stays. Assumes nothing.
 use mathlib.Core.Path.{_≡_, refl, sym, ap, ap₂, _∙_}
-use mathlib.Core.Bool.{Bool, true, false, cond, not, false≢true}
+use mathlib.Core.Bool.{Bool, true, false, cond, not}
 use mathlib.Core.List.{List, [], _∷_, _++_}
 use Prim.Native.Nat.{ℕ, _+_, _*_, _<_, _≤_}
 use native.Mathlib.Omega.{arith}
-use lib.IntN.{ℤ, pos, negsuc, _+ℤ_}
+use lib.IntN.{ℤ, pos, _+ℤ_}
 use lib.ListN.{length}
 use lib.Signed.{leZ, ltZ}
-use borrow.Author.Tests.{lt-leb, le-leb, lt-ltb, le-ltb, leb-true, leb-false, ltb-true}
+use borrow.Author.Tests.{lt-leb, le-leb, lt-ltb, le-ltb, leb-true, leb-false}
 use Rattle.axis.specs.Meaning.{placeOfDay, dayAt, microsAt}
-use Rattle.axis.specs.Diff.{Way, way, below, above}
+use Rattle.axis.specs.Diff.{Way, way, below, above, le-not}
 use Rattle.axis.specs.Axis.{day-to, day-le}
 use Rattle.scales.specs.Meaning.{andThen, sameScale, Judged, given, gives, Outcome, refused, answer, outcome, Moment}
-use Rattle.scales.specs.Order.{onward, then-is}
+use Rattle.scales.specs.Order.{onward, then-is, no-answer}
 use Rattle.scales.specs.Place.{and-both}
 use Rattle.scales.specs.declared.Scale.{Scale}
 use Rattle.scales.specs.declared.Scale.the-variants as S
@@ -32,14 +32,8 @@ use Rattle.changes.specs.Ways.{expires}
 use Rattle.leap_laws.proofs.Stands.{moment, onTai}
 
 -- ---- days later than the day at place x
-not-le : (x d : ℤ) → ltZ x d ≡ true → leZ d x ≡ false
-not-le (pos a) (pos b) h = lt-leb b a (ltb-true a b h)
-not-le (pos a) (negsuc b) h = absurd (false≢true h)
-not-le (negsuc a) (pos b) h = refl
-not-le (negsuc a) (negsuc b) h = lt-leb a b (ltb-true b a h)
-
 later-place : (x : ℕ) (d : ℤ) → x < 100000 → ltZ (dayAt x) d ≡ true → x < placeOfDay d
-later-place x d k h = leb-false (placeOfDay d) x (sym (day-to x d k) ∙ not-le (dayAt x) d h)
+later-place x d k h = leb-false (placeOfDay d) x (sym (day-to x d k) ∙ le-not d (dayAt x) ∙ ap not h)
 
 firsts-more : (ds cs : List ℤ) → allFirsts (ds ++ cs) ≡ true → allFirsts cs ≡ true
 firsts-more [] cs h = h
@@ -83,18 +77,18 @@ module _ (x : ℕ) (k : x < 100000) where
 value : (s : Scale) (ds : List ℤ) (os : List ℕ) (e : ℤ) (b : Bool) (a u : ℕ) (z : ℤ) → outcome (fromScale s ds os e b (moment a u)) ≡ answer z
     → z ≡ microsAt (onTai s ds os a u)
 value S.Tai ds os e true a u z h = let q = since-at a u in (cc)
-value S.Tai ds os e false a u z h = absurd (let i : _≡_ {A = ℕ} 0 1 = cc in omega arith)
+value S.Tai ds os e false a u z h = absurd (no-answer h)
 value S.Gps ds os e true a u z h =
     let q : since (dayAt a) u +ℤ seconds 19 ≡ microsAt (a * dayMicros + u + 19000000) =
     ap (λ (y : ℤ). y +ℤ seconds 19) (since-at a u) ∙ micros-add (a * dayMicros + u) 19000000 in
     (cc)
-value S.Gps ds os e false a u z h = absurd (let i : _≡_ {A = ℕ} 0 1 = cc in omega arith)
-value S.Utc ds os e false a u z h = absurd (let i : _≡_ {A = ℕ} 0 1 = cc in omega arith)
+value S.Gps ds os e false a u z h = absurd (no-answer h)
+value S.Utc ds os e false a u z h = absurd (no-answer h)
 value S.Utc ds os e true a u z h = go (isExpiredDay e (dayAt a)) (hasMicro ds (dayAt a) u) h
   where
     go : (i j : Bool) → outcome (given (not i) 9 (given j 10 (gives (taiOf ds os (dayAt a) u)))) ≡ answer z → z ≡ microsAt (taiAt ds os a u)
-    go true j h = absurd (let y : _≡_ {A = ℕ} 0 1 = cc in omega arith)
-    go false false h = absurd (let y : _≡_ {A = ℕ} 0 1 = cc in omega arith)
+    go true j h = absurd (no-answer h)
+    go false false h = absurd (no-answer h)
     go false true h = let q = tai-at ds os a u in (cc)
 
 -- ---- list B, (ds ++ cs, os ++ ps, f), extends list A, (ds, os, e)

@@ -1,4 +1,4 @@
-pub mod Marked
+pub mod Computed
 pub mod Order
 pub mod Stands
 pub mod Arrives

@@ -23,7 +23,7 @@ use Rattle.changes.specs.General.{seven}
 use Rattle.leap_laws.proofs.Stands.{moment}
 use Rattle.leap_laws.proofs.Fresh.{kept}
 use Rattle.leap.specs.Published.{published}
-use Rattle.leap_laws.proofs.Marked.{published-6209, extended}
+use Rattle.leap_laws.proofs.Computed.{published-6209, extended}
 
 -- ---- demand 3, for lists A (ds, os, e) and B (cs, ps, f): but for 9, what A said B says
 pub record Fresh (ds : List ℤ) (os : List ℕ) (e : ℤ) (cs : List ℤ) (ps : List ℕ) (f : ℤ) : Type 0 where

@@ -1,18 +1,19 @@
 -- A time of each scale and its TAI count: what it is that a change's two halves give, for one accepted list. Assumes nothing.
-use mathlib.Core.Path.{_≡_, refl, sym, ap, subst, _∙_}
+use mathlib.Core.Path.{_≡_, refl, sym, ap, _∙_}
 use mathlib.Core.Bool.{Bool, true, false, not, _&&_}
 use mathlib.Core.List.{List}
 use Prim.Native.Nat.{ℕ, _+_, _*_, _<_, _≤_}
 use native.Mathlib.Omega.{arith}
 use lib.Dec.{leb, ltb}
 use lib.IntN.{ℤ, _+ℤ_}
-use borrow.Author.Tests.{ltb-true, leb-true, le-ltb, ltb-false}
+use borrow.Author.Tests.{ltb-true, leb-true, le-ltb, ltb-false, not-true}
 use Rattle.axis.specs.Meaning.{placeOfDay, dayAt, microsAt}
 use Rattle.axis.specs.Diff.{Way, way, below, above}
 use Rattle.scales.specs.Meaning.{bound, inSpan, given, gives, answer, outcome, Moment}
 use Rattle.scales.specs.declared.Scale.{Scale}
 use Rattle.scales.specs.declared.Scale.the-variants as S
 use Rattle.scales.specs.Place.{firstAt, and-both, span-at, span-in}
+use Rattle.scales.specs.Order.{no-answer, passed}
 use Rattle.decimal.specs.Meaning.{dayMicros}
 use Rattle.decimal.proofs.Image.{since-at}
 use Rattle.leap.specs.Meaning.{seconds, accepted, taiOf, isStep, hasMicro, isExpiredDay}
@@ -32,7 +33,7 @@ onTai S.Utc ds os a u = taiAt ds os a u
 onTai S.Gps ds os a u = a * dayMicros + u + 19000000
 
 -- a time that a change from its scale does not refuse
-abbrev Known : Scale → List ℤ → ℤ → ℕ → ℕ → Type 0
+abbrev pub Known : Scale → List ℤ → ℤ → ℕ → ℕ → Type 0
 Known S.Tai ds e a u = 0 ≤ 0
 Known S.Utc ds e a u = (a ≤ placeOfDay e) × Real ds a u
 Known S.Gps ds e a u = 0 ≤ 0
@@ -54,8 +55,7 @@ inside {s} {ds} {e} {a} {u} w = span-in s a u (w .from) (w .to) (w .under)
 
 -- what a chain of one test gives
 pub one : {A : Type 0} (t : Bool) (n : ℕ) (a b : A) → outcome (given t n (gives a)) ≡ answer b → (t ≡ true) × (a ≡ b)
-one true n a b e = (refl, cc)
-one false n a b e = absurd (let z : _≡_ {A = ℕ} 0 1 = cc in omega arith)
+one t n a b e = let p = passed t n (gives a) b e in (p .0, (let q = p .1 in (cc)))
 
 has : (ds : List ℤ) (a u : ℕ) → hasMicro ds (dayAt a) u ≡ true → dayMicros ≤ u → isStep ds (dayAt (a + 1)) ≡ true
 has ds a u h l = has-sixty ds a u l ∙ h
@@ -80,40 +80,24 @@ module _ (ds : List ℤ) (os : List ℕ) (e : ℤ) (w : accepted ds os e ≡ tru
     pub is : z ≡ microsAt (onTai s ds os a u)
 
   pub left : (s : Scale) (a u : ℕ) (z : ℤ) → outcome (fromScale s ds os e (inSpan s (dayAt a) u) (moment a u)) ≡ answer z → Left s a u z
-  left s a u z h = go (inSpan s (dayAt a) u) refl s refl h
+  left s a u z h = go s (inSpan s (dayAt a) u) refl h
     where
-      go : (b : Bool) → inSpan s (dayAt a) u ≡ b → (t : Scale) → s ≡ t → outcome (fromScale t ds os e b (moment a u)) ≡ answer z → Left s a u z
-      go false p S.Tai q h = absurd (let x : _≡_ {A = ℕ} 0 1 = cc in omega arith)
-      go false p S.Utc q h = absurd (let x : _≡_ {A = ℕ} 0 1 = cc in omega arith)
-      go false p S.Gps q h = absurd (let x : _≡_ {A = ℕ} 0 1 = cc in omega arith)
-      go true p S.Tai q h =
-          subst (λ (t : Scale). Left t a u z) (sym q)
-          (let r = spans S.Tai a u (ap (λ (t : Scale). inSpan t (dayAt a) u) (sym q) ∙ p) in
-          let k : Stands S.Tai ds e a u = record { from = r .0; to = r .1 .0; under = r .1 .1; known = omega arith } in
-          let x = leaves S.Tai a u k in
-          record { stands = k; is = (cc) })
-      go true p S.Gps q h =
-          subst (λ (t : Scale). Left t a u z) (sym q)
-          (let r = spans S.Gps a u (ap (λ (t : Scale). inSpan t (dayAt a) u) (sym q) ∙ p) in
-          let k : Stands S.Gps ds e a u = record { from = r .0; to = r .1 .0; under = r .1 .1; known = omega arith } in
-          let x = leaves S.Gps a u k in
-          record { stands = k; is = (cc) })
-      go true p S.Utc q h =
-          subst (λ (t : Scale). Left t a u z) (sym q)
-          (let r = spans S.Utc a u (ap (λ (t : Scale). inSpan t (dayAt a) u) (sym q) ∙ p) in
-          let y = utc (isExpiredDay e (dayAt a)) refl (hasMicro ds (dayAt a) u) refl h in
-          let k : Stands S.Utc ds e a u =
-          record {
-            from = r .0;
-            to = r .1 .0;
-            under = r .1 .1;
-            known = (ltb-false (placeOfDay e) a (sym (expired-at ds os e w a) ∙ y .0), record { from = r .0; under = r .1 .1; has = has ds a u (y .1) });
-          } in
-          let x = leaves S.Utc a u k in
-          record { stands = k; is = (cc) })
-        where
-          utc : (i : Bool) → isExpiredDay e (dayAt a) ≡ i → (j : Bool) → hasMicro ds (dayAt a) u ≡ j
-              → outcome (given (not i) 9 (given j 10 (gives (taiOf ds os (dayAt a) u)))) ≡ answer z → (isExpiredDay e (dayAt a) ≡ false) × (hasMicro ds (dayAt a) u ≡ true)
-          utc true m j n h = absurd (let x : _≡_ {A = ℕ} 0 1 = cc in omega arith)
-          utc false m false n h = absurd (let x : _≡_ {A = ℕ} 0 1 = cc in omega arith)
-          utc false m true n h = (m, n)
+      at : (s : Scale) → inSpan s (dayAt a) u ≡ true → outcome (fromScale s ds os e true (moment a u)) ≡ answer z → Known s ds e a u → Left s a u z
+      at s p h k =
+          let r = spans s a u p in
+          let w : Stands s ds e a u = record { from = r .0; to = r .1 .0; under = r .1 .1; known = k } in
+          let x = leaves s a u w in
+          record { stands = w; is = (cc) }
+
+      go : (s : Scale) (b : Bool) → inSpan s (dayAt a) u ≡ b → outcome (fromScale s ds os e b (moment a u)) ≡ answer z → Left s a u z
+      go S.Tai false p h = absurd (no-answer h)
+      go S.Utc false p h = absurd (no-answer h)
+      go S.Gps false p h = absurd (no-answer h)
+      go S.Tai true p h = at S.Tai p h (omega arith)
+      go S.Gps true p h = at S.Gps p h (omega arith)
+      go S.Utc true p h =
+          let r = spans S.Utc a u p in
+          let x = passed (not (isExpiredDay e (dayAt a))) 9 (given (hasMicro ds (dayAt a) u) 10 (gives (taiOf ds os (dayAt a) u))) z h in
+          let y = one (hasMicro ds (dayAt a) u) 10 (taiOf ds os (dayAt a) u) z (x .1) in
+          at S.Utc p h
+          (ltb-false (placeOfDay e) a (sym (expired-at ds os e w a) ∙ not-true (isExpiredDay e (dayAt a)) (x .0)), record { from = r .0; under = r .1 .1; has = has ds a u (y .0) })

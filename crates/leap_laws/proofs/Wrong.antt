@@ -1,6 +1,6 @@
 -- Wrong programs for the leap list and the changes, each shut out by an input at which its answer is not the meaning's.
 -- Assumes nothing.
-use mathlib.Core.Path.{_≡_, refl}
+use mathlib.Core.Path.{refl}
 use mathlib.Core.Bool.{Bool, true, false, cond, not, _&&_}
 use mathlib.Core.List.{List, [], _∷_}
 use Prim.Native.Nat.{ℕ, _+_, _-_, _*_}
@@ -14,17 +14,10 @@ use Rattle.scales.specs.declared.Scale.{Scale}
 use Rattle.scales.specs.declared.Scale.the-variants as S
 use Rattle.scales.specs.declared.Handed.the-variants as H
 use Rattle.calendar.specs.Meaning.{leap, monthLength, lengthOf, firstDay, dayAfter, daysTo, walk, isFirst, allFirsts}
-use Rattle.decimal.specs.Meaning.{since}
-use Rattle.leap.specs.Meaning.{seconds, areSteps, begins, risesFrom, rises, countsFrom, countsUp, endsIn, noneLater, accepted, through, offsetOn, taiOf, isStep, hasMicro, isExpiredDay, momentOf, publishedDays, publishedOffsets, publishedLast}
+use Rattle.decimal.specs.Meaning.{since, momentOf}
+use Rattle.leap.specs.Meaning.{seconds, areSteps, begins, risesFrom, rises, countsFrom, countsUp, endsIn, noneLater, accepted, through, offsetOn, taiOf, isStep, hasMicro, isExpiredDay, publishedDays, publishedOffsets, publishedLast}
 use Rattle.changes.specs.Meaning.{fromTai, fromUtc, within, toTai, toGps, toUtc, ofCount, moving, taiToGps, gpsToTai, utcToTai, utcToGps, taiToUtc, gpsToUtc, changeOf}
-use Rattle.ground_laws.proofs.Desks.{refusesAll, dayZero}
-use Rattle.leap_laws.proofs.Marked.{at, no}
-
-apart : {x y : Slip} → (x .number ≡ y .number → ⊥) → x ≡ y → ⊥
-apart d e = differ (λ (t : Slip). t .number) d e
-
-apart-micro : {x y : Slip} → (x .micro ≡ y .micro → ⊥) → x ≡ y → ⊥
-apart-micro d e = differ (λ (t : Slip). t .micro) d e
+use Rattle.ground_laws.proofs.Desks.{answered, empty, byNumber, byMicro, refusesAll, dayZero}
 
 -- ---- is_accepted
 -- a step on E+1 dropped as expired: none may be later than E
@@ -115,46 +108,46 @@ listLast ds os e n =
 
 pub record WrongUtc : Type 0 where
   pub first-only :
-      ShutOut (utcToTai (counted S.Utc (pos 6210) 0) publishedDays publishedOffsets publishedLast) (at S.Tai (pos 6210) 37000000)
-      (made S.Tai (andThen (ofCount S.Utc (counted S.Utc (pos 6210) 0) (utcBy firstOnly)) toTai)) (at S.Tai (pos 6210) 10000000)
+      ShutOut (utcToTai (counted S.Utc (pos 6210) 0) publishedDays publishedOffsets publishedLast) (answered S.Tai (pos 6210) 37000000)
+      (made S.Tai (andThen (ofCount S.Utc (counted S.Utc (pos 6210) 0) (utcBy firstOnly)) toTai)) (answered S.Tai (pos 6210) 10000000)
   pub ten-more :
-      ShutOut (utcToTai (counted S.Utc (negsuc 7299) 0) publishedDays publishedOffsets publishedLast) (at S.Tai (negsuc 7299) 19000000)
-      (made S.Tai (andThen (ofCount S.Utc (counted S.Utc (negsuc 7299) 0) (utcBy tenMore)) toTai)) (at S.Tai (negsuc 7299) 29000000)
+      ShutOut (utcToTai (counted S.Utc (negsuc 7299) 0) publishedDays publishedOffsets publishedLast) (answered S.Tai (negsuc 7299) 19000000)
+      (made S.Tai (andThen (ofCount S.Utc (counted S.Utc (negsuc 7299) 0) (utcBy tenMore)) toTai)) (answered S.Tai (negsuc 7299) 29000000)
   pub swapped :
-      ShutOut (utcToTai (counted S.Utc (pos 9132) 86400000000) publishedDays publishedOffsets publishedLast) (no 9 S.Tai)
-      (made S.Tai (andThen (ofCount S.Utc (counted S.Utc (pos 9132) 86400000000) secondFirst) toTai)) (no 10 S.Tai)
+      ShutOut (utcToTai (counted S.Utc (pos 9132) 86400000000) publishedDays publishedOffsets publishedLast) (empty 9 S.Tai)
+      (made S.Tai (andThen (ofCount S.Utc (counted S.Utc (pos 9132) 86400000000) secondFirst) toTai)) (empty 10 S.Tai)
   pub any-sixty :
-      ShutOut (utcToTai (counted S.Utc (pos 0) 86400000000) publishedDays publishedOffsets publishedLast) (no 10 S.Tai)
-      (made S.Tai (andThen (ofCount S.Utc (counted S.Utc (pos 0) 86400000000) anySixty) toTai)) (at S.Tai (pos 1) 32000000)
+      ShutOut (utcToTai (counted S.Utc (pos 0) 86400000000) publishedDays publishedOffsets publishedLast) (empty 10 S.Tai)
+      (made S.Tai (andThen (ofCount S.Utc (counted S.Utc (pos 0) 86400000000) anySixty) toTai)) (answered S.Tai (pos 1) 32000000)
   pub list-last :
-      ShutOut (utcToTai (counted S.Utc (pos 36525) 0) [] [] publishedLast) (no 5 S.Tai)
-      (listLast [] [] publishedLast (counted S.Utc (pos 36525) 0)) (no 7 S.Tai)
+      ShutOut (utcToTai (counted S.Utc (pos 36525) 0) [] [] publishedLast) (empty 5 S.Tai)
+      (listLast [] [] publishedLast (counted S.Utc (pos 36525) 0)) (empty 7 S.Tai)
   pub gps-first-only :
-      ShutOut (utcToGps (counted S.Utc (pos 6210) 0) publishedDays publishedOffsets publishedLast) (at S.Gps (pos 6210) 18000000)
-      (made S.Gps (andThen (ofCount S.Utc (counted S.Utc (pos 6210) 0) (utcBy firstOnly)) toGps)) (at S.Gps (pos 6209) 86391000000)
+      ShutOut (utcToGps (counted S.Utc (pos 6210) 0) publishedDays publishedOffsets publishedLast) (answered S.Gps (pos 6210) 18000000)
+      (made S.Gps (andThen (ofCount S.Utc (counted S.Utc (pos 6210) 0) (utcBy firstOnly)) toGps)) (answered S.Gps (pos 6209) 86391000000)
   -- the step on E+1 dropped: day E loses its second 60
   pub step-dropped :
-      ShutOut (utcToTai (counted S.Utc (pos 6209) 86400000000) publishedDays publishedOffsets (pos 6209)) (at S.Tai (pos 6210) 36000000)
-      (utcToTai (counted S.Utc (pos 6209) 86400000000) (take 27 publishedDays) (take 27 publishedOffsets) (pos 6209)) (no 10 S.Tai)
+      ShutOut (utcToTai (counted S.Utc (pos 6209) 86400000000) publishedDays publishedOffsets (pos 6209)) (answered S.Tai (pos 6210) 36000000)
+      (utcToTai (counted S.Utc (pos 6209) 86400000000) (take 27 publishedDays) (take 27 publishedOffsets) (pos 6209)) (empty 10 S.Tai)
   -- the TAI count's span tested on the way
   pub span-on-the-way :
-      ShutOut (utcToGps (counted S.Utc (pos 36524) 86395000000) (negsuc 10226 ∷ []) (10 ∷ []) (pos 36524)) (at S.Gps (pos 36524) 86386000000)
+      ShutOut (utcToGps (counted S.Utc (pos 36524) 86395000000) (negsuc 10226 ∷ []) (10 ∷ []) (pos 36524)) (answered S.Gps (pos 36524) 86386000000)
       (made S.Gps
       (andThen (andThen (ofCount S.Utc (counted S.Utc (pos 36524) 86395000000) (fromUtc (negsuc 10226 ∷ []) (10 ∷ []) (pos 36524))) toTai)
-      (λ m. toGps (since (m .day) (m .micro))))) (no 11 S.Gps)
+      (λ m. toGps (since (m .day) (m .micro))))) (empty 11 S.Gps)
 
 pub wrong-utc : WrongUtc
 unfolding leap monthLength lengthOf firstDay dayAfter daysTo walk isFirst begins risesFrom rises countsFrom countsUp noneLater accepted through isStep utcToTai utcToGps
 wrong-utc =
     record {
-      first-only = (refl, refl, apart-micro (λ e. omega arith));
-      ten-more = (refl, refl, apart-micro (λ e. omega arith));
-      swapped = (refl, refl, apart (λ e. omega arith));
-      any-sixty = (refl, refl, apart (λ e. omega arith));
-      list-last = (refl, refl, apart (λ e. omega arith));
-      gps-first-only = (refl, refl, apart-micro (λ e. omega arith));
-      step-dropped = (refl, refl, apart (λ e. omega arith));
-      span-on-the-way = (refl, refl, apart (λ e. omega arith));
+      first-only = (refl, refl, byMicro (λ e. omega arith));
+      ten-more = (refl, refl, byMicro (λ e. omega arith));
+      swapped = (refl, refl, byNumber (λ e. omega arith));
+      any-sixty = (refl, refl, byNumber (λ e. omega arith));
+      list-last = (refl, refl, byNumber (λ e. omega arith));
+      gps-first-only = (refl, refl, byMicro (λ e. omega arith));
+      step-dropped = (refl, refl, byNumber (λ e. omega arith));
+      span-on-the-way = (refl, refl, byNumber (λ e. omega arith));
     }
 
 -- ---- to UTC
@@ -185,56 +178,56 @@ eighteen c = within S.Gps (momentOf (c -ℤ seconds 18))
 
 pub record WrongRest : Type 0 where
   pub tai-day :
-      ShutOut (taiToUtc (counted S.Tai (pos 6210) 36500000) publishedDays publishedOffsets publishedLast) (at S.Utc (pos 6209) 86400500000)
-      (made S.Utc (andThen (ofCount S.Tai (counted S.Tai (pos 6210) 36500000) fromTai) byTaiDay)) (at S.Utc (pos 6209) 86399500000)
+      ShutOut (taiToUtc (counted S.Tai (pos 6210) 36500000) publishedDays publishedOffsets publishedLast) (answered S.Utc (pos 6209) 86400500000)
+      (made S.Utc (andThen (ofCount S.Tai (counted S.Tai (pos 6210) 36500000) fromTai) byTaiDay)) (answered S.Utc (pos 6209) 86399500000)
   pub tai-unexpired :
-      ShutOut (taiToUtc (counted S.Tai (pos 6210) 37000000) publishedDays publishedOffsets (pos 6209)) (no 9 S.Utc)
-      (made S.Utc (andThen (ofCount S.Tai (counted S.Tai (pos 6210) 37000000) fromTai) unexpired)) (at S.Utc (pos 6210) 0)
+      ShutOut (taiToUtc (counted S.Tai (pos 6210) 37000000) publishedDays publishedOffsets (pos 6209)) (empty 9 S.Utc)
+      (made S.Utc (andThen (ofCount S.Tai (counted S.Tai (pos 6210) 37000000) fromTai) unexpired)) (answered S.Utc (pos 6210) 0)
   pub gps-as-tai :
-      ShutOut (gpsToUtc (counted S.Gps (negsuc 7299) 0) publishedDays publishedOffsets publishedLast) (at S.Utc (negsuc 7299) 0)
+      ShutOut (gpsToUtc (counted S.Gps (negsuc 7299) 0) publishedDays publishedOffsets publishedLast) (answered S.Utc (negsuc 7299) 0)
       (made S.Utc (andThen (ofCount S.Gps (counted S.Gps (negsuc 7299) 0) gpsAsTai) (toUtc publishedDays publishedOffsets publishedLast)))
-      (at S.Utc (negsuc 7300) 86381000000)
+      (answered S.Utc (negsuc 7300) 86381000000)
   pub gps-utc-less :
-      ShutOut (gpsToUtc (counted S.Gps (pos 0) 0) publishedDays publishedOffsets publishedLast) (at S.Utc (negsuc 0) 86387000000)
+      ShutOut (gpsToUtc (counted S.Gps (pos 0) 0) publishedDays publishedOffsets publishedLast) (answered S.Utc (negsuc 0) 86387000000)
       (made S.Utc (andThen (ofCount S.Gps (counted S.Gps (pos 0) 0) lessGps) (toUtc publishedDays publishedOffsets publishedLast)))
-      (at S.Utc (negsuc 0) 86349000000)
+      (answered S.Utc (negsuc 0) 86349000000)
   pub gps-less :
-      ShutOut (gpsToTai (counted S.Gps (pos 0) 0)) (at S.Tai (pos 0) 19000000)
-      (made S.Tai (andThen (ofCount S.Gps (counted S.Gps (pos 0) 0) lessGps) toTai)) (at S.Tai (negsuc 0) 86381000000)
+      ShutOut (gpsToTai (counted S.Gps (pos 0) 0)) (answered S.Tai (pos 0) 19000000)
+      (made S.Tai (andThen (ofCount S.Gps (counted S.Gps (pos 0) 0) lessGps) toTai)) (answered S.Tai (negsuc 0) 86381000000)
   pub gps-tai-same :
-      ShutOut (gpsToTai (counted S.Gps (pos 0) 0)) (at S.Tai (pos 0) 19000000)
-      (made S.Tai (andThen (ofCount S.Gps (counted S.Gps (pos 0) 0) gpsAsTai) toTai)) (at S.Tai (pos 0) 0)
+      ShutOut (gpsToTai (counted S.Gps (pos 0) 0)) (answered S.Tai (pos 0) 19000000)
+      (made S.Tai (andThen (ofCount S.Gps (counted S.Gps (pos 0) 0) gpsAsTai) toTai)) (answered S.Tai (pos 0) 0)
   pub gps-plus :
-      ShutOut (taiToGps (counted S.Tai (pos 0) 0)) (at S.Gps (negsuc 0) 86381000000)
-      (made S.Gps (andThen (ofCount S.Tai (counted S.Tai (pos 0) 0) fromTai) plusGps)) (at S.Gps (pos 0) 19000000)
+      ShutOut (taiToGps (counted S.Tai (pos 0) 0)) (answered S.Gps (negsuc 0) 86381000000)
+      (made S.Gps (andThen (ofCount S.Tai (counted S.Tai (pos 0) 0) fromTai) plusGps)) (answered S.Gps (pos 0) 19000000)
   pub gps-eighteen :
-      ShutOut (taiToGps (counted S.Tai (pos 0) 0)) (at S.Gps (negsuc 0) 86381000000)
-      (made S.Gps (andThen (ofCount S.Tai (counted S.Tai (pos 0) 0) fromTai) eighteen)) (at S.Gps (negsuc 0) 86382000000)
+      ShutOut (taiToGps (counted S.Tai (pos 0) 0)) (answered S.Gps (negsuc 0) 86381000000)
+      (made S.Gps (andThen (ofCount S.Tai (counted S.Tai (pos 0) 0) fromTai) eighteen)) (answered S.Gps (negsuc 0) 86382000000)
   -- to its own scale with nothing judged; 5 where no list is used
   pub unjudged :
-      ShutOut (changeOf (H.Record (recordOf S.Utc (pos 9132) 0)) S.Utc publishedDays publishedOffsets publishedLast) (no 9 S.Utc)
-      (made S.Utc (gives (record { day = pos 9132; micro = 0 }))) (at S.Utc (pos 9132) 0)
+      ShutOut (changeOf (H.Record (recordOf S.Utc (pos 9132) 0)) S.Utc publishedDays publishedOffsets publishedLast) (empty 9 S.Utc)
+      (made S.Utc (gives (record { day = pos 9132; micro = 0 }))) (answered S.Utc (pos 9132) 0)
   pub list-always :
-      ShutOut (changeOf (H.Record (recordOf S.Tai (pos 0) 0)) S.Tai [] [] (pos 0)) (at S.Tai (pos 0) 0)
-      (made S.Tai (given (accepted [] [] (pos 0)) 5 (moving S.Tai S.Tai [] [] (pos 0) true (record { day = pos 0; micro = 0 })))) (no 5 S.Tai)
+      ShutOut (changeOf (H.Record (recordOf S.Tai (pos 0) 0)) S.Tai [] [] (pos 0)) (answered S.Tai (pos 0) 0)
+      (made S.Tai (given (accepted [] [] (pos 0)) 5 (moving S.Tai S.Tai [] [] (pos 0) true (record { day = pos 0; micro = 0 })))) (empty 5 S.Tai)
   -- the desk that refuses all, and the one that answers day 0 for everything
-  pub all-refused : ShutOut (changeOf (H.Record (recordOf S.Gps (pos 5) 7)) S.Tai [] [] (pos 0)) (at S.Tai (pos 5) 19000007) (refusesAll S.Tai) (no 7 S.Tai)
-  pub all-day-zero : ShutOut (changeOf (H.Record (recordOf S.Gps (pos 5) 7)) S.Tai [] [] (pos 0)) (at S.Tai (pos 5) 19000007) (dayZero S.Tai) (at S.Tai (pos 0) 0)
+  pub all-refused : ShutOut (changeOf (H.Record (recordOf S.Gps (pos 5) 7)) S.Tai [] [] (pos 0)) (answered S.Tai (pos 5) 19000007) (refusesAll S.Tai) (empty 7 S.Tai)
+  pub all-day-zero : ShutOut (changeOf (H.Record (recordOf S.Gps (pos 5) 7)) S.Tai [] [] (pos 0)) (answered S.Tai (pos 5) 19000007) (dayZero S.Tai) (answered S.Tai (pos 0) 0)
 
 pub wrong-rest : WrongRest
 unfolding leap monthLength lengthOf firstDay dayAfter daysTo walk isFirst begins risesFrom rises countsFrom countsUp noneLater accepted through isStep taiToUtc gpsToUtc gpsToTai taiToGps changeOf
 wrong-rest =
     record {
-      tai-day = (refl, refl, apart-micro (λ e. omega arith));
-      tai-unexpired = (refl, refl, apart (λ e. omega arith));
-      gps-as-tai = (refl, refl, apart-micro (λ e. omega arith));
-      gps-utc-less = (refl, refl, apart-micro (λ e. omega arith));
-      gps-less = (refl, refl, apart-micro (λ e. omega arith));
-      gps-tai-same = (refl, refl, apart-micro (λ e. omega arith));
-      gps-plus = (refl, refl, apart-micro (λ e. omega arith));
-      gps-eighteen = (refl, refl, apart-micro (λ e. omega arith));
-      unjudged = (refl, refl, apart (λ e. omega arith));
-      list-always = (refl, refl, apart (λ e. omega arith));
-      all-refused = (refl, refl, apart (λ e. omega arith));
-      all-day-zero = (refl, refl, apart-micro (λ e. omega arith));
+      tai-day = (refl, refl, byMicro (λ e. omega arith));
+      tai-unexpired = (refl, refl, byNumber (λ e. omega arith));
+      gps-as-tai = (refl, refl, byMicro (λ e. omega arith));
+      gps-utc-less = (refl, refl, byMicro (λ e. omega arith));
+      gps-less = (refl, refl, byMicro (λ e. omega arith));
+      gps-tai-same = (refl, refl, byMicro (λ e. omega arith));
+      gps-plus = (refl, refl, byMicro (λ e. omega arith));
+      gps-eighteen = (refl, refl, byMicro (λ e. omega arith));
+      unjudged = (refl, refl, byNumber (λ e. omega arith));
+      list-always = (refl, refl, byNumber (λ e. omega arith));
+      all-refused = (refl, refl, byNumber (λ e. omega arith));
+      all-day-zero = (refl, refl, byMicro (λ e. omega arith));
     }

@@ -3,10 +3,9 @@ use mathlib.Core.Path.{_≡_, refl, sym, _∙_}
 use mathlib.Core.Bool.{true}
 use mathlib.Core.List.{List}
 use Prim.Native.Nat.{ℕ}
-use native.Mathlib.Omega.{arith}
 use lib.IntN.{ℤ}
 use Rattle.scales.specs.Meaning.{inSpan, Outcome, refused, answer, outcome, Moment, dated, numberOf, slip}
-use Rattle.scales.specs.Order.{onward, then-is, ends}
+use Rattle.scales.specs.Order.{onward, then-is, ends, no-answer}
 use Rattle.scales.specs.declared.Scale.{Scale}
 use Rattle.scales.specs.declared.Scale.the-variants as S
 use Rattle.scales.specs.declared.Record.{Record}
@@ -50,5 +49,5 @@ module _ (ds : List ℤ) (os : List ℕ) (e : ℤ) where
     line-inside n q = go (outcome (reading s ds os e)) (sym (then-is (reading s ds os e) (into S.Tai ds os e (scaleIn s))) ∙ q)
       where
         go : (o : Outcome Moment) → onward (into S.Tai ds os e (scaleIn s)) o ≡ answer n → Inside n
-        go (refused k) q = absurd (let y : _≡_ {A = ℕ} 0 1 = cc in omega arith)
+        go (refused k) q = absurd (no-answer q)
         go (answer m) q = inside (scaleIn s) m n q

@@ -1,12 +1,12 @@
 -- Any line of any bytes gets exactly one line of output. Assumes nothing.
-use mathlib.Core.Path.{_≡_, refl, sym, ap, _∙_}
+use mathlib.Core.Path.{_≡_, refl, ap, _∙_}
 use mathlib.Core.Bool.{Bool, true, false, cond, not, _&&_}
 use mathlib.Core.List.{List, [], _∷_, append-nil, append-assoc}
 use Prim.Native.Nat.{ℕ, zero, suc, _+_, _-_, _*_, _/_, _%_}
 use native.Mathlib.Omega.{arith}
 use lib.Dec.{eqb, ltb}
 use lib.ListN.{length, getD}
-use borrow.Author.Tests.{ne-eqb}
+use borrow.Author.Tests.{ne-eqb, not-true}
 use Rattle.scales.specs.Meaning.{Outcome, refused, answer, Moment}
 use Rattle.scales.specs.Place.{and-both}
 use Rattle.text_read.specs.Meaning.{names, letter, prefixOf}
@@ -21,17 +21,10 @@ abbrev clean : List ℕ → Bool
 clean [] = true
 clean (b ∷ s) = not (eqb b 10) && clean s
 
-not-newline : (b : ℕ) → not (eqb b 10) ≡ true → eqb b 10 ≡ false
-not-newline b e = go (eqb b 10) e
-  where
-    go : (x : Bool) → not x ≡ true → x ≡ false
-    go true e = sym e
-    go false e = refl
-
 begun : (s : List ℕ) → clean s ≡ true → Begun s
 unfolding wholeIn
 begun [] e = refl
-begun (b ∷ s) e = let k = and-both (not (eqb b 10)) (clean s) e in rw (not-newline b (k .0)) (ap (onBegun b) (begun s (k .1)))
+begun (b ∷ s) e = let k = and-both (not (eqb b 10)) (clean s) e in rw (not-true (eqb b 10) (k .0)) (ap (onBegun b) (begun s (k .1)))
 
 -- a digit, and a letter of a month
 from-48 : (n : ℕ) → eqb (48 + n) 10 ≡ false
@@ -39,7 +32,7 @@ from-48 n = ne-eqb (48 + n) 10 (λ q. omega arith)
 
 no-newline : (s : List ℕ) (i : ℕ) → clean s ≡ true → eqb (getD s i 0) 10 ≡ false
 no-newline [] i e = refl
-no-newline (b ∷ s) zero e = not-newline b (and-both (not (eqb b 10)) (clean s) e .0)
+no-newline (b ∷ s) zero e = not-true (eqb b 10) (and-both (not (eqb b 10)) (clean s) e .0)
 no-newline (b ∷ s) (suc i) e = no-newline s i (and-both (not (eqb b 10)) (clean s) e .1)
 
 letters : (m j : ℕ) → eqb (letter m j) 10 ≡ false

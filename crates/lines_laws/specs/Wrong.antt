@@ -4,10 +4,11 @@ use mathlib.Core.Path.{refl}
 use mathlib.Core.List.{List, [], _∷_, _++_}
 use Prim.Native.Nat.{ℕ, _-_}
 use native.Mathlib.Omega.{arith}
-use lib.ListN.{length, getD, replicate}
+use lib.ListN.{length, getD}
 use lib.Seq.{slice}
 use Rattle.evidence.specs.ShutOut.{ShutOut, differ}
 use Rattle.octets.specs.Meaning.{onto}
+use Rattle.ground_laws.proofs.Desks.{sevens}
 use Rattle.leap.specs.Meaning.{publishedDays, publishedOffsets, publishedLast}
 use Rattle.lines.specs.Meaning.{linesOf, refusedText, answerTo, answers, wholeIn, bytesIn, Done, roomFor, dateLines, kept, Kept, moved, keep}
 use Rattle.lines_laws.specs.Computed.{one, refusedOne}
@@ -18,9 +19,6 @@ dateBy choice input out =
     let ls = choice input (length out) in
     let a = answers publishedDays publishedOffsets publishedLast ls in
     record { consumed = bytesIn ls; written = length a; bytes = onto a out }
-
-abbrev sevens : ℕ → List ℕ
-sevens n = replicate n 7
 
 -- a line that has begun is dated before its newline comes
 abbrev begunToo : List ℕ → ℕ → List (List ℕ)

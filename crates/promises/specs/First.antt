@@ -1,11 +1,11 @@
 -- The first row that applies, of any chain of tests whose numbers stand in the slip's order. Assumes nothing.
 use mathlib.Core.Path.{_≡_, refl, sym, ap, ap₂, _∙_}
-use mathlib.Core.Bool.{Bool, true, false, cond, not, _&&_, _||_}
+use mathlib.Core.Bool.{Bool, true, false, cond, not, _&&_, _||_, true≢false, false≢true}
 use mathlib.Core.List.{List, [], _∷_, _++_, map}
 use Prim.Native.Nat.{ℕ}
 use native.Mathlib.Omega.{arith}
 use lib.Dec.{eqb}
-use borrow.Author.Tests.{eqb-true, eq-eqb, ne-eqb}
+use borrow.Author.Tests.{eqb-true, eq-eqb, ne-eqb, not-true}
 use Rattle.scales.specs.Meaning.{Judged, given, gives, Outcome, refused, answer, outcome, numbers, order, standsIn}
 use Rattle.scales.specs.Place.{and-both, and-false}
 use Rattle.leap.specs.Walk.{or-true}
@@ -27,12 +27,8 @@ either : (a b : Bool) → a ≡ false → b ≡ false → a || b ≡ false
 either a b e f = rw (e, f)
 
 neither : (a b : Bool) → a || b ≡ false → (a ≡ false) × (b ≡ false)
-neither true b e = absurd (let z : _≡_ {A = ℕ} 0 1 = cc in omega arith)
+neither true b e = absurd (true≢false e)
 neither false b e = (refl, e)
-
-negated : (b : Bool) → not b ≡ true → b ≡ false
-negated true e = sym e
-negated false e = refl
 
 abbrev bit : Bool → ℕ
 bit true = 1
@@ -49,7 +45,7 @@ module _ {A : Type 0} where
   -- a number that is none of those in which a chain's numbers stand does not apply
   absent : (o : ℕ) (os : List ℕ) (j : Judged A) → member o os ≡ false → standsIn (numbers j) os ≡ true → applies j o ≡ false
   absent o [] (gives a) m r = refl
-  absent o [] (given t n rest) m r = absurd (let z : _≡_ {A = ℕ} 0 1 = cc in omega arith)
+  absent o [] (given t n rest) m r = absurd (false≢true r)
   absent o (p ∷ os) j m r = let k = neither (eqb o p) (member o os) m in along (k .0) (λ i q. absent o os i (k .1) q) j r
     where
       along : eqb o p ≡ false → ((i : Judged A) → standsIn (numbers i) os ≡ true → applies i o ≡ false) → (j : Judged A) → standsIn (numbers j) (p ∷ os) ≡ true → applies j o ≡ false
@@ -69,11 +65,11 @@ module _ {A : Type 0} where
   -- the number of a chain is the first that applies
   pub first-is : (os : List ℕ) (j : Judged A) → clear os ≡ true → standsIn (numbers j) os ≡ true → numberIn (outcome j) ≡ firstOf os (applies j)
   first-is [] (gives a) c r = refl
-  first-is [] (given t n rest) c r = absurd (let z : _≡_ {A = ℕ} 0 1 = cc in omega arith)
+  first-is [] (given t n rest) c r = absurd (false≢true r)
   first-is (p ∷ os) j c r =
       let k = and-both (not (eqb p 0)) (not (member p os) && clear os) c in
       let l = and-both (not (member p os)) (clear os) (k .1) in
-      along (negated (member p os) (l .0)) (λ i q. first-is os i (l .1) q) j r
+      along (not-true (member p os) (l .0)) (λ i q. first-is os i (l .1) q) j r
     where
       along : member p os ≡ false → ((i : Judged A) → standsIn (numbers i) os ≡ true → numberIn (outcome i) ≡ firstOf os (applies i)) → (j : Judged A) → standsIn (numbers j) (p ∷ os) ≡ true
           → numberIn (outcome j) ≡ firstOf (p ∷ os) (applies j)
@@ -111,7 +107,7 @@ module _ (p : ℕ → Bool) where
   then-first [] after n w e = rw e
   then-first (b ∷ before) after n w e =
       let k = and-both (not (p b)) (none p before) w in
-      rw (negated (p b) (k .0)) (then-first before after n (k .1) e)
+      rw (not-true (p b) (k .0)) (then-first before after n (k .1) e)
 
   -- the first is one of those asked, or 0
   among : (os : List ℕ) (n : ℕ) → firstOf os p ≡ n → member n os ≡ false → n ≡ 0
@@ -129,8 +125,8 @@ module _ (p : ℕ → Bool) where
   pub first-then : (before after : List ℕ) (n : ℕ) → clear (before ++ (n ∷ after)) ≡ true → firstOf (before ++ (n ∷ after)) p ≡ n → (none p before ≡ true) × (p n ≡ true)
   first-then [] after n c e =
       let k = and-both (not (eqb n 0)) (not (member n after) && clear after) c in
-      let m = negated (member n after) (and-both (not (member n after)) (clear after) (k .1) .0) in
-      go (p n) refl e (negated (eqb n 0) (k .0)) m
+      let m = not-true (member n after) (and-both (not (member n after)) (clear after) (k .1) .0) in
+      go (p n) refl e (not-true (eqb n 0) (k .0)) m
     where
       go : (x : Bool) → p n ≡ x → cond x n (firstOf after p) ≡ n → eqb n 0 ≡ false → member n after ≡ false → (true ≡ true) × (p n ≡ true)
       go true q e z m = (refl, q)
@@ -138,7 +134,7 @@ module _ (p : ℕ → Bool) where
   first-then (b ∷ before) after n c e =
       let k = and-both (not (eqb b 0)) (not (member b (before ++ (n ∷ after))) && clear (before ++ (n ∷ after))) c in
       let l = and-both (not (member b (before ++ (n ∷ after)))) (clear (before ++ (n ∷ after))) (k .1) in
-      go (p b) refl e (negated (member b (before ++ (n ∷ after))) (l .0)) (λ q. first-then before after n (l .1) q)
+      go (p b) refl e (not-true (member b (before ++ (n ∷ after))) (l .0)) (λ q. first-then before after n (l .1) q)
     where
       go : (x : Bool) → p b ≡ x → cond x b (firstOf (before ++ (n ∷ after)) p) ≡ n → member b (before ++ (n ∷ after)) ≡ false
           → (firstOf (before ++ (n ∷ after)) p ≡ n → (none p before ≡ true) × (p n ≡ true)) → (not (p b) && none p before ≡ true) × (p n ≡ true)

@@ -14,14 +14,14 @@ use Rattle.decimal.specs.Meaning.{since, plusZero}
 use Rattle.leap.specs.Meaning.{publishedDays, publishedOffsets, publishedLast}
 use Rattle.leap.specs.Published.{published}
 use Rattle.changes.specs.Meaning.{changeOf}
-use Rattle.leap_laws.proofs.Marked.{published-6209, extended, marked as three-cases}
+use Rattle.leap_laws.proofs.Computed.{published-6209, extended, computed}
 use Rattle.layouts.specs.Cuc as Cuc
 use Rattle.layouts.specs.Cryosat as Cryosat
 use Rattle.text_read.specs.Meaning.{readText}
 use Rattle.text_write.specs.Meaning.{writeText}
 use Rattle.text_laws.specs.Computed.{reads, sixty, read-early, blank, write-early}
 use Rattle.correlation.specs.Meaning as Correlation
-use Rattle.correlation_laws.proofs.Cases.{marked, case-8}
+use Rattle.correlation_laws.proofs.Cases.{marked, either-side}
 use Rattle.correlation_laws.proofs.Wider.{widened}
 use Rattle.promises.specs.Meaning.{lengthIsNone}
 use Rattle.promises.specs.First.{exactly}
@@ -89,7 +89,7 @@ handed scale d u = record { kind = 0; scale = scale; day = d; micro = u; decimal
 -- the last microsecond of that second 60, in TAI
 changed-early : Rack.changed (handed 1 (pos 6209) 86400999999) 0 publishedDays publishedOffsets (pos 6209) ≡ record { refusal = 0; scale = 0; day = pos 6210; micro = 36999999 }
 unfolding Rack.changed changeOf
-changed-early = ap Rack.timeOut (three-cases .last-second)
+changed-early = ap Rack.timeOut (computed .last-second)
 
 pub change-for-c-instance :
     Rack.changed (handed 1 (pos 6209) 86400999999) 0 publishedDays publishedOffsets publishedLast ≡ record { refusal = 0; scale = 0; day = pos 6210; micro = 36999999 }
@@ -121,7 +121,7 @@ reference = record { tick = 4294967295; scale = 0; day = pos 0; micro = 0; perio
 
 dated-before : Rack.sbtDate 0 reference (pos 0) 3906 ≡ record { refusal = 0; scale = 0; day = pos 0; micro = 3906 }
 unfolding Rack.sbtDate Rack.correlationOf Correlation.dateOf
-dated-before = ap (λ (o : Outcome Moment). Rack.timeOut (dated S.Tai o)) (case-8 .0)
+dated-before = ap (λ (o : Outcome Moment). Rack.timeOut (dated S.Tai o)) (either-side .0)
 
 reference-accepted : Correlation.accepted (Rack.correlationOf reference) ≡ true
 unfolding Rack.correlationOf
@@ -139,7 +139,7 @@ date-for-c-instance =
 
 turned-before : Rack.sbtTick (handed 0 (pos 0) 3906) reference ≡ record { refusal = 0; count = 0 }
 unfolding Rack.sbtTick Rack.correlationOf
-turned-before = ap (λ (o : Outcome ℕ). Rack.tickOut (Correlation.ticked o)) (case-8 .2)
+turned-before = ap (λ (o : Outcome ℕ). Rack.tickOut (Correlation.ticked o)) (either-side .2)
 
 pub tick-for-c-instance : Rack.sbtTick (handed 0 (pos 0) 3906) (widenedForC reference 11 12) ≡ record { refusal = 0; count = 0 }
 tick-for-c-instance =

@@ -1,6 +1,6 @@
 -- The spans on the axis, one law over the scale, and what a typed count is. Assumes nothing.
 use mathlib.Core.Path.{_≡_, refl, sym, ap, ap₂, _∙_}
-use mathlib.Core.Bool.{Bool, true, false, cond, _&&_}
+use mathlib.Core.Bool.{Bool, true, false, cond, not, _&&_, false≢true}
 use Prim.Native.Nat.{ℕ, _≤_, _<_, _+_, _*_, _/_, _%_}
 use native.Mathlib.Omega.{arith}
 use native.Mathlib.Nat.{div-eq-of-lt-le, mul-add-mod-self-right, mod-eq-of-lt, div-add-mod'}
@@ -57,7 +57,13 @@ and-false false = refl
 
 pub and-both : (a b : Bool) → a && b ≡ true → (a ≡ true) × (b ≡ true)
 and-both true b e = (refl, e)
-and-both false b e = absurd (let z : _≡_ {A = ℕ} 0 1 = cc in omega arith)
+and-both false b e = absurd (false≢true e)
+
+-- what is used and not lacking is there
+pub not-lacking : (u a : Bool) → (u && not a) ≡ false → u ≡ true → a ≡ true
+not-lacking true true e h = refl
+not-lacking true false e h = sym e
+not-lacking false a e h = absurd (false≢true h)
 
 pub record Placed (s : Scale) (d : ℤ) (u : ℕ) : Type 0 where
   pub from : firstAt s ≤ placeOfDay d

@@ -1,10 +1,11 @@
 -- The numbers and values of an answer fix the answer: any two that a contract allows are equal. Assumes nothing.
 use mathlib.Core.Path.{_≡_, refl, sym, ap, ap₂, _∙_}
 use mathlib.Core.List.{List, [], _∷_}
+use mathlib.Core.Bool.{true}
 use Prim.Native.Nat.{ℕ}
 use native.Mathlib.Omega.{arith}
 use lib.ListN.{getD}
-use Rattle.scales.specs.Meaning.{codeOf, scaleAt, slip, Typed, at, no, slipOf, typedTai, typedUtc, typedGps, slipTai, slipUtc, slipGps, numberOf, timeScale, timeCount, timeAt, slipTimed, wrote}
+use Rattle.scales.specs.Meaning.{codeOf, scaleAt, slip, Typed, at, no, slipOf, typedTai, typedUtc, typedGps, slipTai, slipUtc, slipGps, numberOf, timeScale, timeCount, timeAt, slipTimed, wrote, sameScale}
 use Rattle.scales.specs.Place.{count-inj}
 use Rattle.scales.specs.declared.Scale.{Scale}
 use Rattle.scales.specs.declared.Scale.the-variants as S
@@ -24,6 +25,7 @@ use Rattle.scales.specs.declared.Time.{Time}
 use Rattle.scales.specs.declared.Time.the-variants as TM
 use Rattle.scales.specs.declared.Timed.{Timed}
 use Rattle.scales.specs.declared.Timed.the-variants as TD
+use borrow.Author.Tests.{eqb-true}
 
 -- a scale is known by its code
 code-back : (s : Scale) → scaleAt (codeOf s) ≡ s
@@ -33,6 +35,9 @@ code-back S.Gps = refl
 
 pub scales-same : (s t : Scale) → codeOf s ≡ codeOf t → s ≡ t
 scales-same s t e = sym (code-back s) ∙ ap scaleAt e ∙ code-back t
+
+pub same-scale : (s t : Scale) → sameScale s t ≡ true → s ≡ t
+same-scale s t e = scales-same s t (eqb-true (codeOf s) (codeOf t) e)
 
 -- a refusal by its number
 abbrev of : ℕ → Refusal

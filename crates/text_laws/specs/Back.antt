@@ -1,7 +1,7 @@
 -- "Reading and writing UTC text both apply the leap list, so nothing is written that reading would refuse": what is written reads back as
 -- the same time under the same list. Assumes nothing.
 use mathlib.Core.Path.{_≡_, refl, sym, ap, subst, _∙_}
-use mathlib.Core.Bool.{Bool, true, false, not, _||_}
+use mathlib.Core.Bool.{Bool, true, false, not, _||_, true≢false, false≢true}
 use mathlib.Core.List.{List}
 use Prim.Native.Nat.{ℕ, _-_, _/_, _%_, _<_, _≤_}
 use native.Mathlib.Omega.{arith}
@@ -21,6 +21,7 @@ use Rattle.scales.specs.declared.Scale.the-variants as S
 use Rattle.scales.specs.declared.Record.{Record}
 use Rattle.scales.specs.declared.Handed.{Handed}
 use Rattle.scales.specs.declared.Handed.the-variants as H
+use Rattle.scales.specs.Order.{passed}
 use Rattle.calendar.specs.Meaning.{isDate, dateAt, walk, dayHanded, dateOfDay, dayOfDate}
 use Rattle.calendar.specs.Gregorian.{month-bounds}
 use Rattle.calendar.specs.Days.{date-within}
@@ -139,11 +140,11 @@ bound-most z = apart z .most
 
 utc-is : (z : Scale) → isUtc z ≡ true → z ≡ S.Utc
 utc-is S.Utc q = refl
-utc-is S.Tai q = absurd (let k : _≡_ {A = ℕ} 0 1 = cc in omega arith)
-utc-is S.Gps q = absurd (let k : _≡_ {A = ℕ} 0 1 = cc in omega arith)
+utc-is S.Tai q = absurd (false≢true q)
+utc-is S.Gps q = absurd (false≢true q)
 
 or-false : (a b : Bool) → (a || b) ≡ true → a ≡ false → b ≡ true
-or-false true b q f = absurd (let k : _≡_ {A = ℕ} 0 1 = cc in omega arith)
+or-false true b q f = absurd (true≢false f)
 or-false false b q f = q
 
 module _ (f : Form) (z : Scale) (d : ℤ) (u : ℕ) (w : inSpan z d u ≡ true) (i : hasImage f z u ≡ true) (ds : List ℤ) (os : List ℕ) (e : ℤ) where
@@ -161,11 +162,6 @@ module _ (f : Form) (z : Scale) (d : ℤ) (u : ℕ) (w : inSpan z d u ≡ true) 
       (λ q. utc-is z (or-false (showsScale f) (isUtc z) (y .0) q)) in
       reading-is (fullText f z g) z g r (stamp-limits t u z under) (real-is t (x .real)) ds os e
       ∙ rw (x .back, stamp-micro t u h, w)
-
--- a chain that answers passes its tests
-passes : {A : Type 0} (t : Bool) (n : ℕ) (rest : Judged A) (x : A) → outcome (given t n rest) ≡ answer x → (t ≡ true) × (outcome rest ≡ answer x)
-passes true n rest x q = (refl, q)
-passes false n rest x q = absurd (let k : _≡_ {A = ℕ} 0 1 = cc in omega arith)
 
 -- a decimal day that is handed in is an f64
 abbrev pub IsF64 : Handed → Type 0
@@ -193,13 +189,13 @@ module _ (h : Handed) (f : Form) (ds : List ℤ) (os : List ℕ) (e : ℤ) (out 
       let j12 = imaging f z m out in
       let j10 : Judged (List ℕ) = given there 10 j12 in
       let j9 : Judged (List ℕ) = given known 9 j10 in
-      let p4 = passes (isFinite h) 4 (listed z ds os e (isInSpan h) m j12) x q in
-      let p5 = passes (not (isUtc z) || accepted ds os e) 5 (given (isInSpan h) 7 j9) x (p4 .1) in
-      let p7 = passes (isInSpan h) 7 j9 x (p5 .1) in
-      let p9 = passes known 9 j10 x (p7 .1) in
-      let p10 = passes there 10 j12 x (p9 .1) in
-      let p12 = passes (hasImage f z (m .micro)) 12 (given (hasRoom image out) 13 (gives image)) x (p10 .1) in
-      let p13 = passes (hasRoom image out) 13 (gives image) x (p12 .1) in
+      let p4 = passed (isFinite h) 4 (listed z ds os e (isInSpan h) m j12) x q in
+      let p5 = passed (not (isUtc z) || accepted ds os e) 5 (given (isInSpan h) 7 j9) x (p4 .1) in
+      let p7 = passed (isInSpan h) 7 j9 x (p5 .1) in
+      let p9 = passed known 9 j10 x (p7 .1) in
+      let p10 = passed there 10 j12 x (p9 .1) in
+      let p12 = passed (hasImage f z (m .micro)) 12 (given (hasRoom image out) 13 (gives image)) x (p10 .1) in
+      let p13 = passed (hasRoom image out) 13 (gives image) x (p12 .1) in
       let y : answer image ≡ answer x = p13 .1 in
       record {
         is = cc;

@@ -13,7 +13,7 @@ use Rattle.scales.specs.declared.Handed.the-variants as H
 use Rattle.calendar.specs.Meaning.{leap, monthLength, lengthOf, firstDay, isDate, dayAfter, daysTo, walk, dayOfDate, dateOfDay}
 use Rattle.leap.specs.Meaning.{isStep, publishedDays, publishedOffsets, publishedLast}
 use Rattle.leap.specs.Published.{published}
-use Rattle.leap_laws.proofs.Marked.{published-6209}
+use Rattle.leap_laws.proofs.Computed.{published-6209}
 use Rattle.text_read.specs.Meaning.{digitOf, twoOf, fourOf, sixOf, names, letter, isNamed, seek, monthOf, hasMarks, microIn, stampIn, inLimits, prefixOf, hasPrefix, scaleIn, bodyIn, isPrefixRight, isBody, readText}
 use Rattle.text_write.specs.Meaning.{textOf, writeText}
 use Rattle.text_write.specs.declared.Form.{Form}
@@ -24,14 +24,10 @@ use Rattle.text_laws.specs.Fresh.{published-again}
 abbrev pub reads : List ℕ → Slip
 reads s = readText s publishedDays publishedOffsets publishedLast
 
+-- UTC=31-DEC-2016 23:59:60.000000
 abbrev pub sixty : List ℕ
 sixty =
     85 ∷ 84 ∷ 67 ∷ 61 ∷ 51 ∷ 49 ∷ 45 ∷ 68 ∷ 69 ∷ 67 ∷ 45 ∷ 50 ∷ 48 ∷ 49 ∷ 54 ∷ 32 ∷ 50 ∷ 51 ∷ 58 ∷ 53 ∷ 57 ∷ 58 ∷ 54 ∷ 48 ∷ 46 ∷ 48 ∷ 48 ∷ 48 ∷ 48 ∷ 48 ∷ 48 ∷ []
-
--- UTC=31-DEC-2016 23:59:60.000000
-pub read-sixty : reads sixty ≡ dated S.Utc (answer (record { day = pos 6209; micro = 86400000000 }))
-unfolding readText isPrefixRight isBody scaleIn bodyIn hasPrefix prefixOf hasMarks stampIn microIn inLimits digitOf twoOf fourOf sixOf monthOf seek isNamed letter names isDate dayOfDate dayAfter firstDay lengthOf monthLength leap isStep
-read-sixty = rw published
 
 -- 31-DEC-2016 23:59:6
 pub read-short : reads (drop 4 (take 23 sixty)) ≡ dated S.Tai (refused 1)

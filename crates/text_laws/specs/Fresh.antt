@@ -18,7 +18,7 @@ use Rattle.leap.specs.Meaning.{accepted, Extends, publishedDays, publishedOffse
 use Rattle.changes.specs.Meaning.{usesList, moving, momentIn, changing, changeOf}
 use Rattle.leap_laws.proofs.Promises.{Fresh, fresh}
 use Rattle.leap.specs.Published.{published}
-use Rattle.leap_laws.proofs.Marked.{published-6209, extended}
+use Rattle.leap_laws.proofs.Computed.{published-6209, extended}
 use Rattle.text_read.specs.Meaning.{isPlain, isPrefixed, isPrefixRight, isBody, scaleIn, bodyIn, stampIn, momentOf, listed, readingBody, datedIn, readText}
 use Rattle.text_read.specs.Judging.{judging, list-passes, sound}
 use Rattle.text_write.specs.Meaning.{imaging, writeText}

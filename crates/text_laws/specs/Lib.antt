@@ -1,4 +1,4 @@
-pub mod Order
+pub mod Numbers
 pub mod Fresh
 pub mod Digits
 pub mod Back

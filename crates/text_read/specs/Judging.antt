@@ -1,13 +1,12 @@
 -- What both ways judge of a time: a law for each way out, and what an answer tells. Assumes nothing.
 use mathlib.Core.Path.{_≡_, refl, sym, ap, ap₂, _∙_}
-use mathlib.Core.Bool.{Bool, true, false, not, _||_, _&&_, false≢true}
-use mathlib.Core.List.{List, [], _∷_}
+use mathlib.Core.Bool.{Bool, true, false, not, _||_, false≢true}
+use mathlib.Core.List.{List}
 use Prim.Native.Nat.{ℕ}
-use native.Mathlib.Omega.{arith}
-use lib.Dec.{eqb}
+use lib.Dec.{ltb}
 use lib.IntN.{ℤ}
-use borrow.Author.Tests.{eq-eqb}
-use Rattle.scales.specs.Meaning.{inSpan, Judged, given, gives, Outcome, refused, answer, outcome, numbers, Moment, dated, numberOf, slip, momentAt, timeScale, timeCount}
+use borrow.Author.Tests.{ltb-true}
+use Rattle.scales.specs.Meaning.{inSpan, Judged, given, gives, Outcome, refused, answer, outcome, Moment, dated, numberOf, slip, momentAt, timeScale, timeCount}
 use Rattle.scales.specs.Same.{some}
 use Rattle.scales.specs.Place.{and-both}
 use Rattle.scales.specs.declared.Scale.{Scale}
@@ -17,6 +16,7 @@ use Rattle.scales.specs.declared.Record.{Record}
 use Rattle.scales.specs.declared.Refusal.{Refusal}
 use Rattle.scales.specs.declared.Dated.the-variants as D
 use Rattle.scales.specs.declared.Handed.{Handed}
+use Rattle.scales.specs.Order.{no-answer, numbered}
 use Rattle.decimal.specs.Meaning.{scaleOf, isFinite, isInSpan, Took}
 use Rattle.decimal.specs.Told.{told-nothing, told-outside, told-at, told-scale, told-moment}
 use Rattle.decimal.specs.declared.Taken.{Taken}
@@ -25,6 +25,7 @@ use Rattle.leap.specs.Meaning.{accepted}
 use Rattle.changes.specs.Meaning.{isUtc, momentIn, ofCount, moving}
 use Rattle.text_read.specs.Meaning.{listed}
 use Rattle.text_read.specs.Stage.{takenScale, usesIn, counting, taking, recordMoment}
+use native.Mathlib.Omega.{arith}
 
 module _ (ds : List ℤ) (os : List ℕ) (e : ℤ) where
   -- ---- the list is judged before
@@ -35,7 +36,7 @@ module _ (ds : List ℤ) (os : List ℕ) (e : ℤ) where
 
   -- a list that is used and not accepted is refused first of all that a time brings
   pub list-lacks : (t : Taken) → usesIn t ≡ true → accepted ds os e ≡ false → outcome (taking t ds os e) ≡ refused 5
-  list-lacks (K.NotFinite z) u w = absurd (let k : _≡_ {A = ℕ} 0 1 = cc in omega arith)
+  list-lacks (K.NotFinite z) u w = absurd (false≢true u)
   list-lacks (K.Outside z) u w = rw (u, w)
   list-lacks (K.At t) u w = rw (u, w)
 
@@ -77,16 +78,12 @@ took-scale h (K.Outside z) w = told-outside h (K.Outside z) w z refl .2
 took-scale h (K.At t) w = told-scale h t (told-at h (K.At t) w t refl)
 
 -- ---- what an answer tells: none of a chain's numbers is 0
-abbrev pub noZero : List ℕ → Bool
-noZero [] = true
-noZero (n ∷ ns) = not (eqb n 0) && noZero ns
-
-pub sound : {A : Type 0} (j : Judged A) → noZero (numbers j) ≡ true → outcome j ≡ refused 0 → ⊥
-sound (given true n rest) w q = sound rest (and-both (not (eqb n 0)) (noZero (numbers rest)) w .1) q
+pub sound : {A : Type 0} (j : Judged A) → numbered j ≡ true → outcome j ≡ refused 0 → ⊥
+sound (given true n rest) w q = sound rest (and-both (ltb 0 n) (numbered rest) w .1) q
 sound (given false n rest) w q =
     let z : n ≡ 0 = cc in
-    false≢true (sym (ap not (eq-eqb n 0 z)) ∙ and-both (not (eqb n 0)) (noZero (numbers rest)) w .0)
-sound (gives a) w q = let z : _≡_ {A = ℕ} 0 1 = cc in omega arith
+    omega (arith, z, ltb-true 0 n (and-both (ltb 0 n) (numbered rest) w .0))
+sound (gives a) w q = no-answer (sym q)
 
 pub taking-sound : (t : Taken) (ds : List ℤ) (os : List ℕ) (e : ℤ) → outcome (taking t ds os e) ≡ refused 0 → ⊥
 taking-sound (K.NotFinite z) ds os e = sound (taking (K.NotFinite z) ds os e) refl

@@ -1,6 +1,6 @@
 -- The ways out of parsing a text. Assumes nothing.
 use mathlib.Core.Path.{_≡_, refl, sym, _∙_}
-use mathlib.Core.Bool.{Bool, true, false, cond, _||_, _&&_}
+use mathlib.Core.Bool.{Bool, true, false, cond, _||_, _&&_, false≢true}
 use mathlib.Core.List.{List}
 use Prim.Native.Nat.{ℕ, _≤_, _<_}
 use native.Mathlib.Omega.{arith}
@@ -35,7 +35,7 @@ either-from n a b h e = go (eqb n a) refl (eqb n b) refl e
     go : (x : Bool) → eqb n a ≡ x → (y : Bool) → eqb n b ≡ y → (x || y) ≡ true → a ≤ n
     go true p y q k = omega (arith, eqb-true n a p)
     go false p true q k = omega (arith, eqb-true n b q)
-    go false p false q k = absurd (let z : _≡_ {A = ℕ} 0 1 = cc in omega arith)
+    go false p false q k = absurd (false≢true k)
 
 -- ---- the limits
 pub record Limited (t : Stamp) : Type 0 where
@@ -65,7 +65,7 @@ limited z t e =
     go : (x : Bool) → leb (t .second) 59 ≡ x → (y : Bool) → eqb (t .second) 60 ≡ y → (k : Bool) → (x || (y && k)) ≡ true → t .second < 61
     go true p y q k e = omega (arith, leb-true (t .second) 59 p)
     go false p true q k e = omega (arith, eqb-true (t .second) 60 q)
-    go false p false q k e = absurd (let z : _≡_ {A = ℕ} 0 1 = cc in omega arith)
+    go false p false q k e = absurd (false≢true e)
 
 -- ---- the date
 -- 3 is the calendar's number for what is no date; any other date of the rule has a day, or none in the span

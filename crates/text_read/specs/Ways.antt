@@ -1,9 +1,8 @@
 -- The ways out of reading and of writing: a law for each. Assumes nothing.
 use mathlib.Core.Path.{_≡_, refl, sym, ap, ap₂, subst, _∙_}
-use mathlib.Core.Bool.{Bool, true, false, not, _||_, _&&_}
+use mathlib.Core.Bool.{Bool, true, false, not, _||_, _&&_, false≢true}
 use mathlib.Core.List.{List}
 use Prim.Native.Nat.{ℕ}
-use native.Mathlib.Omega.{arith}
 use lib.IntN.{ℤ}
 use Rattle.scales.specs.Meaning.{Outcome, refused, answer, outcome, Moment, dated, numberOf, slip}
 use Rattle.scales.specs.declared.Scale.{Scale}
@@ -29,16 +28,10 @@ uses-same z y p q = go (isUtc z) (ap (λ (x : Scale). isUtc z || isUtc x) (sym p
     go true e = refl
     go false e = e
 
--- a list that is used and not lacking is accepted
-pub not-lacking : (u a : Bool) → (u && not a) ≡ false → u ≡ true → a ≡ true
-not-lacking true true e h = refl
-not-lacking true false e h = sym e
-not-lacking false a e h = absurd (let z : _≡_ {A = ℕ} 0 1 = cc in omega arith)
-
 pub lacking : (u a : Bool) → (u && not a) ≡ true → (u ≡ true) × (a ≡ false)
-lacking true true e = absurd (let z : _≡_ {A = ℕ} 0 1 = cc in omega arith)
+lacking true true e = absurd (false≢true e)
 lacking true false e = (refl, refl)
-lacking false a e = absurd (let z : _≡_ {A = ℕ} 0 1 = cc in omega arith)
+lacking false a e = absurd (false≢true e)
 
 -- ---- reading: an answer keeps its scale, a refusal gives TAI's empty record
 module _ (z : Scale) (o : Outcome Moment) where

@@ -7,7 +7,7 @@ use native.Mathlib.Omega.{arith}
 use lib.IntN.{ℤ}
 use Rattle.axis.specs.Meaning.{placeOfDay}
 use Rattle.scales.specs.Meaning.{inSpan, Judged, given, gives, Outcome, answer, outcome, Moment, wrote, written, slip, dated, momentAt, timeScale, timeCount}
-use Rattle.scales.specs.Order.{onward, then-is}
+use Rattle.scales.specs.Order.{onward, then-is, no-answer}
 use Rattle.scales.specs.Place.{apart, placed}
 use Rattle.scales.specs.Same.{some}
 use Rattle.scales.specs.declared.Scale.{Scale}
@@ -96,17 +96,17 @@ module _ (t : Taken) (f : Form) (ds : List ℤ) (os : List ℕ) (e : ℤ) (out :
         counted : (z : Scale) (m n : Moment) (a b c d : Bool) → inSpan z (m .day) (m .micro) ≡ b
             → outcome (given a 5 (given b 7 (given c 9 (given d 10 (gives m))))) ≡ answer n → inSpan z (n .day) (n .micro) ≡ true
         counted z m n true true true true i g = let y : m ≡ n = cc in ap (λ (x : Moment). inSpan z (x .day) (x .micro)) (sym y) ∙ i
-        counted z m n false b c d i g = absurd (let y : _≡_ {A = ℕ} 0 1 = cc in omega arith)
-        counted z m n true false c d i g = absurd (let y : _≡_ {A = ℕ} 0 1 = cc in omega arith)
-        counted z m n true true false d i g = absurd (let y : _≡_ {A = ℕ} 0 1 = cc in omega arith)
-        counted z m n true true true false i g = absurd (let y : _≡_ {A = ℕ} 0 1 = cc in omega arith)
+        counted z m n false b c d i g = absurd (no-answer g)
+        counted z m n true false c d i g = absurd (no-answer g)
+        counted z m n true true false d i g = absurd (no-answer g)
+        counted z m n true true true false i g = absurd (no-answer g)
 
         outside : (a : Bool) (n : Moment) → outcome (given a 5 (given false 7 (gives n))) ≡ answer n → ⊥
-        outside true n g = let y : _≡_ {A = ℕ} 0 1 = cc in omega arith
-        outside false n g = let y : _≡_ {A = ℕ} 0 1 = cc in omega arith
+        outside true n g = no-answer g
+        outside false n g = no-answer g
 
         inside : (t : Taken) (n : Moment) → outcome (taking t ds os e) ≡ answer n → inSpan (takenScale t) (n .day) (n .micro) ≡ true
-        inside (K.NotFinite z) n g = absurd (let y : _≡_ {A = ℕ} 0 1 = cc in omega arith)
+        inside (K.NotFinite z) n g = absurd (no-answer g)
         inside (K.Outside z) n g = absurd (outside (not (isUtc z) || accepted ds os e) n g)
         inside (K.At s) n g =
             let z = timeScale s in

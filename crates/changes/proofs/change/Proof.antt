@@ -5,11 +5,12 @@ use mir.Syntax.{w64}
 use mir.Val.{toZ, ofZ}
 use mir.Facts.{toZ-ofZ}
 use Rattle.scales.specs.declared.Scale.{Scale}
+use Rattle.scales.specs.Place.{not-lacking}
 use Rattle.decimal.specs.Meaning.{scaleOf}
 use Rattle.decimal.specs.Told.{told-nothing, told-outside, told-at, told-scale}
 use Rattle.leap.specs.Meaning.{accepted}
 use Rattle.changes.specs.Meaning.{usesList}
-use Rattle.changes.specs.General.{change-infinite, change-unlisted, change-outside, change-at, listed-so}
+use Rattle.changes.specs.General.{change-infinite, change-unlisted, change-outside, change-at}
 use borrow.Author.Needs.{needs}
 use Rattle.changes.proofs.change.Statement.{statement}
 use Rattle.changes.proofs.change.Tie as tie
@@ -59,7 +60,7 @@ change-requires c κs =
     let k = l .before .before .before in
     let a = k .before .before .before .before .args in
     λ h.
-    listed-so (usesList (l .before .scale .result) (a .to)) (accepted (a .days .now) (a .offsets .now) (toZ w64 (ofZ w64 (a .last)))) (sym (l .lacks-list2 .ensures) ∙ c .if2 .left)
+    not-lacking (usesList (l .before .scale .result) (a .to)) (accepted (a .days .now) (a .offsets .now) (toZ w64 (ofZ w64 (a .last)))) (sym (l .lacks-list2 .ensures) ∙ c .if2 .left)
     (ap (λ (x : Scale). usesList x (a .to)) (l .before .scale .ensures) ∙ h)
 
 returns-3 : tie.Need-returns-3

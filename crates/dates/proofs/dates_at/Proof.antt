@@ -11,12 +11,6 @@ Inv-loop page₀ n places at₀ i₀ page at i = i ≤ length places
 abbrev μ-loop : tie.MeasureT-loop
 μ-loop page₀ n places at₀ i₀ page at i = length places - i
 
-dated-requires : tie.Need-dated-requires Inv-loop μ-loop
-dated-requires c κs = tt
-
-returns : tie.Need-returns Inv-loop μ-loop
-returns c = tt
-
 pub dates-at-spec : {M : Type 1} → statement M
 dates-at-spec =
     tie.close
@@ -26,8 +20,8 @@ dates-at-spec =
     (λ c. omega arith)
     (λ c. omega arith)
     (λ c. omega arith)
-    dated-requires
+    (λ c κs. tt)
     (λ c. omega arith)
     (λ c. omega arith)
     (λ c. omega arith)
-    returns)
+    (λ c. tt))

@@ -10,15 +10,6 @@ Inv-loop page₀ n₀ place₀ page n place = place ≤ 76527
 abbrev μ-loop : tie.MeasureT-loop
 μ-loop page₀ n₀ place₀ page n place = 76527 - place
 
-dated-requires : tie.Need-dated-requires Inv-loop μ-loop
-dated-requires c κs = tt
-
-flush-requires : tie.Need-flush-requires Inv-loop μ-loop
-flush-requires c κs = tt
-
-returns : tie.Need-returns Inv-loop μ-loop
-returns c = tt
-
 pub every-spec : {M : Type 1} → statement M
 every-spec =
     tie.close
@@ -26,9 +17,9 @@ every-spec =
     Inv-loop
     μ-loop
     (λ c. omega arith)
-    dated-requires
+    (λ c κs. tt)
     (λ c. omega arith)
     (λ c. omega arith)
     (λ c. omega arith)
-    flush-requires
-    returns)
+    (λ c κs. tt)
+    (λ c. tt))

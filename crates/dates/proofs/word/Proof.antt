@@ -11,12 +11,6 @@ Inv-loop page₀ n text at₀ i₀ page at i = i ≤ length text
 abbrev μ-loop : tie.MeasureT-loop
 μ-loop page₀ n text at₀ i₀ page at i = length text - i
 
-put-requires : tie.Need-put-requires Inv-loop μ-loop
-put-requires c κs = tt
-
-returns : tie.Need-returns Inv-loop μ-loop
-returns c = tt
-
 pub word-spec : {M : Type 1} → statement M
 word-spec =
     tie.close
@@ -25,8 +19,8 @@ word-spec =
     μ-loop
     (λ c. omega arith)
     (λ c. omega arith)
-    put-requires
+    (λ c κs. tt)
     (λ c. omega arith)
     (λ c. omega arith)
     (λ c. omega arith)
-    returns)
+    (λ c. tt))

@@ -24,9 +24,6 @@ same-length c = omega (arith, c .before .before .before .before .before .before 
 same-length-2 : tie.Need-same-length-2 Inv-loop μ-loop
 same-length-2 c = omega (arith, c .before .before .before .before .before .before .before .before .before .before .loop .inv .2)
 
-returns : tie.Need-returns Inv-loop μ-loop
-returns c = tt
-
 loop-again : tie.Need-loop-again Inv-loop μ-loop
 loop-again c = let l = c .before .before .before .before .before .before .before .before .before .before in (c .before .before .before .before .before .before .read-block .ensures, omega (arith, l .loop .inv .1), omega (arith, l .loop .inv .2))
 
@@ -35,9 +32,6 @@ same-length-3 c = c .before .loop .inv .1
 
 same-length-4 : tie.Need-same-length-4 Inv-loop μ-loop
 same-length-4 c = c .before .loop .inv .2
-
-returns-2 : tie.Need-returns-2 Inv-loop μ-loop
-returns-2 c = tt
 
 pub run-spec : {M : Type 1} → statement M
 run-spec =
@@ -49,10 +43,10 @@ run-spec =
     read-block-requires
     same-length
     same-length-2
-    returns
+    (λ c. tt)
     (λ c. omega arith)
     (λ c. omega arith)
     loop-again
     same-length-3
     same-length-4
-    returns-2)
+    (λ c. tt))

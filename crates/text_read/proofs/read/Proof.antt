@@ -6,9 +6,10 @@ use mir.Facts.{toZ-ofZ}
 use lib.IntN.{ℤ}
 use Rattle.leap.specs.Meaning.{accepted}
 use Rattle.scales.specs.Meaning.{outcome}
+use Rattle.scales.specs.Place.{not-lacking}
 use Rattle.text_read.specs.Meaning.{datedIn}
 use Rattle.text_read.specs.Stage.{usesIn, takenScale, taking}
-use Rattle.text_read.specs.Ways.{read-refused, read-parsed, read-lacks, not-lacking}
+use Rattle.text_read.specs.Ways.{read-refused, read-parsed, read-lacks}
 use mir.Val.{toZ, ofZ}
 use mir.Syntax.{w64}
 use borrow.Author.Needs.{needs}

@@ -9,11 +9,11 @@ use Rattle.leap.specs.Meaning.{accepted}
 use mathlib.Core.Bool.{not, _&&_}
 use Rattle.text_read.specs.Stage.{usesIn}
 use Rattle.text_write.specs.Stage.{writtenOf}
-use Rattle.text_read.specs.Ways.{not-lacking}
 use Rattle.text_write.specs.Writes.{write-took, write-lacks}
 use borrow.Author.Needs.{needs}
 use Rattle.text_write.proofs.write.Statement.{statement}
 use Rattle.text_write.proofs.write.Tie as tie
+use Rattle.scales.specs.Place.{not-lacking}
 
 returns : tie.Need-returns
 returns c =
