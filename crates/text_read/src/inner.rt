@@ -6,7 +6,7 @@ ghost use lib.ListN.{length};
 ghost use Rattle.scales.specs.Meaning.{slip, outcome, dated};
 ghost use Rattle.leap.specs.Meaning.{accepted};
 ghost use Rattle.changes.specs.Meaning.{isUtc};
-ghost use Rattle.text_read.specs.Meaning.{names, prefixOf, readText, readingIn, datedIn};
+ghost use Rattle.text_read.specs.Meaning.{names, prefixOf, readingIn, datedIn};
 ghost use Rattle.text_read.specs.In.{timeIn};
 ghost use Rattle.text_read.specs.Stage.{usesIn, lacksList, takenScale, taking, ParsesBody, ParsesText};
 use super::Parsed;
@@ -175,16 +175,6 @@ pub fn read_time(t: Taken, days: &[i64], offsets: &[u64], last: i64) -> Dated
     match judge(t, days, offsets, last) {
         Dated::At(r) => Dated::At(r),
         Dated::Refused(f, _) => Dated::Refused(f, Scale::Tai),
-    }
-}
-
-pub fn read(text: &[u8], days: &[i64], offsets: &[u64], last: i64) -> Dated
-    requires { ⌜ accepted (now days) (now offsets) last ≡ true ⌝ }
-    ensures { λ r. ⌜ slip r ≡ readText (now (text .entry)) (now (days .entry)) (now (offsets .entry)) last ⌝ }
-{
-    match parse(text) {
-        Parsed::Refused(f) => Dated::Refused(f, Scale::Tai),
-        Parsed::Time(t) => read_time(t, days, offsets, last),
     }
 }
 

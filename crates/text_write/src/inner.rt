@@ -5,14 +5,13 @@ ghost use Rattle.scales.specs.Meaning.{wrote, inSpan};
 ghost use Rattle.leap.specs.Meaning.{accepted};
 ghost use Rattle.changes.specs.Meaning.{isUtc};
 ghost use Rattle.text_read.specs.Stage.{usesIn, recordMoment};
-ghost use Rattle.text_write.specs.Meaning.{writeText, showsScale, hasImage};
+ghost use Rattle.text_write.specs.Meaning.{showsScale, hasImage};
 ghost use Rattle.text_write.specs.Stage.{imaged, writtenOf};
 use super::Form;
 use super::image;
 use calendar::DateAnswer;
 use decimal::Taken;
 use scales::Dated;
-use scales::Handed;
 use scales::Record;
 use scales::Refusal;
 use scales::Scale;
@@ -71,18 +70,4 @@ pub fn write_time(
         Dated::At(r) => write_record(r, form, out),
         Dated::Refused(f, _) => Written::Refused(f),
     }
-}
-
-pub fn write(
-    h: Handed,
-    form: Form,
-    days: &[i64],
-    offsets: &[u64],
-    last: i64,
-    out: &mut [u8],
-) -> Written
-    requires { ⌜ accepted (now days) (now offsets) last ≡ true ⌝ }
-    ensures { λ w. ⌜ wrote w (now (out .exit)) ≡ writeText h form (now (days .entry)) (now (offsets .entry)) last (now (out .entry)) ⌝ }
-{
-    write_time(decimal::take(h), form, days, offsets, last, out)
 }
