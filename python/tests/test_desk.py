@@ -1,6 +1,7 @@
 """The paper's marked cases, each refusal, and numbers that a field of the interface cannot hold."""
 
 import doctest
+import pickle
 import threading
 import unittest
 
@@ -124,12 +125,37 @@ class Desk(unittest.TestCase):
         for h3 in False, True:
             self.assertEqual(vrk.proteus_read(vrk.proteus_write(Utc(6209, 500_000), h3)), (Utc(6209, 500_000), h3))
 
+    def test_h3_is_a_bit(self):
+        self.refused(3, vrk.proteus_write, Utc(0, 0), 2)
+        self.refused(3, vrk.proteus_fields_write, 0, -1, 0, 0)
+        # H3 forgotten, and the lent bytes in its place
+        with self.assertRaises(TypeError):
+            vrk.proteus_write(Utc(0, 0), bytearray(8))
+
     def test_a_list_ends(self):
         vrk.text_read("31-DEC-2024 23:59:59", LIST)
         self.refused(9, vrk.text_read, "01-JAN-2025 00:00:00", LIST)
         self.refused(9, vrk.text_write, Utc(9132, 0), 20, LIST)
         longer = LeapList(LIST.days, LIST.offsets, 9132)
         self.assertEqual(vrk.text_write(Utc(9132, 0), 20, longer), "01-JAN-2025 00:00:00")
+
+    def test_a_list_stays_as_it_was_built(self):
+        days = list(LIST.days)
+        held = LeapList(days, LIST.offsets, 9131)
+        days.clear()
+        self.assertEqual(held, LIST)
+        self.assertEqual(pickle.loads(pickle.dumps(held)), LIST)
+        with self.assertRaises(AttributeError):
+            held.last = 9132
+
+    def test_slices_of_any_length(self):
+        self.refused(1, vrk.cuc_read, b"")
+        self.refused(1, vrk.cuc_read, bytes(100_000))
+        self.refused(1, vrk.text_read, "0" * 100_000, LIST)
+        out = bytearray(b"\xa5" * 100_000)
+        vrk.cuc_write(Gps(0, 0), out)
+        self.assertEqual(out, vrk.cuc_write(Gps(0, 0)) + b"\xa5" * 99_994)
+        self.refused(5, Tai(0, 0).to_utc, LeapList(range(10_000), range(10_000), 9131))
 
     def test_a_refusal_gives_the_lent_bytes_back(self):
         out = bytearray(5)
@@ -180,10 +206,27 @@ class Desk(unittest.TestCase):
         self.assertNotEqual(Tai(0, 0), Gps(0, 0))
         with self.assertRaises(TypeError):
             correlation(0, Tai(0, 0), 1, 1).date(0, Gps(0, 0))
-        with self.assertRaises(TypeError):
-            vrk.cuc_write((0, 0))
-        with self.assertRaises(TypeError):
-            Tai(0.5, 0).to_gps()
+
+    # Each of these would otherwise be read as something that nobody meant.
+    def test_other_kinds_are_no_times(self):
+        for function, *given in [
+            (vrk.cuc_write, (0, 0)),
+            (Tai(0.5, 0).to_gps,),
+            (vrk.cuc_read, 6),
+            (vrk.cuc_read, [0] * 6),
+            (vrk.text_read, 20, LIST),
+            (Tai.from_decimal, "0.5"),
+            (vrk.cuc_write, Decimal(0.5, "GPS")),
+            (vrk.change, Tai(0, 0), "GPS", LIST),
+            (Tai(0, 0).to_utc, None),
+            (correlation(0, (0, 0), 1, 1).date, 0, (0, 0)),
+            (vrk.cuc_write, Gps(0, 0), memoryview(bytearray(6))),
+        ]:
+            with self.assertRaises(TypeError, msg=str(given)):
+                function(*given)
+
+    def test_names(self):
+        self.assertEqual(sorted(vrk.__all__), [name for name in dir(vrk) if not name.startswith("_")])
 
     def test_words(self):
         with self.assertRaises(Refused) as caught:

@@ -1,8 +1,4 @@
-"""The byte layouts and texts.
-
-A reader takes bytes of any length. A writer hands its image back; where a bytearray is lent it also writes the image onto its
-front, leaves every byte after it, and refuses with 13 where it is too short. A refusal leaves every byte.
-"""
+"""The byte layouts and texts."""
 
 from __future__ import annotations
 
@@ -10,14 +6,15 @@ import ctypes
 from typing import Any, NamedTuple, Optional, Tuple, Union
 
 from . import _sys
-from ._times import Gps, Handed, LeapList, Tai, Time, Utc, answered, handed, narrow, unsigned
+from ._times import Gps, Handed, LeapList, Tai, Time, Utc, answered, due, handed, listed, narrow, unsigned
 
 Bytes = Union[bytes, bytearray, memoryview]
 Lent = Optional[bytearray]
 
 
 def _slice(data: Bytes) -> Tuple[Any, int]:
-    held = bytes(data)
+    # bytes() would take a number too, as that many zero bytes.
+    held = memoryview(data).tobytes()
     return (ctypes.c_uint8 * len(held)).from_buffer_copy(held), len(held)
 
 
@@ -26,7 +23,7 @@ def _read(name: str, data: Bytes) -> Any:
 
 
 def _write(name: str, length: int, out: Lent, *given: Any) -> bytes:
-    room = bytearray(length) if out is None else out
+    room = bytearray(length) if out is None else due(out, bytearray, "a bytearray")
     lent = (ctypes.c_uint8 * len(room)).from_buffer(room)
     try:
         written = getattr(_sys.library(), name)(*given, lent, len(room))
@@ -88,7 +85,7 @@ def goce_read(data: Bytes) -> int:
 
 
 def goce_write(count: int, out: Lent = None) -> bytes:
-    """Refused: 3 where it is no count of 48 bits; 13."""
+    """The count's bytes. Refused: 3 where it is no count of 48 bits; 13."""
     return _write("vrk_goce_write", 6, out, unsigned(count))
 
 
@@ -98,7 +95,7 @@ def obet_read(data: Bytes) -> int:
 
 
 def obet_write(count: int, out: Lent = None) -> bytes:
-    """Refused: 3 where it is no count of 56 bits; 13."""
+    """The count's bytes, after the byte 66. Refused: 3 where it is no count of 56 bits; 13."""
     return _write("vrk_obet_write", 8, out, unsigned(count))
 
 
@@ -109,9 +106,9 @@ def proteus_read(data: Bytes) -> Tuple[Utc, bool]:
 
 
 def proteus_write(time: Handed, h3: bool, out: Lent = None) -> bytes:
-    """The last image whose reading is not later, with H3. Refused: 4; 7; 12 a scale other than UTC, second 60, a day outside
-    -7300 to 21371; 13."""
-    return _write("vrk_proteus_write", 8, out, handed(time), int(bool(h3)))
+    """The last image whose reading is not later, with H3. Refused: 3 an H3 that is no bit; 4; 7; 12 a scale other than UTC,
+    second 60, a day outside -7300 to 21371; 13."""
+    return _write("vrk_proteus_write", 8, out, handed(time), narrow(h3))
 
 
 def proteus_fields_read(data: Bytes) -> ProteusFields:
@@ -122,7 +119,7 @@ def proteus_fields_read(data: Bytes) -> ProteusFields:
 
 def proteus_fields_write(week: int, h3: bool, second: int, fraction: int, out: Lent = None) -> bytes:
     """The fields' bytes, exactly. Refused: 3; 13."""
-    return _write("vrk_proteus_fields_write", 8, out, narrow(week), int(bool(h3)), narrow(second), narrow(fraction))
+    return _write("vrk_proteus_fields_write", 8, out, narrow(week), narrow(h3), narrow(second), narrow(fraction))
 
 
 def cryosat_read(data: Bytes) -> Tai:
@@ -174,7 +171,7 @@ def sbt_read(data: Bytes) -> int:
 
 
 def sbt_write(tick: int, out: Lent = None) -> bytes:
-    """Refused: 3 where the number is no tick; 13."""
+    """The tick's bytes. Refused: 3 where the number is no tick; 13."""
     return _write("vrk_sbt_write", 4, out, narrow(tick))
 
 
@@ -183,7 +180,7 @@ def text_read(text: Union[str, Bytes], leap_list: LeapList) -> Time:
     the list looked at. Refused: 1; 3; 5; 7; 9; 10."""
     # A character that has no byte of its own becomes a question mark, which is as bad a character as it was.
     data = text.encode("ascii", "replace") if isinstance(text, str) else text
-    read = answered(_sys.library().vrk_text_read(*_slice(data), *leap_list._given))
+    read = answered(_sys.library().vrk_text_read(*_slice(data), *listed(leap_list)))
     if read.scale == Tai.CODE:
         return Tai._of(read)
     return Utc._of(read) if read.scale == Utc.CODE else Gps._of(read)
@@ -193,5 +190,5 @@ def text_write(time: Handed, form: int, leap_list: LeapList, out: Lent = None) -
     """A time as text in the form of that length: 20, 24 with a prefix, 27 with microseconds, 31 with both. Nothing is
     written that reading would refuse. Refused: 3 another form; 4; 5; 7; 9; 10; 12 a scale other than UTC without a prefix, a
     microsecond that the form cannot show; 13."""
-    given = handed(time), *leap_list._given, narrow(form)
+    given = handed(time), *listed(leap_list), narrow(form)
     return _write("vrk_text_write", 31, out, *given).decode("ascii")

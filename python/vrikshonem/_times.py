@@ -3,7 +3,7 @@
 from __future__ import annotations
 
 import ctypes
-from dataclasses import dataclass
+from dataclasses import dataclass, field
 from operator import index
 from typing import Any, ClassVar, Generic, Sequence, Tuple, Type, TypeVar, Union
 
@@ -32,7 +32,7 @@ _I64, _U64, _U32 = 2**63, 2**64, 2**32
 class Refused(Exception):
     """A refusal: the first that applies in the paper's order. Lent memory keeps all its bytes.
 
-    number  the paper's number, 1 to 13
+    number  the paper's number
     words   what is wrong, in the paper's words
     """
 
@@ -44,6 +44,9 @@ class Refused(Exception):
 
     def __str__(self) -> str:
         return f"refused {self.number}: {self.words}"
+
+
+Refused.__doc__ = f"{Refused.__doc__}\n" + "".join(f"{number:6}  {words}\n" for number, words in enumerate(WORDS) if number)
 
 
 def answered(answer: Any) -> Any:
@@ -70,9 +73,17 @@ def unsigned(value: int) -> int:
 def double(value: float) -> float:
     """A decimal day: a whole number beyond all doubles is outside every span, and not infinite."""
     try:
-        return float(value)
+        # float() would take a text too.
+        return ctypes.c_double(value).value
     except OverflowError:
         return 1e308 if value > 0 else -1e308
+
+
+def due(value: Any, kinds: Any, what: str) -> Any:
+    """The value, where it is of the kind that is due."""
+    if not isinstance(value, kinds):
+        raise TypeError(f"{what} is due, not {type(value).__name__}")
+    return value
 
 
 def narrow(value: int) -> int:
@@ -173,15 +184,22 @@ Handed = Union[Tai, Utc, Gps, Decimal]
 SCALES: Tuple[Type[_Time], ...] = (Tai, Utc, Gps)
 
 
+def code(scale: Type[_Time]) -> int:
+    """The code of a scale."""
+    if not (isinstance(scale, type) and issubclass(scale, SCALES)):
+        raise TypeError(f"the scale Tai, Utc or Gps is due, not {scale!r}")
+    return scale.CODE
+
+
 def handed(time: Handed) -> _sys.VrkHanded:
     """What a caller hands in: either a record or a decimal day."""
     if isinstance(time, Decimal):
-        return _sys.VrkHanded(1, time.scale.CODE, 0, 0, double(time.day))
-    if not isinstance(time, SCALES):
-        raise TypeError(f"a Tai, Utc, Gps or Decimal is due, not {type(time).__name__}")
+        return _sys.VrkHanded(1, code(time.scale), 0, 0, double(time.day))
+    due(time, SCALES, "a Tai, Utc, Gps or Decimal")
     return _sys.VrkHanded(0, time.CODE, signed(time.day), unsigned(time.micro), 0.0)
 
 
+@dataclass(frozen=True)
 class LeapList:
     """A leap list: the steps' days, TAI minus UTC in seconds from each day on, and the last day that it speaks of.
 
@@ -190,18 +208,31 @@ class LeapList:
 
     PUBLISHED: ClassVar[LeapList]
 
-    def __init__(self, days: Sequence[int], offsets: Sequence[int], last: int) -> None:
-        self.days: Tuple[int, ...] = tuple(days)
-        self.offsets: Tuple[int, ...] = tuple(offsets)
-        self.last: int = last
-        held_days = (ctypes.c_int64 * len(self.days))(*map(signed, self.days))
-        held_offsets = (ctypes.c_uint64 * len(self.offsets))(*map(unsigned, self.offsets))
-        self._given = (held_days, len(self.days), held_offsets, len(self.offsets), signed(last))
+    days: Sequence[int]
+    offsets: Sequence[int]
+    last: int
+    _given: Any = field(init=False, repr=False, compare=False)
+
+    def __post_init__(self) -> None:
+        days, offsets = tuple(self.days), tuple(self.offsets)
+        held_days = (ctypes.c_int64 * len(days))(*map(signed, days))
+        held_offsets = (ctypes.c_uint64 * len(offsets))(*map(unsigned, offsets))
+        given = held_days, len(days), held_offsets, len(offsets), signed(self.last)
+        vars(self).update(days=days, offsets=offsets, _given=given)
+
+    def __reduce__(self) -> Any:
+        # What is held for C cannot be copied to another process.
+        return LeapList, (self.days, self.offsets, self.last)
 
     def is_accepted(self) -> bool:
         """Whether it has 1 to 64 steps from (-10227, 10) on, days that rise strictly and are firsts of months, offsets that
         count up by one, a last day from -10227 to 36524, and no step later than the day after it."""
         return _sys.library().vrk_list_accepted(*self._given) == 1
+
+
+def listed(leap_list: LeapList) -> Tuple[Any, ...]:
+    """A leap list as it is handed in."""
+    return due(leap_list, LeapList, "a LeapList")._given
 
 
 _NO_LIST = LeapList((), (), 0)
@@ -217,7 +248,8 @@ LeapList.PUBLISHED = LeapList(
 def change(time: Handed, scale: Type[T], leap_list: LeapList) -> T:
     """The same instant in another scale; in its own scale a time stays as it is. The list is looked at only where UTC is one
     of the two. Refused: 4; 5; 7; 9; 10; 11."""
-    return scale._of(_sys.library().vrk_change(handed(time), scale.CODE, *leap_list._given))
+    answer = _sys.library().vrk_change(handed(time), code(scale), *listed(leap_list))
+    return scale._of(answer)
 
 
 @dataclass(frozen=True)
@@ -238,6 +270,7 @@ class Correlation(Generic[T]):
     ahead: int
 
     def _given(self) -> _sys.VrkCorrelation:
+        due(self.reference, SCALES, "a Tai, Utc or Gps as reference")
         # A reference tick that is none cannot be accepted, as a period of 0 cannot.
         known = 0 <= index(self.tick) < _U32
         return _sys.VrkCorrelation(
@@ -253,13 +286,12 @@ class Correlation(Generic[T]):
     def date(self, tick: int, receipt: T) -> T:
         """The time of a tick whose packet was received at `receipt`, rounded down. Refused: 3 where the number is no tick; 6;
         7 for the receipt; 8 where the tick lies outside the window or the receipt outside the window's times; 11."""
-        scale = type(self.reference)
-        if type(receipt) is not scale:
-            raise TypeError(f"a receipt in {scale.__name__} is due, not {type(receipt).__name__}")
-        given = narrow(tick), self._given(), signed(receipt.day), unsigned(receipt.micro)
+        scale, correlation = type(self.reference), self._given()
+        due(receipt, scale, f"a receipt in {scale.__name__}")
+        given = narrow(tick), correlation, signed(receipt.day), unsigned(receipt.micro)
         return scale._of(_sys.library().vrk_sbt_date(*given))
 
     def tick_of(self, time: Handed) -> int:
-        """The last tick of the window whose time is not later. Refused: 4; 6; 7; 12 another scale or second 60; 8 outside
-        the window's times."""
+        """The last tick of the window whose time is not later. Refused: 4; 6; 7; 8 outside the window's times, not judged of a
+        time that gets 12; 12 another scale or second 60."""
         return answered(_sys.library().vrk_sbt_tick(handed(time), self._given())).count
