@@ -1,18 +1,19 @@
 /* The interface for a machine that is not x86-64. The proved code exists for x86-64 alone, so each call here is sent to a
  * program of that code under the kit's emulator (tests/compare/serve.c, which says what is sent) and its answer handed
  * back. It computes nothing itself; where the answer cannot be had, the program that called is ended. It is for trying
- * and testing: slow, one call at a time, and no slice over 8,192 bytes. */
+ * and testing: slow, and one call at a time. */
 #include <errno.h>
-#include <fcntl.h>
 #include <pthread.h>
 #include <stdio.h>
 #include <stdlib.h>
 #include <string.h>
+#include <sys/socket.h>
 #include <unistd.h>
 
 #include "vrikshonem.h"
 
-enum { ANSWER = 6, MOST = 8192 };
+/* Of a slice at most MOST elements are sent. It is above every layout, form and list, so a longer one has the same answer. */
+enum { ANSWER = 6, MOST = 128, WORDS = 16 + 2 * MOST };
 
 /* The functions, numbered as in serve.c. */
 enum {
@@ -24,9 +25,9 @@ enum {
 };
 
 static pthread_mutex_t turn = PTHREAD_MUTEX_INITIALIZER;
-static int to = -1, from = -1;
+static int line = -1, kept_errno;
 static pid_t owner;
-static uint64_t words[MOST / 8], answer[ANSWER];
+static uint64_t words[WORDS], answer[ANSWER];
 static uint32_t word_count;
 
 static void fail(const char *why) {
@@ -35,33 +36,33 @@ static void fail(const char *why) {
 }
 
 static void start(void) {
-    int there[2], back[2];
-    if (pipe2(there, O_CLOEXEC) != 0 || pipe2(back, O_CLOEXEC) != 0) fail("no pipe");
+    int ends[2];
+    if (socketpair(AF_UNIX, SOCK_STREAM | SOCK_CLOEXEC, 0, ends) != 0) fail("no socket");
     pid_t child = fork();
     if (child < 0) fail("no process");
     if (child == 0) {
-        dup2(there[0], 0);
-        dup2(back[1], 1);
+        dup2(ends[1], 0);
+        dup2(ends[1], 1);
         execl(RUN, RUN, SERVE, (char *)0);
         _exit(127);
     }
-    close(there[0]);
-    close(back[1]);
-    to = there[1], from = back[0], owner = getpid();
+    close(ends[1]);
+    line = ends[0], owner = getpid();
 }
 
 static void send_all(const void *bytes, size_t n) {
     for (size_t done = 0; done < n;) {
-        ssize_t k = write(to, (const char *)bytes + done, n - done);
+        /* A signal would end the program without a word. */
+        ssize_t k = send(line, (const char *)bytes + done, n - done, MSG_NOSIGNAL);
         if (k < 0 && errno == EINTR) continue;
-        if (k <= 0) fail("a call could not be sent");
+        if (k <= 0) fail("a call was not answered");
         done += (size_t)k;
     }
 }
 
 static void take_all(void *bytes, size_t n) {
     for (size_t done = 0; done < n;) {
-        ssize_t k = read(from, (char *)bytes + done, n - done);
+        ssize_t k = read(line, (char *)bytes + done, n - done);
         if (k < 0 && errno == EINTR) continue;
         if (k <= 0) fail("a call was not answered");
         done += (size_t)k;
@@ -71,15 +72,20 @@ static void take_all(void *bytes, size_t n) {
 /* A call is begin, its words, ask, and a result, which ends the turn. */
 static void begin(void) {
     pthread_mutex_lock(&turn);
-    /* Two processes on one pipe would take each other's answers. */
+    kept_errno = errno;
+    /* Two processes on one line would take each other's answers. */
     if (owner != getpid()) start();
     word_count = 0;
 }
 
-static void put(uint64_t word) {
-    if (word_count == MOST / 8) fail("a slice is too long");
-    words[word_count++] = word;
+static void end(void) {
+    errno = kept_errno;
+    pthread_mutex_unlock(&turn);
 }
+
+static void put(uint64_t word) { words[word_count++] = word; }
+
+static size_t cut(size_t count) { return count < MOST ? count : MOST; }
 
 static uint64_t bits_of(double x) { uint64_t bits; memcpy(&bits, &x, 8); return bits; }
 
@@ -92,23 +98,22 @@ static void put_correlation(vrk_correlation c) {
 }
 
 static void put_list(const int64_t *days, size_t day_count, const uint64_t *offsets, size_t offset_count, int64_t last) {
-    put((uint64_t)last), put(day_count), put(offset_count);
-    for (size_t k = 0; k < day_count; k++) put((uint64_t)days[k]);
-    for (size_t k = 0; k < offset_count; k++) put(offsets[k]);
+    put((uint64_t)last), put(cut(day_count)), put(cut(offset_count));
+    for (size_t k = 0; k < cut(day_count); k++) put((uint64_t)days[k]);
+    for (size_t k = 0; k < cut(offset_count); k++) put(offsets[k]);
 }
 
 static void ask(uint32_t function, const uint8_t *in, size_t in_count, uint8_t *out, size_t out_count) {
-    if (in_count > MOST || out_count > MOST) fail("a slice is too long");
-    uint32_t head[4] = {function, word_count, (uint32_t)in_count, (uint32_t)out_count};
+    uint32_t head[4] = {function, word_count, (uint32_t)cut(in_count), (uint32_t)cut(out_count)};
     send_all(head, sizeof head);
     send_all(words, word_count * 8);
-    send_all(in, in_count);
-    send_all(out, out_count);
+    send_all(in, cut(in_count));
+    send_all(out, cut(out_count));
     take_all(answer, sizeof answer);
-    take_all(out, out_count);
+    take_all(out, cut(out_count));
 }
 
-#define RESULT(type, ...) type result = {__VA_ARGS__}; pthread_mutex_unlock(&turn); return result
+#define RESULT(type, ...) type result = {__VA_ARGS__}; end(); return result
 #define A(k) (uint32_t)answer[k]
 
 static vrk_time time_is(void) { RESULT(vrk_time, A(0), A(1), (int64_t)answer[2], answer[3]); }
@@ -141,7 +146,7 @@ vrk_count vrk_sbt_tick(vrk_handed time, vrk_correlation correlation) {
 uint32_t vrk_list_accepted(const int64_t *days, size_t day_count, const uint64_t *offsets, size_t offset_count, int64_t last) {
     begin(), put_list(days, day_count, offsets, offset_count, last), ask(LIST_ACCEPTED, 0, 0, 0, 0);
     uint32_t accepted = A(0);
-    pthread_mutex_unlock(&turn);
+    end();
     return accepted;
 }
 

@@ -20,12 +20,12 @@ static unsigned char lent[MOST + 2 * GUARD];
 #define AFTER GUARD
 #endif
 
-/* The functions, numbered as in main.rs. */
+/* The functions, numbered as in calls.rs. */
 enum {
     DECIMAL_READ, DECIMAL_WRITE, SBT_DATE, SBT_TICK, LIST_ACCEPTED, CHANGE,
     CUC_READ, CUC_WRITE, GOCE_READ, GOCE_WRITE, OBET_READ, OBET_WRITE, PROTEUS_READ, PROTEUS_WRITE,
     CRYOSAT_READ, CRYOSAT_WRITE, SIRAL_READ, SIRAL_WRITE, SBT_READ, SBT_WRITE,
-    CUC_FIELDS_READ, CUC_FIELDS_WRITE, PROTEUS_FIELDS_READ, PROTEUS_FIELDS_WRITE, 
+    CUC_FIELDS_READ, CUC_FIELDS_WRITE, PROTEUS_FIELDS_READ, PROTEUS_FIELDS_WRITE,
     CRYOSAT_FIELDS_READ, CRYOSAT_FIELDS_WRITE, SIRAL_FIELDS_READ, SIRAL_FIELDS_WRITE, TEXT_READ, TEXT_WRITE,
 };
 
@@ -56,22 +56,29 @@ static vrk_correlation correlation_at(const uint64_t *a) {
 
 static void count_is(vrk_count c) { answer[0] = c.refusal, answer[1] = c.count; }
 
-#define FIELDS(r, a, b, c, d) answer[0] = r, answer[1] = a, answer[2] = b, answer[3] = c, answer[4] = d
-
 static void written_is(vrk_written r) { answer[0] = r.refusal, answer[1] = r.length; }
 
 static void proteus_is(vrk_proteus p) {
     answer[0] = p.refusal, answer[1] = p.scale, answer[2] = (uint64_t)p.day, answer[3] = p.micro, answer[4] = p.h3;
 }
 
+#define FIELDS(r, a, b, c, d) answer[0] = r, answer[1] = a, answer[2] = b, answer[3] = c, answer[4] = d
+
+static void cuc_fields_are(vrk_cuc_fields f) { FIELDS(f.refusal, f.seconds, f.fraction, 0, 0); }
+static void proteus_fields_are(vrk_proteus_fields f) { FIELDS(f.refusal, f.week, f.h3, f.second, f.fraction); }
+static void cryosat_fields_are(vrk_cryosat_fields f) { FIELDS(f.refusal, f.day, f.millisecond, f.microsecond, 0); }
+static void siral_fields_are(vrk_siral_fields f) { FIELDS(f.refusal, f.day, f.millisecond, f.microsecond, f.extra); }
+
+#define W(k) (uint32_t)w[k]
+
 static int call(uint32_t function, const unsigned char *in, size_t in_len, unsigned char *out, size_t out_len) {
     switch (function) {
-    case DECIMAL_READ: time_is(vrk_decimal_read(double_of(w[0]), (uint32_t)w[1])); return 1;
+    case DECIMAL_READ: time_is(vrk_decimal_read(double_of(w[0]), W(1))); return 1;
     case DECIMAL_WRITE: decimal_is(vrk_decimal_write(handed_at(w))); return 1;
-    case SBT_DATE: time_is(vrk_sbt_date((uint32_t)w[0], correlation_at(w + 1), (int64_t)w[8], w[9])); return 1;
+    case SBT_DATE: time_is(vrk_sbt_date(W(0), correlation_at(w + 1), (int64_t)w[8], w[9])); return 1;
     case SBT_TICK: count_is(vrk_sbt_tick(handed_at(w), correlation_at(w + 5))); return 1;
     case LIST_ACCEPTED: answer[0] = vrk_list_accepted(LIST(w)); return 1;
-    case CHANGE: time_is(vrk_change(handed_at(w), (uint32_t)w[5], LIST(w + 6))); return 1;
+    case CHANGE: time_is(vrk_change(handed_at(w), W(5), LIST(w + 6))); return 1;
     case CUC_READ: time_is(vrk_cuc_read(in, in_len)); return 1;
     case CUC_WRITE: written_is(vrk_cuc_write(handed_at(w), out, out_len)); return 1;
     case GOCE_READ: count_is(vrk_goce_read(in, in_len)); return 1;
@@ -79,23 +86,23 @@ static int call(uint32_t function, const unsigned char *in, size_t in_len, unsig
     case OBET_READ: count_is(vrk_obet_read(in, in_len)); return 1;
     case OBET_WRITE: written_is(vrk_obet_write(w[0], out, out_len)); return 1;
     case PROTEUS_READ: proteus_is(vrk_proteus_read(in, in_len)); return 1;
-    case PROTEUS_WRITE: written_is(vrk_proteus_write(handed_at(w), (uint32_t)w[5], out, out_len)); return 1;
+    case PROTEUS_WRITE: written_is(vrk_proteus_write(handed_at(w), W(5), out, out_len)); return 1;
     case CRYOSAT_READ: time_is(vrk_cryosat_read(in, in_len)); return 1;
     case CRYOSAT_WRITE: written_is(vrk_cryosat_write(handed_at(w), out, out_len)); return 1;
     case SIRAL_READ: time_is(vrk_siral_read(in, in_len)); return 1;
     case SIRAL_WRITE: written_is(vrk_siral_write(handed_at(w), out, out_len)); return 1;
     case SBT_READ: count_is(vrk_sbt_read(in, in_len)); return 1;
-    case SBT_WRITE: written_is(vrk_sbt_write((uint32_t)w[0], out, out_len)); return 1;
-    case CUC_FIELDS_READ: { vrk_cuc_fields f = vrk_cuc_fields_read(in, in_len); FIELDS(f.refusal, f.seconds, f.fraction, 0, 0); return 1; }
-    case CUC_FIELDS_WRITE: written_is(vrk_cuc_fields_write((uint32_t)w[0], (uint32_t)w[1], out, out_len)); return 1;
-    case PROTEUS_FIELDS_READ: { vrk_proteus_fields f = vrk_proteus_fields_read(in, in_len); FIELDS(f.refusal, f.week, f.h3, f.second, f.fraction); return 1; }
-    case PROTEUS_FIELDS_WRITE: written_is(vrk_proteus_fields_write((uint32_t)w[0], (uint32_t)w[1], (uint32_t)w[2], (uint32_t)w[3], out, out_len)); return 1;
-    case CRYOSAT_FIELDS_READ: { vrk_cryosat_fields f = vrk_cryosat_fields_read(in, in_len); FIELDS(f.refusal, f.day, f.millisecond, f.microsecond, 0); return 1; }
-    case CRYOSAT_FIELDS_WRITE: written_is(vrk_cryosat_fields_write((uint32_t)w[0], (uint32_t)w[1], (uint32_t)w[2], out, out_len)); return 1;
-    case SIRAL_FIELDS_READ: { vrk_siral_fields f = vrk_siral_fields_read(in, in_len); FIELDS(f.refusal, f.day, f.millisecond, f.microsecond, f.extra); return 1; }
-    case SIRAL_FIELDS_WRITE: written_is(vrk_siral_fields_write((uint32_t)w[0], (uint32_t)w[1], (uint32_t)w[2], (uint32_t)w[3], out, out_len)); return 1;
+    case SBT_WRITE: written_is(vrk_sbt_write(W(0), out, out_len)); return 1;
+    case CUC_FIELDS_READ: cuc_fields_are(vrk_cuc_fields_read(in, in_len)); return 1;
+    case CUC_FIELDS_WRITE: written_is(vrk_cuc_fields_write(W(0), W(1), out, out_len)); return 1;
+    case PROTEUS_FIELDS_READ: proteus_fields_are(vrk_proteus_fields_read(in, in_len)); return 1;
+    case PROTEUS_FIELDS_WRITE: written_is(vrk_proteus_fields_write(W(0), W(1), W(2), W(3), out, out_len)); return 1;
+    case CRYOSAT_FIELDS_READ: cryosat_fields_are(vrk_cryosat_fields_read(in, in_len)); return 1;
+    case CRYOSAT_FIELDS_WRITE: written_is(vrk_cryosat_fields_write(W(0), W(1), W(2), out, out_len)); return 1;
+    case SIRAL_FIELDS_READ: siral_fields_are(vrk_siral_fields_read(in, in_len)); return 1;
+    case SIRAL_FIELDS_WRITE: written_is(vrk_siral_fields_write(W(0), W(1), W(2), W(3), out, out_len)); return 1;
     case TEXT_READ: time_is(vrk_text_read(in, in_len, LIST(w))); return 1;
-    case TEXT_WRITE: written_is(vrk_text_write(handed_at(w), LIST(w + 6), (uint32_t)w[5], out, out_len)); return 1;
+    case TEXT_WRITE: written_is(vrk_text_write(handed_at(w), LIST(w + 6), W(5), out, out_len)); return 1;
     }
     return 0;
 }
@@ -111,43 +118,49 @@ static int flush(size_t n) {
     return 1;
 }
 
+/* Calls with what is at p, and writes the answer and the lent bytes to `to`; 0, or the status that the program ends with. */
+static int serve(const uint32_t *head, const unsigned char *p, unsigned char *to) {
+    size_t words = (size_t)head[1] * 8, in_len = head[2], out_len = head[3];
+    unsigned char *out = LENT(out_len);
+    memcpy(w, p, words);
+    memset(out - GUARD, 0xA5, GUARD + out_len + AFTER);
+    memcpy(out, p + words + in_len, out_len);
+    memset(answer, 0, sizeof answer);
+    /* the empty slice is a null pointer */
+    const unsigned char *in = in_len ? PLACED(IN, p + words, in_len) : 0;
+    if (!call(head[0], in, in_len, out_len ? out : 0, out_len)) return 2;
+    for (const unsigned char *k = out - GUARD; k < out + out_len + AFTER; k++)
+        if ((k < out || k >= out + out_len) && *k != 0xA5) return 3;
+    memcpy(to, answer, sizeof answer);
+    memcpy(to + sizeof answer, out, out_len);
+    return 0;
+}
+
 int main(void) {
-    size_t have = 0, made = 0;
+    size_t have = 0;
     for (;;) {
         long got = read(0, input + have, sizeof input - have);
         if (got <= 0) return have != 0;
         have += (size_t)got;
-        size_t at = 0;
+        size_t at = 0, made = 0;
         for (;;) {
             uint32_t head[4];
             if (have - at < sizeof head) break;
             memcpy(head, input + at, sizeof head);
             if (head[1] > MOST / 8 || head[2] > MOST || head[3] > MOST) return 2;
-            size_t words = (size_t)head[1] * 8, whole = sizeof head + words + head[2] + head[3];
+            size_t whole = sizeof head + (size_t)head[1] * 8 + head[2] + head[3];
             if (have - at < whole) break;
-            const unsigned char *p = input + at + sizeof head;
-            memcpy(w, p, words);
-            unsigned char *out = LENT(head[3]);
-            memset(out - GUARD, 0xA5, GUARD + head[3] + AFTER);
-            memcpy(out, p + words + head[2], head[3]);
-            memset(answer, 0, sizeof answer);
-            /* the empty slice is a null pointer */
-            const unsigned char *in = head[2] ? PLACED(IN, p + words, head[2]) : 0;
-            if (!call(head[0], in, head[2], head[3] ? out : 0, head[3])) return 2;
-            for (const unsigned char *k = out - GUARD; k < out + head[3] + AFTER; k++)
-                if ((k < out || k >= out + head[3]) && *k != 0xA5) return 3;
             if (made + sizeof answer + head[3] > sizeof output) {
                 if (!flush(made)) return 4;
                 made = 0;
             }
-            memcpy(output + made, answer, sizeof answer);
-            memcpy(output + made + sizeof answer, out, head[3]);
+            int wrong = serve(head, input + at + sizeof head, output + made);
+            if (wrong) return wrong;
             made += sizeof answer + head[3];
             at += whole;
         }
         memmove(input, input + at, have - at);
         have -= at;
         if (!flush(made)) return 4;
-        made = 0;
     }
 }
