@@ -1,4 +1,5 @@
-/* Dates a file of packets, a line for each: date_packets FILE. packets.py says what the file has.
+/* Dates a file of packets, a line for each: date_packets FILE. packets.py says what the file has. Its exit status is 1 where
+ * the last packet is cut off, and 2 where the file cannot be read.
  *
  *     cc -o date_packets date_packets.c $(pkg-config --cflags --libs vrikshonem) */
 #include <stdio.h>
@@ -42,17 +43,31 @@ static const char *const WORDS[] = {
     "output slice shorter than the image",
 };
 
+static const char *words_of(uint32_t refusal) {
+    /* A later library may know more refusals. */
+    return refusal < sizeof WORDS / sizeof WORDS[0] ? WORDS[refusal] : "a refusal that this version does not know";
+}
+
 static uint64_t number(const uint8_t *bytes, size_t count) {
     uint64_t value = 0;
     for (size_t k = 0; k < count; k++) value = value << 8 | bytes[k];
     return value;
 }
 
+/* The time of an SBT packet: its tick's, where the packet was received while the correlation is in force. */
+static vrk_time ticked(const uint8_t *packet) {
+    vrk_count tick = vrk_sbt_read(packet + 2, packet[1]);
+    if (tick.refusal) {
+        vrk_time refused = {tick.refusal, VRK_UTC, 0, 0};
+        return refused;
+    }
+    return vrk_sbt_date((uint32_t)tick.count, CORRELATION, (int32_t)number(packet + 12, 4), number(packet + 16, 8));
+}
+
 /* The time of a packet in its own scale. */
 static vrk_time dated(const uint8_t *packet) {
     const uint8_t *time = packet + 2;
     size_t count = packet[1];
-    vrk_time refused = {0, VRK_UTC, 0, 0};
     switch (packet[0]) {
     case 1: return vrk_cuc_read(time, count);
     case 2: {
@@ -62,14 +77,8 @@ static vrk_time dated(const uint8_t *packet) {
     }
     case 3: return vrk_cryosat_read(time, count);
     case 4: return vrk_siral_read(time, count);
-    default: break;
+    default: return ticked(packet);
     }
-    vrk_count tick = vrk_sbt_read(time, count);
-    if (tick.refusal) {
-        refused.refusal = tick.refusal;
-        return refused;
-    }
-    return vrk_sbt_date((uint32_t)tick.count, CORRELATION, (int32_t)number(packet + 12, 4), number(packet + 16, 8));
 }
 
 static vrk_handed handed(vrk_time time) {
@@ -86,27 +95,39 @@ static uint32_t text_of(const uint8_t *packet, uint8_t *text) {
     return vrk_text_write(handed(utc), LIST, TEXT, text, TEXT).refusal;
 }
 
+static void print_packet(unsigned line, const uint8_t *packet) {
+    uint8_t text[TEXT];
+    if (packet[0] < 1 || packet[0] > 5 || packet[1] > LONGEST) {
+        printf("%2u ?       not a packet\n", line);
+        return;
+    }
+    uint32_t refusal = text_of(packet, text);
+    printf("%2u %-7s ", line, NAMES[packet[0]]);
+    if (refusal)
+        printf("refused %u: %s\n", (unsigned)refusal, words_of(refusal));
+    else
+        printf("%.*s\n", TEXT, (const char *)text);
+}
+
 int main(int count, char **words) {
-    uint8_t packet[PACKET], text[TEXT];
-    FILE *file = count == 2 ? fopen(words[1], "rb") : NULL;
-    if (!file) {
+    uint8_t packet[PACKET];
+    if (count != 2) {
         fprintf(stderr, "usage: date_packets FILE\n");
         return 2;
     }
-    size_t got;
-    for (unsigned line = 1; (got = fread(packet, 1, PACKET, file)) == PACKET; line++) {
-        if (packet[0] < 1 || packet[0] > 5 || packet[1] > LONGEST) {
-            printf("%2u ?       not a packet\n", line);
-            continue;
-        }
-        uint32_t refusal = text_of(packet, text);
-        printf("%2u %-7s ", line, NAMES[packet[0]]);
-        if (refusal)
-            printf("refused %u: %s\n", (unsigned)refusal, WORDS[refusal]);
-        else
-            printf("%.*s\n", TEXT, (const char *)text);
+    FILE *file = fopen(words[1], "rb");
+    size_t got = 0;
+    for (unsigned line = 1; file && (got = fread(packet, 1, PACKET, file)) == PACKET; line++) print_packet(line, packet);
+    /* A folder can be opened, and not be read. */
+    if (!file || ferror(file)) {
+        perror(words[1]);
+        return 2;
+    }
+    fclose(file);
+    if (fflush(stdout) != 0 || ferror(stdout)) {
+        perror("standard output");
+        return 2;
     }
     if (got != 0) fprintf(stderr, "date_packets: the last packet is cut off\n");
-    fclose(file);
     return got != 0;
 }

@@ -1,5 +1,6 @@
 #!/usr/bin/env python3
-"""Dates a file of packets, a line for each: date_packets.py FILE. packets.py says what the file has.
+"""Dates a file of packets, a line for each: date_packets.py FILE. packets.py says what the file has. Its exit status is 1 where
+the last packet is cut off, and 2 where the file cannot be read.
 
     PYTHONPATH=python python3 examples/date_packets.py examples/packets.bin
 """
@@ -41,21 +42,32 @@ def said(layout: int, time: bytes, receipt: vrk.Utc) -> str:
         return str(refused)
 
 
-def main() -> int:
-    if len(sys.argv) != 2:
-        print("usage: date_packets.py FILE", file=sys.stderr)
-        return 2
-    with open(sys.argv[1], "rb") as file:
+def date(name: str) -> int:
+    """How many bytes are left after the last packet."""
+    with open(name, "rb") as file:
         data = file.read()
-    whole = len(data) // PACKET.size * PACKET.size
-    for line, (layout, count, time, day, micro) in enumerate(PACKET.iter_unpack(data[:whole]), 1):
+    rest = len(data) % PACKET.size
+    for line, (layout, count, time, day, micro) in enumerate(PACKET.iter_unpack(data[: len(data) - rest]), 1):
         if not 1 <= layout <= 5 or count > len(time):
             print(f"{line:2} ?       not a packet")
             continue
         print(f"{line:2} {NAMES[layout]:7} {said(layout, time[:count], vrk.Utc(day, micro))}")
-    if whole != len(data):
+    sys.stdout.flush()
+    return rest
+
+
+def main() -> int:
+    if len(sys.argv) != 2:
+        print("usage: date_packets.py FILE", file=sys.stderr)
+        return 2
+    try:
+        rest = date(sys.argv[1])
+    except OSError as why:
+        print(f"date_packets: {why}", file=sys.stderr)
+        return 2
+    if rest:
         print("date_packets: the last packet is cut off", file=sys.stderr)
-    return int(whole != len(data))
+    return int(rest != 0)
 
 
 sys.exit(main())

@@ -1,7 +1,11 @@
-//! Dates a file of packets, a line for each: date_packets FILE. packets.py says what the file has.
+//! Dates a file of packets, a line for each: date_packets FILE. packets.py says what the file has. Its exit status is 1 where
+//! the last packet is cut off, and 2 where the file cannot be read.
 //!
 //!     cargo run --manifest-path rust/Cargo.toml --example date_packets examples/packets.bin
 
+use std::fs;
+use std::io::{self, Write};
+use std::path::{Path, PathBuf};
 use std::process::ExitCode;
 use vrikshonem::{cryosat, cuc, proteus, sbt, siral, text};
 use vrikshonem::{Correlation, Error, Form, LeapList, Tick, Utc};
@@ -38,33 +42,42 @@ fn dated(packet: &[u8]) -> Result<Utc, Error> {
     }
 }
 
+fn said(packet: &[u8]) -> String {
+    let layout = usize::from(packet[0]);
+    if !(1..=5).contains(&layout) || usize::from(packet[1]) > LONGEST {
+        return "?       not a packet".to_string();
+    }
+    match dated(packet).and_then(|utc| text::string(utc, Form::PrefixedMicros, &LIST)) {
+        Ok(text) => format!("{:7} {text}", NAMES[layout]),
+        Err(refused) => format!("{:7} {refused}", NAMES[layout]),
+    }
+}
+
+/// How many bytes are left after the last packet.
+fn date(name: &Path) -> Result<usize, String> {
+    let file = fs::read(name).map_err(|why| format!("{}: {why}", name.display()))?;
+    let mut out = io::stdout().lock();
+    for (line, packet) in (1..).zip(file.chunks_exact(PACKET)) {
+        writeln!(out, "{line:2} {}", said(packet)).map_err(|why| format!("standard output: {why}"))?;
+    }
+    Ok(file.len() % PACKET)
+}
+
 fn main() -> ExitCode {
-    let Some(name) = std::env::args_os().nth(1) else {
+    let words: Vec<_> = std::env::args_os().skip(1).map(PathBuf::from).collect();
+    let [name] = words.as_slice() else {
         eprintln!("usage: date_packets FILE");
         return ExitCode::from(2);
     };
-    let file = match std::fs::read(&name) {
-        Ok(file) => file,
+    match date(name) {
+        Ok(0) => ExitCode::SUCCESS,
+        Ok(_) => {
+            eprintln!("date_packets: the last packet is cut off");
+            ExitCode::from(1)
+        }
         Err(why) => {
-            eprintln!("date_packets: {}: {why}", name.to_string_lossy());
-            return ExitCode::from(2);
-        }
-    };
-    let packets = file.chunks_exact(PACKET);
-    let rest = packets.remainder().len();
-    for (line, packet) in (1..).zip(packets) {
-        let layout = usize::from(packet[0]);
-        if !(1..=5).contains(&layout) || usize::from(packet[1]) > LONGEST {
-            println!("{line:2} ?       not a packet");
-            continue;
-        }
-        match dated(packet).and_then(|utc| text::string(utc, Form::PrefixedMicros, &LIST)) {
-            Ok(text) => println!("{line:2} {:7} {text}", NAMES[layout]),
-            Err(refused) => println!("{line:2} {:7} {refused}", NAMES[layout]),
+            eprintln!("{why}");
+            ExitCode::from(2)
         }
     }
-    if rest != 0 {
-        eprintln!("date_packets: the last packet is cut off");
-    }
-    ExitCode::from(u8::from(rest != 0))
 }

@@ -61,5 +61,7 @@ PACKETS = [
 ]
 
 if __name__ == "__main__":
+    if len(sys.argv) != 2:
+        sys.exit("usage: packets.py OUT")
     with open(sys.argv[1], "wb") as file:
         file.write(b"".join(PACKETS))

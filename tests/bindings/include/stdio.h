@@ -5,10 +5,13 @@
 #include <stddef.h>
 
 typedef struct file FILE;
-extern FILE *stderr;
+extern FILE *stdout, *stderr;
 FILE *fopen(const char *, const char *);
 size_t fread(void *, size_t, size_t, FILE *);
 int fclose(FILE *);
+int fflush(FILE *);
+int ferror(FILE *);
+void perror(const char *);
 int fprintf(FILE *, const char *, ...);
 int printf(const char *, ...);
 
