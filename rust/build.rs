@@ -1,13 +1,12 @@
 //! Finds the library: the folder that VRIKSHONEM_LIB names, or the one that tools/build made in this repository.
 
-use std::path::{Path, PathBuf};
+use std::path::Path;
 
 fn main() {
     println!("cargo:rerun-if-env-changed=VRIKSHONEM_LIB");
-    let folder = match std::env::var_os("VRIKSHONEM_LIB") {
-        Some(folder) => PathBuf::from(folder),
-        None => Path::new(env!("CARGO_MANIFEST_DIR")).join("../target/here/lib"),
-    };
+    let named = std::env::var_os("VRIKSHONEM_LIB").filter(|named| !named.is_empty());
+    // A path that is not whole begins here, wherever cargo was called; a warning shows it whole.
+    let folder = Path::new(env!("CARGO_MANIFEST_DIR")).join(named.unwrap_or_else(|| "../target/here/lib".into()));
     let archive = folder.join("libvrikshonem.a");
     println!("cargo:rerun-if-changed={}", archive.display());
     if !archive.exists() {

@@ -58,8 +58,8 @@ impl<T: Scaled> Correlation<T> {
         at(sys::sbt_date(tick.0, self.given(), receipt.day(), receipt.micro()))
     }
 
-    /// The last tick of the window whose time is not later. Refused: 4; 6; 7; 12 another scale or second 60; 8 outside the
-    /// window's times.
+    /// The last tick of the window whose time is not later. Refused: 4; 6; 7; 8 outside the window's times, not judged of a
+    /// time that gets 12; 12 another scale or second 60.
     pub fn tick_of(&self, time: impl Into<Handed>) -> Result<Tick, Error> {
         let counted = sys::sbt_tick(time.into().given(), self.given());
         answered(counted.refusal, Tick(counted.count as u32))

@@ -33,7 +33,6 @@ mod correlation;
 mod error;
 mod layouts;
 mod leap;
-#[allow(missing_docs)]
 mod sys;
 pub mod text;
 mod time;
@@ -44,4 +43,3 @@ pub use layouts::{cryosat, cuc, goce, obet, proteus, sbt, siral};
 pub use leap::{change, LeapList};
 pub use text::Form;
 pub use time::{Gps, Handed, Scale, Scaled, Tai, Time, Utc};
-

@@ -72,10 +72,9 @@ macro_rules! scale {
                 at(sys::decimal_read(day, Scale::$name.code()))
             }
 
-            /// The double nearest this time in days; it reads back as the same time. Refused: 7; 12 second 60.
+            /// [`Handed::to_decimal`] of this time.
             pub fn to_decimal(self) -> Result<f64, Error> {
-                let written = sys::decimal_write(Handed::from(self).given());
-                answered(written.refusal, written.day)
+                Handed::from(self).to_decimal()
             }
         }
 
@@ -208,6 +207,12 @@ impl From<Time> for Handed {
 }
 
 impl Handed {
+    /// The double nearest the time in days; it reads back as the same time. Refused: 4; 7; 12 second 60.
+    pub fn to_decimal(self) -> Result<f64, Error> {
+        let written = sys::decimal_write(self.given());
+        answered(written.refusal, written.day)
+    }
+
     pub(crate) fn given(self) -> sys::VrkHanded {
         match self {
             Handed::Record(time) => {

@@ -163,6 +163,9 @@ fn a_decimal_day_is_handed_in() {
     assert_eq!(cryosat::write(Handed::Decimal(1.5, Scale::Tai), &mut out), Ok(8));
     assert_eq!(cryosat::read(&out), Ok(Tai::new(1, 43_200_000_000)));
     assert_eq!(refused(cryosat::write(Handed::Decimal(f64::NAN, Scale::Tai), &mut out)), 4);
+    assert_eq!(refused(Handed::Decimal(f64::NAN, Scale::Tai).to_decimal()), 4);
+    let read = text::read("TAI=02-JAN-2000 12:00:00", &LIST).map(Handed::from);
+    assert_eq!(read.and_then(Handed::to_decimal), Ok(1.5));
 }
 
 #[test]
