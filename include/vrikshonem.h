@@ -43,10 +43,8 @@ extern "C" {
 
 /* ---- times */
 
-/* Codes of the scales. */
+/* Codes of the scales, and of what is handed in. */
 enum { VRK_TAI = 0, VRK_UTC = 1, VRK_GPS = 2 };
-
-/* Codes of what is handed in. */
 enum { VRK_RECORD = 0, VRK_DECIMAL = 1 };
 
 /* A time handed in, judged by each function that takes it: a record (scale, day counted from 1 January 2000, microsecond of
@@ -232,49 +230,40 @@ vrk_written vrk_sbt_write(uint32_t tick, uint8_t *out, size_t count);
 
 /* ---- the fields of the layouts that have several
  *
- * Bytes to fields and back, exactly. Only the fields' limits are judged, and no span.
- *
- * Given     the layout's bytes.    Returned  its fields.    Refused  1; 2 Proteus only; 3 a field over its limit.
- *
- * Given     the fields.    Written  the layout's bytes.    Refused  3 a field over its limit or wider than its bits; 13. */
+ * Bytes to fields and back, exactly. Only the fields' limits and widths are judged, and no span. */
 
-typedef struct {
-    uint32_t refusal;
-    uint32_t seconds;
-    uint32_t fraction;
-} vrk_cuc_fields;
+typedef struct { uint32_t refusal; uint32_t seconds; uint32_t fraction; } vrk_cuc_fields;
 
-typedef struct {
-    uint32_t refusal;
-    uint32_t week;
-    uint32_t h3;
-    uint32_t second;
-    uint32_t fraction;
-} vrk_proteus_fields;
-
-typedef struct {
-    uint32_t refusal;
-    uint32_t day;
-    uint32_t millisecond;
-    uint32_t microsecond;
-} vrk_cryosat_fields;
-
-typedef struct {
-    uint32_t refusal;
-    uint32_t day;
-    uint32_t millisecond;
-    uint32_t microsecond;
-    uint32_t extra;
-} vrk_siral_fields;
-
+/* Given     6 bytes.    Returned  the fields.    Refused  1. */
 vrk_cuc_fields vrk_cuc_fields_read(const uint8_t *bytes, size_t count);
+
+/* Given     the fields.    Written  6 bytes.    Refused  3 a fraction from 2^16 on; 13. */
 vrk_written vrk_cuc_fields_write(uint32_t seconds, uint32_t fraction, uint8_t *out, size_t count);
+
+typedef struct { uint32_t refusal; uint32_t week; uint32_t h3; uint32_t second; uint32_t fraction; } vrk_proteus_fields;
+
+/* Given     8 bytes.    Returned  the fields.    Refused  1; 2 a zero bit is set; 3 a second over its limit. */
 vrk_proteus_fields vrk_proteus_fields_read(const uint8_t *bytes, size_t count);
+
+/* Given     the fields.    Written  8 bytes.    Refused  3 a week from 2^12 on, another H3, a second over its limit, a fraction
+ *           from 2^16 on; 13. */
 vrk_written vrk_proteus_fields_write(uint32_t week, uint32_t h3, uint32_t second, uint32_t fraction, uint8_t *out,
                                      size_t count);
+
+typedef struct { uint32_t refusal; uint32_t day; uint32_t millisecond; uint32_t microsecond; } vrk_cryosat_fields;
+
+/* Given     8 bytes.    Returned  the fields.    Refused  1; 3 a millisecond or microsecond over its limit. */
 vrk_cryosat_fields vrk_cryosat_fields_read(const uint8_t *bytes, size_t count);
+
+/* Given     the fields.    Written  8 bytes.    Refused  3 the same, a day from 2^16 on; 13. */
 vrk_written vrk_cryosat_fields_write(uint32_t day, uint32_t millisecond, uint32_t microsecond, uint8_t *out, size_t count);
+
+typedef struct { uint32_t refusal; uint32_t day; uint32_t millisecond; uint32_t microsecond; uint32_t extra; } vrk_siral_fields;
+
+/* Given     10 bytes.    Returned  the fields.    Refused  1; 3 as of CryoSat general. */
 vrk_siral_fields vrk_siral_fields_read(const uint8_t *bytes, size_t count);
+
+/* Given     the fields.    Written  10 bytes.    Refused  3 as of CryoSat general, an extra counter from 2^16 on; 13. */
 vrk_written vrk_siral_fields_write(uint32_t day, uint32_t millisecond, uint32_t microsecond, uint32_t extra, uint8_t *out,
                                    size_t count);
 
