@@ -1,0 +1,119 @@
+"""The packages' own tests, the examples, and the blocks of docs/USE.md as a reader would type them."""
+
+import os
+import platform
+import re
+import shutil
+import subprocess
+import sys
+
+from room import PYTHON, ROOM, ROOT, WARNINGS, good, read, run, skipped, tally, written
+
+PACKETS, LINES = "examples/packets.bin", "examples/packets.txt"
+CARGO = shutil.which("cargo")
+CRATE = ["--offline", "--locked", "--manifest-path", "rust/Cargo.toml"]
+SHOWN = "UTC=31-DEC-2016 23:59:60.000015\nnumber 1, in words: refused 1: input length is none of the layout's\n"
+
+
+def packages():
+    tally.expect("cargo is in PATH", CARGO, "the Rust crate and its example are not tested")
+    rust = ["cargo", "test", *CRATE], r"^test (.+) \.\.\. (\w+)$"
+    python = [sys.executable, "-m", "unittest", "discover", "-v", "-s", "python/tests"], r"^(\w+ \([\w.]+\)).* \.\.\. (\w+)$"
+    for language, (words, line) in [("Rust", rust)] * bool(CARGO) + [("Python", python)]:
+        status, said = run(*words, **PYTHON)
+        tested = re.findall(line, said, re.M)
+        for name, outcome in tested:
+            tally.expect(f"{language}: {name}", outcome == "ok")
+        tally.expect(f"{language}'s tests", status == 0 and tested, said[-3000:])
+    names = re.findall(r"^    (\w+)\(", run(sys.executable, "-m", "pydoc", "vrikshonem", **PYTHON)[1], re.M)
+    tally.expect("pydoc shows the functions", {"cuc_read", "text_write", "change"} <= set(names), str(names))
+
+
+def packets():
+    """Cases: a name, the words of a call, its status, what it prints and what it tells on standard error. The lines are those
+    of the independent program."""
+    made = written("packets.bin", "")
+    good("packets.py", sys.executable, "examples/packets.py", made)
+    with open(made, "rb") as file, open(PACKETS, "rb") as stored:
+        data = stored.read()
+        tally.expect("packets.bin is what packets.py makes", file.read() == data)
+    independent = f"{ROOM}/dated"
+    words = ["--edition", "2021", "-D", "warnings", "-o", independent, "tests/bindings/dated.rs"]
+    good("the independent program compiles", "rustc", *words)
+    expected = read(LINES)
+    tally.expect("the independent program prints packets.txt", run(independent, PACKETS) == (0, expected))
+    other = written("other.bin", data[:4] + bytes([data[4] ^ 1]) + data[5:])
+    another = run(independent, other)[1]
+    tally.expect("another packet has another date", another and another != expected)
+    all_but_one = "".join(expected.splitlines(True)[:-1])
+    return [
+        ("prints packets.txt", [PACKETS], 0, expected, ""),
+        ("dates another packet", [other], 0, another, ""),
+        ("dates a file without packets", [written("none.bin", "")], 0, "", ""),
+        ("says that a packet is cut off", [written("cut.bin", data[:-1])], 1, all_but_one, "the last packet is cut off"),
+        ("says that a file is not there", ["examples/none.bin"], 2, "", "No such file or directory"),
+        ("says that a folder is no file", ["examples"], 2, "", "Is a directory"),
+        ("says how it is used", [], 2, "", "usage: date_packets"),
+        ("takes one file", [PACKETS, PACKETS], 2, "", "usage: date_packets"),
+    ]
+
+
+def dates(what, cases, *program, **more):
+    for case, words, status, lines, told in cases:
+        done = subprocess.run([*program, *words], capture_output=True, text=True, stdin=subprocess.DEVNULL, **more)
+        right = (done.returncode, done.stdout) == (status, lines) and told in done.stderr
+        tally.expect(f"{what} {case}", right, done.stdout + done.stderr)
+
+
+def examples():
+    cases = packets()
+    # The kit's compiler has no C headers of its own.
+    flags = {"env": {**os.environ, "X86_CPPFLAGS": "-I tests/bindings/include -std=c99"}}
+    archive = ["target/dist/lib/libvrikshonem.a"]
+    shared = ["target/dist/lib/libvrikshonem.so", "-rpath", os.path.join(ROOT, "target/dist/lib")]
+    for what, libraries in [("archive", archive), ("shared library", shared)]:
+        words = [f"{ROOM}/x86-64", "examples/date_packets.c", *libraries]
+        if good(f"the kit compiles the example with the {what}", "tools/x86-64-cc", *words, **flags):
+            dates(f"C with the x86-64 {what}", cases, "tools/x86-64", f"{ROOM}/x86-64")
+    words = ["-std=c99", *WARNINGS, "-I", "target/here/include", "-o", f"{ROOM}/here", "examples/date_packets.c"]
+    if good("gcc compiles the example", "gcc", *words, "target/here/lib/libvrikshonem.a", "-pthread"):
+        dates("C on this machine", cases, f"{ROOM}/here")
+    if CARGO and good("cargo builds the example", "cargo", "build", *CRATE, "--example", "date_packets"):
+        dates("Rust on this machine", cases, f"{ROOM}/rust/debug/examples/date_packets")
+    dates("Python on this machine", cases, sys.executable, "examples/date_packets.py", **PYTHON)
+    if platform.machine() != "x86_64":
+        why = f"this machine is {platform.machine()}; they ran through target/far"
+        skipped("Rust and Python with the x86-64 library itself", why)
+
+
+def block(language):
+    return re.findall(rf"^```{language}\n(.*?)^```", read("docs/USE.md"), re.M | re.S)
+
+
+def use():
+    """docs/USE.md, as a reader would type it."""
+    expected = read(LINES)
+    tally.expect("docs/USE.md has blocks for C, Rust and Python", len(block("sh")) == 4, str(len(block("sh"))))
+    for typed in block("sh"):
+        title = typed.strip().splitlines()[-1]
+        if "pkg-config" in typed and not shutil.which("pkg-config"):
+            skipped(title, "there is no pkg-config")
+            continue
+        status, said = run("sh", "-euc", typed)
+        tally.expect(f"docs/USE.md: {title}", (status, said) == (0, expected), said)
+    status, said = run(sys.executable, written("own.py", block("python")[0]), **PYTHON)
+    tally.expect("docs/USE.md: the program in Python", (status, said) == (0, SHOWN), said)
+    if CARGO:
+        manifest = '[package]\nname = "own"\nversion = "0.1.0"\nedition = "2021"\n[workspace]\n[dependencies]\n'
+        written("own/Cargo.toml", manifest + f'vrikshonem = {{ path = "{ROOT}/rust" }}\n')
+        written("own/src/main.rs", block("rust")[0])
+        status, said = run("cargo", "run", "--quiet", "--offline", "--manifest-path", f"{ROOM}/own/Cargo.toml")
+        tally.expect("docs/USE.md: the program in Rust", (status, said) == (0, SHOWN), said)
+    lines = [line[4:] for line in re.search(r"packets.txt`:\n\n(.*?)\n\n", read("docs/USE.md"), re.S)[1].split("\n")]
+    tally.expect("docs/USE.md shows lines of packets.txt", lines and set(lines) <= set(expected.split("\n")), str(lines))
+
+
+def check():
+    packages()
+    examples()
+    use()
