@@ -92,15 +92,17 @@ def block(language):
 
 def use():
     """docs/USE.md, as a reader would type it."""
-    expected = read(LINES)
+    expected, installed = read(LINES), f"{ROOM}/prefix"
+    good("docs/USE.md: the folder is copied", "sh", "-euc", f"rm -rf {installed} && cp -R target/here/. {installed}/")
     tally.expect("docs/USE.md has blocks for C, Rust and Python", len(block("sh")) == 4, str(len(block("sh"))))
     for typed in block("sh"):
         title = typed.strip().splitlines()[-1]
         if "pkg-config" in typed and not shutil.which("pkg-config"):
             skipped(title, "there is no pkg-config")
             continue
-        status, said = run("sh", "-euc", typed)
-        tally.expect(f"docs/USE.md: {title}", (status, said) == (0, expected), said)
+        for each in dict.fromkeys([typed, typed.replace("target/here", installed)]):
+            status, said = run("sh", "-euc", each)
+            tally.expect(f"docs/USE.md: {each}", (status, said) == (0, expected), said)
     status, said = run(sys.executable, written("own.py", block("python")[0]), **PYTHON)
     tally.expect("docs/USE.md: the program in Python", (status, said) == (0, SHOWN), said)
     if CARGO:
