@@ -48,8 +48,8 @@ enum { VRK_TAI = 0, VRK_UTC = 1, VRK_GPS = 2 };
 enum { VRK_RECORD = 0, VRK_DECIMAL = 1 };
 
 /* A time handed in, judged by each function that takes it: a record (scale, day counted from 1 January 2000, microsecond of
- * that day) or a decimal day (scale, decimal). Of a record `decimal` is not looked at; of a decimal day `day` and `micro`
- * are not.
+ * that day) or a decimal day (scale, decimal), which stands for the record that vrk_decimal_read gives. Of a record `decimal`
+ * is not looked at; of a decimal day `day` and `micro` are not.
  *
  *    scale   first day             last day              microsecond of day below
  *    TAI     -10227 (1 Jan 1972)   36524 (31 Dec 2099)   86,400,000,000

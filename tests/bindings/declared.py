@@ -7,7 +7,8 @@ import re
 import shutil
 
 import interface
-from room import HEADER, ROOM, ROOT, SYS, WARNINGS, changed, good, read, run, skipped, tally, written
+from room import HEADER, ROOM, ROOT, SYS, WARNINGS, changed, good, run, skipped, tally, written
+from source import read
 
 C_CHECKS = ["gcc", "-std=c11", *WARNINGS, "-fsyntax-only", "-I"]
 RUST_CHECKS = ["rustc", "--edition", "2021", "--crate-type", "lib", "--emit=metadata", "-o", f"{ROOM}/checks.rmeta"]

@@ -3,7 +3,6 @@
 import os
 import subprocess
 
-from source import read
 from tally import Tally
 
 ROOT = os.path.normpath(os.path.join(os.path.dirname(os.path.abspath(__file__)), "..", ".."))

@@ -3,7 +3,8 @@
 import re
 
 import vrikshonem
-from room import HEADER, read, tally
+from room import HEADER, tally
+from source import read
 
 
 def quoted(path, name):

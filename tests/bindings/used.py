@@ -7,7 +7,8 @@ import shutil
 import subprocess
 import sys
 
-from room import PYTHON, ROOM, ROOT, WARNINGS, good, read, run, skipped, tally, written
+from room import PYTHON, ROOM, ROOT, WARNINGS, good, run, skipped, tally, written
+from source import read
 
 PACKETS, LINES = "examples/packets.bin", "examples/packets.txt"
 CARGO = shutil.which("cargo")
