@@ -2,6 +2,7 @@
 
 mod correlation;
 mod decimal;
+mod fields;
 mod handed;
 mod layouts;
 mod leap;
@@ -53,14 +54,14 @@ pub const FUNCTIONS: &[Function] = &[
     Function { name: "siral_write", number: 17, make: layouts::make_siral_write, model: layouts::model_siral_write },
     Function { name: "sbt_read", number: 18, make: layouts::make_sbt_read, model: layouts::model_sbt_read },
     Function { name: "sbt_write", number: 19, make: layouts::make_sbt_write, model: layouts::model_sbt_write },
-    Function { name: "cuc_fields_read", number: 20, make: layouts::make_cuc_read, model: layouts::model_cuc_split },
-    Function { name: "cuc_fields_write", number: 21, make: layouts::make_cuc_fields, model: layouts::model_cuc_fields },
-    Function { name: "proteus_fields_read", number: 22, make: layouts::make_proteus_read, model: layouts::model_proteus_split },
-    Function { name: "proteus_fields_write", number: 23, make: layouts::make_proteus_fields, model: layouts::model_proteus_fields },
-    Function { name: "cryosat_fields_read", number: 24, make: layouts::make_cryosat_read, model: layouts::model_cryosat_split },
-    Function { name: "cryosat_fields_write", number: 25, make: layouts::make_cryosat_fields, model: layouts::model_cryosat_fields },
-    Function { name: "siral_fields_read", number: 26, make: layouts::make_siral_read, model: layouts::model_siral_split },
-    Function { name: "siral_fields_write", number: 27, make: layouts::make_siral_fields, model: layouts::model_siral_fields },
+    Function { name: "cuc_fields_read", number: 20, make: layouts::make_cuc_read, model: fields::model_cuc_read },
+    Function { name: "cuc_fields_write", number: 21, make: fields::make_cuc_write, model: fields::model_cuc_write },
+    Function { name: "proteus_fields_read", number: 22, make: layouts::make_proteus_read, model: fields::model_proteus_read },
+    Function { name: "proteus_fields_write", number: 23, make: fields::make_proteus_write, model: fields::model_proteus_write },
+    Function { name: "cryosat_fields_read", number: 24, make: layouts::make_cryosat_read, model: fields::model_cryosat_read },
+    Function { name: "cryosat_fields_write", number: 25, make: fields::make_cryosat_write, model: fields::model_cryosat_write },
+    Function { name: "siral_fields_read", number: 26, make: layouts::make_siral_read, model: fields::model_siral_read },
+    Function { name: "siral_fields_write", number: 27, make: fields::make_siral_write, model: fields::model_siral_write },
     Function { name: "text_read", number: 28, make: text::make_read, model: text::model_read },
     Function { name: "text_write", number: 29, make: text::make_write, model: text::model_write },
 ];

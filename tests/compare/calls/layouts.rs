@@ -21,7 +21,7 @@ fn bytes(random: &mut Random, parts: &[(usize, u64)]) -> Vec<u8> {
     all
 }
 
-fn seconds(random: &mut Random) -> u64 {
+pub fn seconds(random: &mut Random) -> u64 {
     match random.below(6) {
         0 => random.near(3_786_479_999, 3) as u64,
         1 => random.pick(&[0, 1, 0xffff_ffff]),
@@ -30,7 +30,7 @@ fn seconds(random: &mut Random) -> u64 {
     }
 }
 
-fn fraction(random: &mut Random) -> u64 {
+pub fn fraction(random: &mut Random) -> u64 {
     if random.one_in(4) { random.pick(&[0, 1, 2, 65534, 65535]) } else { random.below(65536) }
 }
 
@@ -48,7 +48,7 @@ fn proteus_parts(random: &mut Random) -> Vec<(usize, u64)> {
     vec![(2, random.below(4096) << 4 | zeros | random.below(2)), (4, second_of_week(random)), (2, fraction(random))]
 }
 
-fn second_of_week(random: &mut Random) -> u64 {
+pub fn second_of_week(random: &mut Random) -> u64 {
     match random.below(6) {
         0 => random.near(604_799, 2) as u64,
         1 => random.next() >> 32,
@@ -56,7 +56,7 @@ fn second_of_week(random: &mut Random) -> u64 {
     }
 }
 
-fn cryosat_fields(random: &mut Random) -> Vec<u64> {
+pub fn cryosat_fields(random: &mut Random) -> Vec<u64> {
     let day = match random.below(5) {
         0 => random.near(36524, 2) as u64,
         1 => random.below(65536),
@@ -75,7 +75,7 @@ fn cryosat_fields(random: &mut Random) -> Vec<u64> {
     vec![day, milli, micro]
 }
 
-fn siral_fields(random: &mut Random) -> Vec<u64> {
+pub fn siral_fields(random: &mut Random) -> Vec<u64> {
     let mut all = cryosat_fields(random);
     if random.one_in(8) {
         // a carry that passes midnight, on the last day too
@@ -129,13 +129,6 @@ fn counted(call: &Call, read: Result<u64, Number>) -> Answer {
     }
 }
 
-fn parted<const N: usize>(call: &Call, read: Result<[u64; N], Number>) -> Answer {
-    match read {
-        Ok(fields) => answered(call, &[&[0], &fields[..]].concat()),
-        Err(number) => answered(call, &[number]),
-    }
-}
-
 pub fn model_cuc_read(call: &Call) -> Answer {
     timed(call, Scale::Gps, cuc::read(&call.input))
 }
@@ -165,22 +158,6 @@ pub fn model_obet_read(call: &Call) -> Answer {
 
 pub fn model_sbt_read(call: &Call) -> Answer {
     counted(call, sbt::read(&call.input))
-}
-
-pub fn model_cuc_split(call: &Call) -> Answer {
-    parted(call, cuc::split(&call.input))
-}
-
-pub fn model_proteus_split(call: &Call) -> Answer {
-    parted(call, proteus::split(&call.input))
-}
-
-pub fn model_cryosat_split(call: &Call) -> Answer {
-    parted(call, cryosat::split(&call.input))
-}
-
-pub fn model_siral_split(call: &Call) -> Answer {
-    parted(call, siral::split(&call.input))
 }
 
 // ---- writing into a lent slice
@@ -291,56 +268,4 @@ pub fn model_obet_write(call: &Call) -> Answer {
 
 pub fn model_sbt_write(call: &Call) -> Answer {
     written(call, Ok(sbt::write(call.words[0])))
-}
-
-// ---- fields into a lent slice
-
-fn of_fields(random: &mut Random, mut words: Vec<u64>, image: u64) -> Call {
-    if random.one_in(6) {
-        // too wide for its field, or over its limit
-        let at = random.below(words.len() as u64) as usize;
-        words[at] = random.next() >> (32 + random.below(32));
-    }
-    let lent = lent(random, image);
-    Call { words, input: Vec::new(), lent }
-}
-
-pub fn make_cuc_fields(random: &mut Random) -> Call {
-    let words = vec![seconds(random), fraction(random)];
-    of_fields(random, words, 6)
-}
-
-pub fn make_proteus_fields(random: &mut Random) -> Call {
-    let words = vec![random.below(4096), random.below(2), second_of_week(random), fraction(random)];
-    of_fields(random, words, 8)
-}
-
-pub fn make_cryosat_fields(random: &mut Random) -> Call {
-    let words = cryosat_fields(random);
-    of_fields(random, words, 8)
-}
-
-pub fn make_siral_fields(random: &mut Random) -> Call {
-    let words = siral_fields(random);
-    of_fields(random, words, 10)
-}
-
-fn parts<const N: usize>(call: &Call) -> [u64; N] {
-    call.words[..].try_into().expect("so many fields")
-}
-
-pub fn model_cuc_fields(call: &Call) -> Answer {
-    written(call, cuc::image(parts(call)))
-}
-
-pub fn model_proteus_fields(call: &Call) -> Answer {
-    written(call, proteus::image(parts(call)))
-}
-
-pub fn model_cryosat_fields(call: &Call) -> Answer {
-    written(call, cryosat::image(parts(call)))
-}
-
-pub fn model_siral_fields(call: &Call) -> Answer {
-    written(call, siral::image(parts(call)))
 }
