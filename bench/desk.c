@@ -1,8 +1,6 @@
 /* The program of text lines in plain C, to measure desk against: the same lines, the same refusals, the same blocks. The published
  * list stands in constant arrays and is not tested, as in desk. */
-#include "plain_dates.h"
-
-#include <stddef.h>
+#include "plain_text.h"
 
 extern long read(int, void *, size_t);
 extern long write(int, const void *, size_t);
@@ -10,57 +8,27 @@ extern void *memchr(const void *, int, size_t);
 extern void perror(const char *);
 
 enum { BLOCK = 65536, LINE = 32 };
-enum { LENGTH = 1, FIELD = 3, SPAN = 7, EXPIRED = 9, LACKING = 10, RESULT = 11 };
-enum { UTC, TAI, GPS };
-enum { STEPS = 28, LAST_LISTED = 9131 };
-
-/* TAI minus UTC is 10 from the first step on, and one more from each further one. */
-static const int32_t step_days[STEPS] = {
-    -10227, -10045, -9861, -9496, -9131, -8766, -8400, -8035, -7670, -7305, -6758, -6393, -6028, -5297,
-    -4383,  -3652,  -3287, -2740, -2375, -2010, -1461, -914,  -365,  2192,  3288,  4565,  5660,  6210,
-};
-
-/* ---- reading */
 
 /* TAI minus UTC of a UTC time in seconds, or a refusal below zero. */
 static int offset_of(int day, int64_t micro) {
-    if (day > LAST_LISTED) return -EXPIRED;
-    int i = STEPS - 1;
-    while (step_days[i] > day) i--;
-    if (micro >= DAY && (i + 1 == STEPS || step_days[i + 1] != day + 1)) return -LACKING;
-    return 10 + i;
+    if (day > LISTED) return -EXPIRED;
+    int i = PUBLISHED - 1;
+    while (published_days[i] > day) i--;
+    if (micro >= DAY && (i + 1 == PUBLISHED || published_days[i + 1] != day + 1)) return -LACKING;
+    return FIRST_OFFSET + i;
 }
 
 /* The refusal of a line, or 0 and its TAI time. */
 static int dated(const unsigned char *s, size_t n, int *tai_day, int64_t *tai_micro) {
-    int scale = UTC;
-    if (n == 24 || n == 31) {
-        if (s[3] != '=') return FIELD;
-        if (s[0] == 'T' && s[1] == 'A' && s[2] == 'I') scale = TAI;
-        else if (s[0] == 'G' && s[1] == 'P' && s[2] == 'S') scale = GPS;
-        else if (s[0] != 'U' || s[1] != 'T' || s[2] != 'C') return FIELD;
-        s += 4, n -= 4;
-    } else if (n != 20 && n != 27) {
-        return LENGTH;
-    }
-    if (s[2] != '-' || s[6] != '-' || s[11] != ' ' || s[14] != ':' || s[17] != ':') return FIELD;
-    struct date d = {two(s + 7) * 100 + two(s + 9), month_of(s + 3), two(s)};
-    unsigned hour = two(s + 12), minute = two(s + 15), second = two(s + 18), part = 0;
-    if (n == 27) {
-        if (s[20] != '.') return FIELD;
-        unsigned a = two(s + 21), b = two(s + 23), c = two(s + 25);
-        if (a > 99 || b > 99 || c > 99) return FIELD;
-        part = (a * 100 + b) * 100 + c;
-    }
-    if (hour > 23 || minute > 59 || second > 60 || d.year > 9999) return FIELD;
-    if (second == 60 && (scale != UTC || hour != 23 || minute != 59)) return FIELD;
-    if (!is_date(d)) return FIELD;
+    struct date d;
+    uint32_t scale;
+    int64_t micro;
+    uint32_t refusal = text_refusal(s, n, &scale, &d, &micro);
+    if (refusal) return (int)refusal;
     if (d.year < 1972 || d.year > 2099) return SPAN;
-    int day = day_of(d), offset = 0;
-    if (scale == GPS && day < FIRST_GPS_DAY) return SPAN;
-    int64_t micro = ((hour * 60 + minute) * 60 + second) * SECOND + part;
-    if (scale == UTC && (offset = offset_of(day, micro)) < 0) return -offset;
-    if (scale == GPS) offset = 19;
+    int day = day_of(d), offset = scale == VRK_GPS ? GPS_OFFSET : 0;
+    if (scale == VRK_GPS && day < FIRST_GPS_DAY) return SPAN;
+    if (scale == VRK_UTC && (offset = offset_of(day, micro)) < 0) return -offset;
     micro += offset * SECOND;
     if (micro >= DAY) micro -= DAY, day++;
     if (day > LAST_DAY) return RESULT;
@@ -68,22 +36,10 @@ static int dated(const unsigned char *s, size_t n, int *tai_day, int64_t *tai_mi
     return 0;
 }
 
-/* ---- printing */
-
 static size_t print_time(unsigned char *out, int day, int64_t micro) {
-    struct date d = date_of(day);
-    unsigned seconds = (unsigned)(micro / SECOND), part = (unsigned)(micro % SECOND);
-    __builtin_memcpy(out, "TAI=dd-mmm-yyyy hh:mm:ss.uuuuuu\n", LINE);
-    put_two(out + 4, d.day);
-    __builtin_memcpy(out + 7, month_names + 3 * (d.month - 1), 3);
-    put_two(out + 11, d.year / 100);
-    put_two(out + 13, d.year % 100);
-    put_two(out + 16, seconds / 3600);
-    put_two(out + 19, seconds / 60 % 60);
-    put_two(out + 22, seconds % 60);
-    put_two(out + 25, part / 10000);
-    put_two(out + 27, part / 100 % 100);
-    put_two(out + 29, part % 100);
+    __builtin_memcpy(out, "TAI=", 4);
+    put_text(out + 4, day, micro, 1);
+    out[LINE - 1] = '\n';
     return LINE;
 }
 

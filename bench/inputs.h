@@ -5,7 +5,7 @@
 #include "calls.h"
 #include "plain_dates.h"
 
-enum { LISTED = 9131, BAD_TIMES = 7, BAD_LISTS = 5 };
+enum { BAD_TIMES = 7, BAD_LISTS = 5 };
 
 uint64_t below(uint64_t n);
 

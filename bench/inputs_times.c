@@ -49,12 +49,6 @@ vrk_handed bad_time(size_t which) {
 
 /* ---- leap lists */
 
-enum { PUBLISHED = 28 };
-
-static const int64_t published_days[PUBLISHED] = {
-    -10227, -10045, -9861, -9496, -9131, -8766, -8400, -8035, -7670, -7305, -6758, -6393, -6028, -5297,
-    -4383,  -3652,  -3287, -2740, -2375, -2010, -1461, -914,  -365,  2192,  3288,  4565,  5660,  6210,
-};
 static int64_t yearly_days[MOST], wrong_days[2][MOST];
 static uint64_t offsets[MOST], wrong_offsets[MOST];
 static struct leap_list good, bad[BAD_LISTS];

@@ -1,6 +1,6 @@
 /* All of plain C in one unit, as the library is one: what a compiler may inline, it may inline in both. */
 #include "plain.h"
-#include "plain_dates.h"
+#include "plain_text.h"
 
 #include "plain_time.c"
 

@@ -1,6 +1,6 @@
 /* Plain C: the leap list and the changes of scale. A part of plain.c. */
 
-enum { MOST_STEPS = 64, FIRST_OFFSET = 10, GPS_OFFSET = 19 };
+enum { MOST_STEPS = 64 };
 
 struct list {
     const int64_t *days;

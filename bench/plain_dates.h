@@ -1,51 +1,30 @@
-/* The calendar and the digits of Envisat text in plain C, for the programs that the desk is measured against. */
+/* What plain C has of document 01 in all its programs: the numbers of the slip, the spans, the published list and the calendar. */
 #ifndef PLAIN_DATES_H
 #define PLAIN_DATES_H
 
 #include <stdint.h>
 
+enum {
+    LENGTH = 1, MARKER = 2, FIELD = 3, NOT_FINITE = 4, LIST = 5, CORRELATION = 6, SPAN = 7, NOT_IN_FORCE = 8, EXPIRED = 9,
+    LACKING = 10, RESULT = 11, NO_IMAGE = 12, ROOM = 13,
+};
 enum { FIRST_DAY = -10227, FIRST_GPS_DAY = -7300, LAST_DAY = 36524 };
+/* TAI minus UTC is 10 from the first step on, and one more from each further one; TAI minus GPS is 19. */
+enum { FIRST_OFFSET = 10, GPS_OFFSET = 19 };
 
 #define SECOND INT64_C(1000000)
 #define DAY (86400 * SECOND)
 
-static const char month_names[] = "JANFEBMARAPRMAYJUNJULAUGSEPOCTNOVDEC";
+enum { PUBLISHED = 28, LISTED = 9131 };
+static const int64_t published_days[PUBLISHED] = {
+    -10227, -10045, -9861, -9496, -9131, -8766, -8400, -8035, -7670, -7305, -6758, -6393, -6028, -5297,
+    -4383,  -3652,  -3287, -2740, -2375, -2010, -1461, -914,  -365,  2192,  3288,  4565,  5660,  6210,
+};
+
 /* Days of a common year before each month. */
 static const uint16_t before[13] = {0, 31, 59, 90, 120, 151, 181, 212, 243, 273, 304, 334, 365};
 
 struct date { unsigned year, month, day; };
-
-/* Two digits, or a number over every limit. */
-static inline unsigned two(const unsigned char *s) {
-    unsigned a = s[0] - (unsigned)'0', b = s[1] - (unsigned)'0';
-    return a < 10 && b < 10 ? a * 10 + b : 1000000;
-}
-
-static inline void put_two(unsigned char *out, unsigned n) {
-    out[0] = (unsigned char)('0' + n / 10);
-    out[1] = (unsigned char)('0' + n % 10);
-}
-
-#define LETTERS(a, b, c) ((unsigned)(a) << 16 | (unsigned)(b) << 8 | (unsigned)(c))
-
-/* 1 to 12, or 0. */
-static inline unsigned month_of(const unsigned char *s) {
-    switch (LETTERS(s[0], s[1], s[2])) {
-    case LETTERS('J', 'A', 'N'): return 1;
-    case LETTERS('F', 'E', 'B'): return 2;
-    case LETTERS('M', 'A', 'R'): return 3;
-    case LETTERS('A', 'P', 'R'): return 4;
-    case LETTERS('M', 'A', 'Y'): return 5;
-    case LETTERS('J', 'U', 'N'): return 6;
-    case LETTERS('J', 'U', 'L'): return 7;
-    case LETTERS('A', 'U', 'G'): return 8;
-    case LETTERS('S', 'E', 'P'): return 9;
-    case LETTERS('O', 'C', 'T'): return 10;
-    case LETTERS('N', 'O', 'V'): return 11;
-    case LETTERS('D', 'E', 'C'): return 12;
-    }
-    return 0;
-}
 
 static inline int is_leap(unsigned year) { return year % 4 == 0 && (year % 100 != 0 || year % 400 == 0); }
 

@@ -1,10 +1,5 @@
 /* Plain C: spans, times handed in, decimal days. A part of plain.c. */
 
-enum {
-    LENGTH = 1, MARKER = 2, FIELD = 3, NOT_FINITE = 4, LIST = 5, CORRELATION = 6, SPAN = 7, NOT_IN_FORCE = 8, EXPIRED = 9,
-    LACKING = 10, RESULT = 11, NO_IMAGE = 12, ROOM = 13,
-};
-
 static inline vrk_time a_time(uint32_t scale, int64_t day, int64_t micro) {
     return (vrk_time){0, scale, day, (uint64_t)micro};
 }
