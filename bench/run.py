@@ -1,25 +1,24 @@
 #!/usr/bin/env python3
 """Measures every function of the library beside the same work in plain C and, where they are installed, ERFA and Howard Hinnant's
-date library. It builds what it needs.
+date library; then desk, the program of text lines. It builds what it needs.
 
-    bench/run.py [REPEATS]     40 unless said otherwise; the best time counts"""
+    bench/run.py [REPEATS]     60 unless said otherwise; the best time counts"""
 
 import os
-import platform
 import re
 import shutil
 import subprocess
 import sys
 
 sys.dont_write_bytecode = True
-from desk import EMULATED, ROOT, RUN, emulated_count, valgrind_count
+import desk
+from programs import EMULATED, LEVEL, PLACE, ROOM, ROOT, RUN, call, can_count, compile_c, instructions, wanted
 
-ROOM = os.path.join(ROOT, "target/bench")
 ARCHIVE = os.path.join(ROOT, "target/dist/lib/libvrikshonem.a")
 PARTS = ["plain", "inputs_times", "inputs_uses", "inputs_bytes"]
 COUNTED = 256  # calls whose instructions are counted
-REPEATS = 40
-SAME = {"desk": "vrikshonem", "plain": "plain C"}
+REPEATS = 60
+SAME = ["desk", "plain"]
 LESS = {
     "listed": "plain C, does less: the list was accepted before the call, 5 is never given",
     "erfa": "ERFA, does less: own list, doubles, no refusal",
@@ -27,12 +26,8 @@ LESS = {
 }
 
 
-def call(*words, **more):
-    return subprocess.run(words, check=True, cwd=ROOT, **more)
-
-
-def compiled(name, source, flags=""):
-    call("tools/x86-64-cc", "-c", os.path.join(ROOM, name), source, env=dict(os.environ, X86_CPPFLAGS=flags))
+def compiled(name, flags=""):
+    compile_c("-c", os.path.join(ROOM, name), f"bench/{name}.c", flags=flags)
     return os.path.join(ROOM, name + ".o")
 
 
@@ -43,7 +38,7 @@ def other(name, compiler, source, links):
     if shutil.which(compiler) is None:
         return None, f"not compiled: {compiler} is not in PATH"
     out = os.path.join(ROOM, name + ".so")
-    words = [compiler, "-O2", "-shared", "-fPIC", "-I", "include", "-o", out, source, *links]
+    words = [compiler, LEVEL, "-shared", "-fPIC", "-I", "include", "-o", out, source, *links]
     done = subprocess.run(words, cwd=ROOT, stderr=subprocess.PIPE, text=True)
     if done.returncode == 0:
         return out, None
@@ -55,7 +50,7 @@ def build():
     """The words that run the program, and the contenders that are not there."""
     os.makedirs(ROOM, exist_ok=True)
     call("tools/build", stdout=subprocess.DEVNULL)
-    objects = [compiled(part, f"bench/{part}.c") for part in PARTS]
+    objects = [compiled(part) for part in PARTS]
     absent, flags, shared = {}, [], []
     for name, macro, compiler, source, links in (
         ("erfa", "HAS_ERFA", "gcc", "bench/erfa.c", ["-lerfa", "-lm"]),
@@ -69,10 +64,10 @@ def build():
             absent[name] = why
     program = os.path.join(ROOM, "calls")
     if not shared:
-        call("tools/x86-64-cc", program, "bench/calls.c", *objects, ARCHIVE)
+        compile_c(program, "bench/calls.c", *objects, ARCHIVE)
         return [RUN, program], absent
     # These bring the machine's own C library with them, so that one is linked and run for all.
-    objects.append(compiled("calls", "bench/calls.c", " ".join(flags)))
+    objects.append(compiled("calls", " ".join(flags)))
     call("g++" if shutil.which("g++") else "gcc", "-o", program, *objects, ARCHIVE, *shared, "-Wl,-rpath," + ROOM)
     return [program], absent
 
@@ -81,7 +76,8 @@ def measured(words, repeats):
     """The rows in their order, each with its steps, refusals and nanoseconds."""
     done = subprocess.run([*words, "time", str(repeats)], cwd=ROOT, stdout=subprocess.PIPE, text=True)
     if done.returncode != 0:
-        sys.exit("bench/run.py: " + (done.stdout.strip().splitlines() or ["the program ended with an error"])[-1])
+        last = (done.stdout.strip().splitlines() or ["nothing"])[-1]
+        sys.exit(f"bench/run.py: the program ended with status {done.returncode}, and said last: {last}")
     rows = {}
     for line in done.stdout.splitlines():
         kind, row, *rest = line.split("|")
@@ -103,16 +99,12 @@ def without_row(rows):
 
 
 def count_instructions(words, rows):
-    """Instructions a call, with the loop around it and without all else, where they can be counted."""
-    if not EMULATED and shutil.which("valgrind") is None:
-        return
-    count = emulated_count if EMULATED else valgrind_count
+    """Instructions a call, with the loop around it and without all else."""
     for (row, steps), told in rows.items():
-        counts = {}
-        for who, calls in [("plain", 0), *((who, COUNTED) for who in told["ns"])]:
-            counts[who, calls] = count([*words, "count", row, steps, who, str(COUNTED), str(calls)], os.devnull)
-        start = counts["plain", 0]
-        told["instructions"] = {who: (counts[who, COUNTED] - start) / COUNTED for who in told["ns"]}
+        counted = [*words, "count", row, steps]
+        start = instructions([*counted, "plain", str(COUNTED), "0"])
+        wholes = {who: instructions([*counted, who, str(COUNTED), str(COUNTED)]) for who in told["ns"]}
+        told["instructions"] = {who: (whole - start) / COUNTED for who, whole in wholes.items()}
 
 
 def told_ratio(figures):
@@ -177,14 +169,15 @@ def show_growth(rows):
 
 
 def main():
-    repeats = int(sys.argv[1]) if len(sys.argv) > 1 else REPEATS
+    (repeats,) = wanted([REPEATS], __doc__)
     words, absent = build()
     rows = measured(words, repeats)
     if missing := without_row(rows):
         sys.exit("bench/run.py: no row for " + ", ".join(missing))
-    count_instructions(words, rows)
+    if can_count():
+        count_instructions(words, rows)
     inputs = max(told["inputs"] for told in rows.values())
-    print(f"On {platform.machine()}" + (", all contenders under the same emulator for x86-64" if EMULATED else "") + ".")
+    print(f"Each function, {PLACE}.")
     print(f"{inputs} inputs a row; all answers of all contenders compared, and equal; best of {repeats}, in turn.")
     print("A call's loop is in every figure; the row 'nothing' is the loop with a function that does nothing.\n")
     show_all(rows)
@@ -192,6 +185,8 @@ def main():
     show_less(rows, absent)
     print("Growth with the number of steps, every list accepted and every time answered:\n")
     show_growth(rows)
+    print("The program of text lines:\n", flush=True)
+    desk.show(desk.LINES, desk.REPEATS)
 
 
 if __name__ == "__main__":
