@@ -5,7 +5,7 @@
 #include "calls.h"
 #include "plain_dates.h"
 
-enum { BAD_TIMES = 7, BAD_LISTS = 5 };
+enum { BAD_TIMES = 9, BAD_LISTS = 10 };
 
 uint64_t below(uint64_t n);
 
@@ -20,6 +20,6 @@ vrk_handed second_60(void);
 vrk_handed bad_time(size_t which);
 
 const struct leap_list *listed(size_t steps);
-const struct leap_list *bad_list(size_t which, size_t steps);
+const struct leap_list *bad_list(size_t which);
 
 #endif

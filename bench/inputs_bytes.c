@@ -71,16 +71,24 @@ void make_sbt_read(struct input *x, size_t i, size_t steps) {
     if (refused(i)) wrong_length(x, refused(i));
 }
 
-/* ---- writers: a time that is refused, one of another scale, no room */
+/* ---- writers: a time that is refused, one of another scale or that the layout cannot hold, no room; or more than is needed */
+
+static uint32_t room(uint32_t length) { return length + (uint32_t)below(3); }
+
+static vrk_handed without_image(uint32_t scale, size_t which) {
+    if (scale == VRK_TAI) return any_time(scale, FIRST_DAY);
+    if (which % 3 == 0) return second_60();
+    return (vrk_handed){VRK_RECORD, scale, which % 3 == 1 ? FIRST_GPS_DAY - 1 : 21372, 0, 0};
+}
 
 static void write_time(struct input *x, size_t i, uint32_t scale, int64_t first, uint32_t length) {
     size_t bad = refused(i);
-    x->count = length + (uint32_t)below(3);
+    x->count = room(length);
     x->time = any_time(scale, first);
     switch (bad ? bad % 4 : 4) {
     case 0: x->time = bad_time(bad / 4); break;
     case 1: x->time = any_time((scale + 1) % 3, 0); break;
-    case 2: x->time = scale == VRK_UTC ? second_60() : scale == VRK_TAI ? any_time(scale, FIRST_DAY) : x->time; break;
+    case 2: x->time = scale == VRK_GPS ? x->time : without_image(scale, bad / 4); break;
     case 3: x->count = length - 1; break;
     }
 }
@@ -100,7 +108,7 @@ void make_proteus_write(struct input *x, size_t i, size_t steps) {
 static void write_count(struct input *x, size_t i, unsigned bits, uint32_t length) {
     size_t bad = refused(i);
     x->value = below(UINT64_C(1) << bits) | (uint64_t)(bad % 2) << bits;
-    x->count = bad && bad % 2 == 0 ? length - 1 : length;
+    x->count = bad && bad % 2 == 0 ? length - 1 : room(length);
 }
 
 void make_goce_write(struct input *x, size_t i, size_t steps) { (void)steps, write_count(x, i, 48, 6); }
@@ -109,14 +117,14 @@ void make_obet_write(struct input *x, size_t i, size_t steps) { (void)steps, wri
 void make_sbt_write(struct input *x, size_t i, size_t steps) {
     (void)steps;
     x->code = (uint32_t)below(UINT64_C(1) << 32);
-    x->count = refused(i) ? (uint32_t)below(4) : 4;
+    x->count = refused(i) ? (uint32_t)below(4) : room(4);
 }
 
 void make_cuc_parts(struct input *x, size_t i, size_t steps) {
     (void)steps;
     size_t bad = refused(i);
     x->part[0] = (uint32_t)below(UINT64_C(1) << 32), x->part[1] = (uint32_t)below(65536) + (bad % 2 ? 65536 : 0);
-    x->count = bad && bad % 2 == 0 ? 5 : 6;
+    x->count = bad && bad % 2 == 0 ? 5 : room(6);
 }
 
 void make_proteus_parts(struct input *x, size_t i, size_t steps) {
@@ -126,7 +134,7 @@ void make_proteus_parts(struct input *x, size_t i, size_t steps) {
     x->part[1] = (uint32_t)below(2) + (bad % 5 == 2 ? 2 : 0);
     x->part[2] = (uint32_t)below(604800) + (bad % 5 == 3 ? 604800 : 0);
     x->part[3] = (uint32_t)below(65536) + (bad % 5 == 4 ? 65536 : 0);
-    x->count = bad && bad % 5 == 0 ? 7 : 8;
+    x->count = bad && bad % 5 == 0 ? 7 : room(8);
 }
 
 static void day_parts(struct input *x, size_t bad, uint32_t length) {
@@ -134,7 +142,7 @@ static void day_parts(struct input *x, size_t bad, uint32_t length) {
     x->part[1] = (uint32_t)below(86400000) + (bad % 5 == 2 ? 86400000 : 0);
     x->part[2] = (uint32_t)below(1000) + (bad % 5 == 3 ? 1000 : 0);
     x->part[3] = (uint32_t)below(65536) + (bad % 5 == 4 ? 65536 : 0);
-    x->count = bad && bad % 5 == 0 ? length - 1 : length;
+    x->count = bad && bad % 5 == 0 ? length - 1 : room(length);
 }
 
 void make_cryosat_parts(struct input *x, size_t i, size_t steps) { (void)steps, day_parts(x, refused(i), 8); }

@@ -43,14 +43,16 @@ vrk_handed bad_time(size_t which) {
     case 4: h.scale = VRK_GPS, h.day = FIRST_GPS_DAY - 1; break;
     case 5: h.scale = VRK_UTC, h.micro = DAY + SECOND; break;
     case 6: h.kind = VRK_DECIMAL, h.decimal = 36525; break;
+    case 7: h.day = LAST_DAY + 1; break;
+    case 8: h.micro = DAY; break;
     }
     return h;
 }
 
 /* ---- leap lists */
 
-static int64_t yearly_days[MOST], wrong_days[2][MOST];
-static uint64_t offsets[MOST], wrong_offsets[MOST];
+static int64_t yearly_days[MOST + 1], wrong_days[3][PUBLISHED];
+static uint64_t offsets[MOST + 1], wrong_offsets[2][PUBLISHED];
 static struct leap_list good, bad[BAD_LISTS];
 
 vrk_handed second_60(void) {
@@ -59,7 +61,7 @@ vrk_handed second_60(void) {
 
 /* The published list, or one with a step on each 1 January from 1972 on that speaks of all days. */
 const struct leap_list *listed(size_t steps) {
-    for (size_t k = 0; k < MOST; k++) {
+    for (size_t k = 0; k <= MOST; k++) {
         struct date d = {1972 + (unsigned)k, 1, 1};
         yearly_days[k] = day_of(d), offsets[k] = 10 + k;
     }
@@ -68,15 +70,24 @@ const struct leap_list *listed(size_t steps) {
     return &good;
 }
 
-/* Wrong in its last step, where it has more than one: no first of a month, or an offset that does not count up; wrong in its
- * middle; of unlike lengths; empty. */
-const struct leap_list *bad_list(size_t which, size_t steps) {
-    const struct leap_list *l = listed(steps);
-    size_t n = l->day_count;
-    for (size_t k = 0; k < n; k++) wrong_days[0][k] = wrong_days[1][k] = l->days[k], wrong_offsets[k] = offsets[k];
-    wrong_days[0][n - 1]++, wrong_days[1][n / 2]--, wrong_offsets[n - 1]++;
-    bad[0] = bad[1] = bad[2] = bad[3] = *l;
-    bad[0].days = wrong_days[0], bad[1].days = wrong_days[1], bad[2].offsets = wrong_offsets, bad[3].offset_count--;
-    bad[4] = (struct leap_list){0, 0, 0, 0, LISTED};
+/* The published list with one thing wrong, and a list that is too long. */
+const struct leap_list *bad_list(size_t which) {
+    enum { END = PUBLISHED - 1, MIDDLE = PUBLISHED / 2 };
+    for (size_t k = 0; k < BAD_LISTS; k++) bad[k] = *listed(0);
+    for (size_t k = 0; k < PUBLISHED; k++) {
+        wrong_days[0][k] = wrong_days[1][k] = wrong_days[2][k] = published_days[k];
+        wrong_offsets[0][k] = offsets[k], wrong_offsets[1][k] = offsets[k] + 1;
+    }
+    wrong_days[0][END]++;                                /* no first of a month */
+    wrong_days[1][MIDDLE] = published_days[MIDDLE - 1];  /* days that do not rise */
+    wrong_days[2][0] = FIRST_DAY + 31;                   /* another first step */
+    wrong_offsets[0][END]++;                             /* an offset that does not count up */
+    for (size_t k = 0; k < 3; k++) bad[k].days = wrong_days[k];
+    for (size_t k = 0; k < 2; k++) bad[3 + k].offsets = wrong_offsets[k];
+    bad[5].last = published_days[END] - 2;
+    bad[6].last = LAST_DAY + 1;
+    bad[7].offset_count--;
+    bad[8] = (struct leap_list){0, 0, 0, 0, LISTED};
+    bad[9] = (struct leap_list){yearly_days, offsets, MOST + 1, MOST + 1, LAST_DAY};
     return &bad[which % BAD_LISTS];
 }

@@ -33,6 +33,18 @@ static void near(struct input *x) {
     x->time = (vrk_handed){VRK_RECORD, x->correlation.scale, day, (uint64_t)(t - day * DAY), 0};
 }
 
+static void make_unaccepted(vrk_correlation *c, size_t which) {
+    switch (which % 7) {
+    case 0: c->period = 3905999999; break;
+    case 1: c->period = 3906500001; break;
+    case 2: c->scale = 3; break;
+    case 3: c->back = (UINT64_C(1) << 31) + 1; break;
+    case 4: c->ahead = UINT64_C(1) << 31; break;
+    case 5: c->day = LAST_DAY + 1; break;
+    case 6: c->micro = DAY; break;
+    }
+}
+
 void make_sbt_date(struct input *x, size_t i, size_t steps) {
     (void)steps;
     x->correlation = any_correlation((uint32_t)(i % 3));
@@ -40,13 +52,12 @@ void make_sbt_date(struct input *x, size_t i, size_t steps) {
     x->code = x->correlation.tick + (uint32_t)below(2 * WINDOW) - WINDOW;
     size_t bad = refused(i);
     if (!bad) return;
-    switch (bad % 6) {
-    case 0: x->correlation.period = 3905999999; break;
-    case 1: x->correlation.scale = 3; break;
-    case 2: x->time.micro = DAY; break;
-    case 3: x->code = x->correlation.tick + WINDOW + 1; break;
-    case 4: x->time.day += x->time.day < 0 ? 2 : -2; break;
-    case 5: /* a reference in the last microsecond of the span */
+    switch (bad % 5) {
+    case 0: make_unaccepted(&x->correlation, bad / 5); break;
+    case 1: x->time.micro = DAY; break;
+    case 2: x->code = x->correlation.tick + WINDOW + 1; break;
+    case 3: x->time.day += x->time.day < 0 ? 2 : -2; break;
+    case 4: /* a reference in the last microsecond of the span */
         x->correlation.day = x->time.day = LAST_DAY, x->correlation.micro = x->time.micro = DAY - 1;
         x->code = x->correlation.tick + WINDOW;
         break;
@@ -64,7 +75,7 @@ void make_sbt_tick(struct input *x, size_t i, size_t steps) {
     size_t bad = refused(i);
     if (!bad) return;
     switch (bad % 4) {
-    case 0: x->correlation.ahead = UINT64_C(1) << 31; break;
+    case 0: make_unaccepted(&x->correlation, bad / 4); break;
     case 1: x->time = bad_time(bad / 4); break;
     case 2: x->time.scale = (x->time.scale + 1) % 3; break;
     case 3: x->time.day += x->time.day < 0 ? 2 : -2; break;
@@ -74,7 +85,7 @@ void make_sbt_tick(struct input *x, size_t i, size_t steps) {
 /* ---- lists and changes */
 
 void make_list(struct input *x, size_t i, size_t steps) {
-    x->list = refused(i) && steps == 0 ? bad_list(refused(i), steps) : listed(steps);
+    x->list = refused(i) && steps == 0 ? bad_list(refused(i)) : listed(steps);
 }
 
 /* Of the UTC times one in sixteen is within a second 60. A time that is refused: in itself, expired, in a second that its day
@@ -94,11 +105,12 @@ static void change(struct input *x, size_t i, uint32_t from, uint32_t to) {
 }
 
 void make_change(struct input *x, size_t i, size_t steps) {
+    (void)steps;
     uint32_t from = (uint32_t)(i % 3), to = (from + 1 + (uint32_t)(i / 3 % 2)) % 3;
     change(x, i, from, to);
     size_t bad = refused(i);
     if (bad % 5 == 4) x->code = 3;
-    if (bad % 5 == 3) x->list = bad_list(bad / 5, steps);
+    if (bad % 5 == 3) x->list = bad_list(bad / 5);
 }
 
 void make_utc_tai(struct input *x, size_t i, size_t steps) { (void)steps, change(x, i, VRK_UTC, VRK_TAI); }
@@ -137,7 +149,7 @@ static void text_write(struct input *x, size_t i, uint32_t scale, uint32_t form)
     switch (bad ? bad % 8 : 8) {
     case 0: x->time = bad_time(bad / 8); break;
     case 1: x->code = 21; break;
-    case 2: x->list = bad_list(bad / 8, 0); break;
+    case 2: x->list = bad_list(bad / 8); break;
     case 3: x->time.day = LISTED + 1; break;
     case 4: x->time = (vrk_handed){VRK_RECORD, VRK_UTC, 1, DAY, 0}; break;
     case 5: x->code = 20, x->time.scale = VRK_GPS, x->time.day = 0; break;
@@ -158,7 +170,7 @@ static void text_read(struct input *x, size_t i, uint32_t scale, uint32_t form) 
     case 0: x->count = 19; break;
     case 1: body[below(20)] = '*'; break;
     case 2: body[0] = '3', body[1] = '2'; break;
-    case 3: x->list = bad_list(bad / 7, 0); break;
+    case 3: x->list = bad_list(bad / 7); break;
     case 4: body[7] = '3'; break;
     case 5: __builtin_memcpy(body + 7, "2025", 4); break;
     case 6: __builtin_memcpy(body, "02-JAN-2000 23:59:60", 20); break;

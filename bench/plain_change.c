@@ -21,7 +21,9 @@ static inline int is_first(int64_t day) {
     return firsts[(n * 16 + 26) / 487] == n;
 }
 
-static int is_accepted(const int64_t *days, size_t day_count, const uint64_t *offsets, size_t offset_count, int64_t last) {
+/* Called, and not inlined: within the reading of a text its loop would find too few registers. */
+__attribute__((noinline)) static int is_accepted(const int64_t *days, size_t day_count, const uint64_t *offsets,
+                                                 size_t offset_count, int64_t last) {
     if (day_count != offset_count || day_count < 1 || day_count > MOST_STEPS) return 0;
     if (last < FIRST_DAY || last > LAST_DAY) return 0;
     if (days[0] != FIRST_DAY || offsets[0] != FIRST_OFFSET) return 0;
