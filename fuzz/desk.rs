@@ -102,7 +102,7 @@ fn waited(child: &mut Child) -> Result<(), String> {
             Ok(None) if began.elapsed() < MOST => std::thread::sleep(Duration::from_millis(2)),
             Ok(None) => {
                 // the pipes end with it, and so do the threads
-                let _ = child.kill();
+                let _ = child.kill().and_then(|()| child.wait());
                 return Err(format!("it does not end in {} s", MOST.as_secs()));
             }
             Err(e) => return Err(e.to_string()),

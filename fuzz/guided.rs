@@ -11,20 +11,16 @@ mod compare {
 #[path = "../tests/independent/mod.rs"]
 mod independent;
 
-#[allow(dead_code)]
 mod laws;
+mod library;
 #[allow(dead_code)]
 mod shape;
 
 use compare::{calls, server};
-use calls::{Answer, Call, FUNCTIONS};
+use calls::{Call, FUNCTIONS};
 use server::Server;
 use shape::{Parts, SHAPES};
 use std::cell::RefCell;
-
-const MET: &str = "target/fuzz/met";
-const SERVER: [&str; 5] =
-    ["env", "QEMU_LOG=in_asm", "QEMU_LOG_FILENAME=target/fuzz/met", "tools/x86-64", "target/fuzz/serve"];
 
 /// libFuzzer takes each byte that is not zero here for a branch.
 #[link_section = "__libfuzzer_extra_counters"]
@@ -113,26 +109,11 @@ fn taken(data: &[u8]) -> (u32, Call) {
 }
 
 impl State {
-    fn ask(&mut self, function: u32, call: &Call) -> Answer {
-        self.server.ask(function, std::slice::from_ref(call)).remove(0)
-    }
-
     fn compare(&mut self, function: u32, call: &Call) {
-        let (answer, right) = (self.ask(function, call), (FUNCTIONS[function as usize].model)(call));
-        let name = FUNCTIONS[function as usize].name;
-        if answer != right {
-            stop(&format!("{name}: {call:x?}\n    the library: {answer:x?}\n    independent: {right:x?}"));
+        if let Some(why) = library::wrong(&mut self.server, function, call) {
+            stop(&format!("{}: {call:x?}\n    {why}", FUNCTIONS[function as usize].name));
         }
-        if let Some(why) = laws::broken(function, call, &answer) {
-            stop(&format!("{name}: {call:x?}: {why}"));
-        }
-        if let Some(back) = laws::back(function, call, &answer) {
-            let again = self.ask(back.function, &back.call);
-            if !back.agrees(&again) {
-                stop(&format!("{name}: {call:x?}: it does not come back: {again:x?}"));
-            }
-        }
-        let met = std::fs::metadata(MET).map_or(0, |file| file.len());
+        let met = library::met();
         if met > self.met {
             self.met = met;
             // SAFETY: one thread runs the inputs, and libFuzzer looks between two of them only.
@@ -148,7 +129,7 @@ pub extern "C" fn LLVMFuzzerTestOneInput(data: *const u8, size: usize) -> i32 {
     let data = if size == 0 { &[] } else { unsafe { std::slice::from_raw_parts(data, size) } };
     let (function, call) = taken(data);
     STATE.with_borrow_mut(|state| {
-        let state = state.get_or_insert_with(|| State { server: Server::start(&SERVER.map(String::from)), met: 0, news: 0 });
+        let state = state.get_or_insert_with(|| State { server: library::start(), met: 0, news: 0 });
         state.compare(function, &call);
     });
     0

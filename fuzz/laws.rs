@@ -8,6 +8,13 @@ fn is_time(function: u32) -> bool {
     matches!(function, 0 | 2 | 5 | 6 | 12 | 14 | 16 | 28)
 }
 
+/// A scale, a day and a microsecond.
+fn spans(time: &[u64]) -> bool {
+    let first = if time[0] == 2 { -7300 } else { -10227 };
+    let bound = if time[0] == 1 { 86_401_000_000 } else { 86_400_000_000 };
+    (first..=36524).contains(&(time[1] as i64)) && time[2] < bound
+}
+
 /// What is wrong with the form of an answer.
 pub fn broken(function: u32, call: &Call, answer: &Answer) -> Option<&'static str> {
     let (number, values) = (answer.words[0], &answer.words[1..]);
@@ -25,7 +32,7 @@ pub fn broken(function: u32, call: &Call, answer: &Answer) -> Option<&'static st
         let empty = values[usize::from(is_time(function))..].iter().all(|&value| value == 0);
         return if answer.lent != call.lent { Some("a refusal that writes") } else { (!empty).then_some("a refusal with a value") };
     }
-    if is_time(function) && !((-10227..=36524).contains(&(values[1] as i64)) && values[2] < 86_401_000_000) {
+    if is_time(function) && !spans(values) {
         return Some("a time outside its span");
     }
     let image = SHAPES[function as usize].image?;

@@ -19,6 +19,7 @@ mod damage;
 mod desk;
 mod kept;
 mod laws;
+mod library;
 mod shape;
 
 use compare::{calls, server};
@@ -29,10 +30,6 @@ use std::process::exit;
 use std::sync::Mutex;
 use std::time::{Duration, Instant};
 
-/// The emulator tells here each piece of code that it meets for the first time.
-const MET: &str = "target/fuzz/met";
-const SERVER: [&str; 5] =
-    ["env", "QEMU_LOG=in_asm", "QEMU_LOG_FILENAME=target/fuzz/met", "tools/x86-64", "target/fuzz/serve"];
 const DESK: [&str; 2] = ["tools/x86-64", "target/bin/desk"];
 const BATCH: usize = 250;
 /// Calls that met new code, of each function.
@@ -73,10 +70,6 @@ fn stop(why: &str) -> ! {
     exit(2)
 }
 
-fn server() -> server::Server {
-    server::Server::start(&SERVER.map(String::from))
-}
-
 #[derive(Default)]
 struct Tally {
     calls: usize,
@@ -105,7 +98,7 @@ impl Fuzz {
         let [first, laws] = ["first", "laws"].map(|word| words.contains(&word));
         let none = || FUNCTIONS.iter().map(|_| Vec::new()).collect();
         let tallies = FUNCTIONS.iter().map(|_| Tally::default()).collect();
-        let (folder, server, began) = (folder.to_path_buf(), server(), Instant::now());
+        let (folder, server, began) = (folder.to_path_buf(), library::start(), Instant::now());
         Fuzz { folder, seed, first, laws, server, pools: none(), tallies, met: 0, found: 0, desk: (0, 0, 0), began }
     }
 
@@ -158,7 +151,7 @@ impl Fuzz {
                 }
             }
         }
-        let met = std::fs::metadata(MET).map_or(0, |file| file.len());
+        let met = library::met();
         if met > self.met && self.pools[at].len() < POOL {
             self.pools[at].extend(batch);
         }
@@ -205,34 +198,21 @@ impl Fuzz {
 
 /// Each kept call by itself, told before it is asked: the last one told may have ended the server.
 fn replay(file: &str) -> ! {
-    let mut server = server();
+    let mut server = library::start();
     let mut differ = 0;
     for kept in kept::read(file) {
         let wrong = match &kept {
             kept::Kept::Call(function, call) => {
                 print!("{}", kept::told(*function, call));
-                let answer = server.ask(*function, std::slice::from_ref(call)).remove(0);
-                let right = (FUNCTIONS[*function as usize].model)(call);
-                println!("    the library: {answer:x?}\n    independent: {right:x?}");
-                let back = laws::back(*function, call, &answer).map(|back| {
-                    let again = server.ask(back.function, std::slice::from_ref(&back.call)).remove(0);
-                    println!("    called back: {again:x?}");
-                    back.agrees(&again)
-                });
-                answer != right || laws::broken(*function, call, &answer).is_some() || back == Some(false)
+                library::wrong(&mut server, *function, call)
             }
-            kept::Kept::Desk(run) => match desk::differs(&DESK, run, Path::new("target/fuzz")) {
-                Ok(lines) => {
-                    println!("desk: {lines} lines, as the independent program's");
-                    false
-                }
-                Err(why) => {
-                    println!("desk: {why}");
-                    true
-                }
-            },
+            kept::Kept::Desk(run) => {
+                println!("desk, {} bytes", run.input.len());
+                desk::differs(&DESK, run, Path::new("target/fuzz")).err()
+            }
         };
-        differ += usize::from(wrong);
+        differ += usize::from(wrong.is_some());
+        println!("    {}", wrong.as_deref().unwrap_or("nothing is wrong"));
     }
     println!("{differ} differ");
     exit(i32::from(differ > 0))
