@@ -248,6 +248,11 @@ static int counted(int r, size_t steps, int c, size_t made, size_t calls) {
     return 0;
 }
 
+/* Moves all code by so many bytes: the same code takes another time at another place. */
+#define TOLD(n) #n
+#define SPACE(n) __asm__(".text\n.space " TOLD(n))
+SPACE(GAP);
+
 int main(int count, char **words) {
     if (count == 3 && strcmp(words[1], "time") == 0) return all(atoi(words[2]));
     if (count != 7 || strcmp(words[1], "count") != 0) return 2;

@@ -2,7 +2,7 @@
 """Measures every function of the library beside the same work in plain C and, where they are installed, ERFA and Howard Hinnant's
 date library; then desk, the program of text lines. It builds what it needs.
 
-    bench/run.py [REPEATS]     60 unless said otherwise; the best time counts"""
+    bench/run.py [REPEATS]     15 unless said otherwise, at each of four places of the code; the best time counts"""
 
 import os
 import re
@@ -17,7 +17,8 @@ from programs import EMULATED, LEVEL, PLACE, ROOM, ROOT, RUN, call, can_count, c
 ARCHIVE = os.path.join(ROOT, "target/dist/lib/libvrikshonem.a")
 PARTS = ["plain", "inputs_times", "inputs_uses", "inputs_bytes"]
 COUNTED = 256  # calls whose instructions are counted
-REPEATS = 60
+REPEATS = 15
+GAPS = [0, 1072, 2144, 3216]  # each moves all code by a quarter of a page, and a little
 SAME = ["desk", "plain"]
 LESS = {
     "listed": "plain C, does less: the list was accepted before the call, 5 is never given",
@@ -26,8 +27,8 @@ LESS = {
 }
 
 
-def compiled(name, flags=""):
-    compile_c("-c", os.path.join(ROOM, name), f"bench/{name}.c", flags=flags)
+def compiled(name):
+    compile_c("-c", os.path.join(ROOM, name), f"bench/{name}.c")
     return os.path.join(ROOM, name + ".o")
 
 
@@ -46,8 +47,22 @@ def other(name, compiler, source, links):
     return None, "not installed" if missing else "not compiled: " + done.stderr.strip().splitlines()[0]
 
 
+def linked(gap, flags, objects, shared):
+    """The words that run the program with this gap."""
+    name, flags = f"calls-{gap}", f"-DGAP={gap} {flags}"
+    program = os.path.join(ROOM, name)
+    if not shared:
+        compile_c(program, "bench/calls.c", *objects, ARCHIVE, flags=flags)
+        return [RUN, program]
+    # These bring the machine's own C library with them, so that one is linked and run for all.
+    compile_c("-c", program, "bench/calls.c", flags=flags)
+    linker = "g++" if shutil.which("g++") else "gcc"
+    call(linker, "-o", program, program + ".o", *objects, ARCHIVE, *shared, "-Wl,-rpath," + ROOM)
+    return [program]
+
+
 def build():
-    """The words that run the program, and the contenders that are not there."""
+    """For each gap the words that run the program, and the contenders that are not there."""
     os.makedirs(ROOM, exist_ok=True)
     call("tools/build", stdout=subprocess.DEVNULL)
     objects = [compiled(part) for part in PARTS]
@@ -62,33 +77,26 @@ def build():
             shared.append(path)
         else:
             absent[name] = why
-    program = os.path.join(ROOM, "calls")
-    if not shared:
-        compile_c(program, "bench/calls.c", *objects, ARCHIVE)
-        return [RUN, program], absent
-    # These bring the machine's own C library with them, so that one is linked and run for all.
-    objects.append(compiled("calls", " ".join(flags)))
-    call("g++" if shutil.which("g++") else "gcc", "-o", program, *objects, ARCHIVE, *shared, "-Wl,-rpath," + ROOM)
-    return [program], absent
+    return [linked(gap, " ".join(flags), objects, shared) for gap in GAPS], absent
 
 
-def measured(words, repeats):
-    """The rows in their order, each with its steps, refusals and nanoseconds."""
+def measure(words, repeats, rows):
+    """Puts into the rows, in their order, steps and refusals, and nanoseconds where they are the best so far."""
     done = subprocess.run([*words, "time", str(repeats)], cwd=ROOT, stdout=subprocess.PIPE, text=True)
     if done.returncode != 0:
         last = (done.stdout.strip().splitlines() or ["nothing"])[-1]
         sys.exit(f"bench/run.py: the program ended with status {done.returncode}, and said last: {last}")
-    rows = {}
     for line in done.stdout.splitlines():
         kind, row, *rest = line.split("|")
         if kind == "compared":
             name, steps, inputs, refused, numbers = rest
             seen = [n for n in range(1, 14) if int(numbers) >> n & 1]
-            rows[row, steps] = {"name": name, "inputs": int(inputs), "refused": int(refused), "numbers": seen, "ns": {}}
+            told = {"name": name, "inputs": int(inputs), "refused": int(refused), "numbers": seen, "ns": {}}
+            rows.setdefault((row, steps), told)
         else:
             steps, who, nanos = rest
-            rows[row, steps]["ns"][who] = float(nanos)
-    return rows
+            best = rows[row, steps]["ns"]
+            best[who] = min(float(nanos), best.get(who, float(nanos)))
 
 
 def without_row(rows):
@@ -170,15 +178,17 @@ def show_growth(rows):
 
 def main():
     (repeats,) = wanted([REPEATS], __doc__)
-    words, absent = build()
-    rows = measured(words, repeats)
+    programs, absent = build()
+    rows = {}
+    for words in programs:
+        measure(words, repeats, rows)
     if missing := without_row(rows):
         sys.exit("bench/run.py: no row for " + ", ".join(missing))
     if can_count():
-        count_instructions(words, rows)
+        count_instructions(programs[0], rows)
     inputs = max(told["inputs"] for told in rows.values())
     print(f"Each function, {PLACE}.")
-    print(f"{inputs} inputs a row; all answers of all contenders compared, and equal; best of {repeats}, in turn.")
+    print(f"{inputs} inputs a row; all answers of all contenders compared, and equal; best of {len(GAPS)} x {repeats}, in turn.")
     print("A call's loop is in every figure; the row 'nothing' is the loop with a function that does nothing.\n")
     show_all(rows)
     print("Contenders that do less, over the same inputs; they are held to the answers, not to the refusals:\n")
