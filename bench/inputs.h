@@ -5,7 +5,7 @@
 #include "calls.h"
 #include "plain_dates.h"
 
-enum { BAD_TIMES = 9, BAD_LISTS = 10 };
+enum { BAD_TIMES = 9, BAD_LISTS = 11 };
 
 uint64_t below(uint64_t n);
 

@@ -51,7 +51,7 @@ vrk_handed bad_time(size_t which) {
 
 /* ---- leap lists */
 
-static int64_t yearly_days[MOST + 1], wrong_days[3][PUBLISHED];
+static int64_t yearly_days[MOST + 1], wrong_days[4][PUBLISHED];
 static uint64_t offsets[MOST + 1], wrong_offsets[2][PUBLISHED];
 static struct leap_list good, bad[BAD_LISTS];
 
@@ -75,19 +75,19 @@ const struct leap_list *bad_list(size_t which) {
     enum { END = PUBLISHED - 1, MIDDLE = PUBLISHED / 2 };
     for (size_t k = 0; k < BAD_LISTS; k++) bad[k] = *listed(0);
     for (size_t k = 0; k < PUBLISHED; k++) {
-        wrong_days[0][k] = wrong_days[1][k] = wrong_days[2][k] = published_days[k];
+        for (size_t n = 0; n < 4; n++) wrong_days[n][k] = published_days[k];
         wrong_offsets[0][k] = offsets[k], wrong_offsets[1][k] = offsets[k] + 1;
     }
-    wrong_days[0][END]++;                                /* no first of a month */
-    wrong_days[1][MIDDLE] = published_days[MIDDLE - 1];  /* days that do not rise */
-    wrong_days[2][0] = FIRST_DAY + 31;                   /* another first step */
+    wrong_days[0][END]++, wrong_days[1][MIDDLE]--;       /* no firsts of a month */
+    wrong_days[2][MIDDLE] = published_days[MIDDLE - 1];  /* days that do not rise */
+    wrong_days[3][0] = FIRST_DAY + 31;                   /* another first step */
     wrong_offsets[0][END]++;                             /* an offset that does not count up */
-    for (size_t k = 0; k < 3; k++) bad[k].days = wrong_days[k];
-    for (size_t k = 0; k < 2; k++) bad[3 + k].offsets = wrong_offsets[k];
-    bad[5].last = published_days[END] - 2;
-    bad[6].last = LAST_DAY + 1;
-    bad[7].offset_count--;
-    bad[8] = (struct leap_list){0, 0, 0, 0, LISTED};
-    bad[9] = (struct leap_list){yearly_days, offsets, MOST + 1, MOST + 1, LAST_DAY};
+    for (size_t k = 0; k < 4; k++) bad[k].days = wrong_days[k];
+    for (size_t k = 0; k < 2; k++) bad[4 + k].offsets = wrong_offsets[k];
+    bad[6].last = published_days[END] - 2;
+    bad[7].last = LAST_DAY + 1;
+    bad[8].offset_count--;
+    bad[9] = (struct leap_list){0, 0, 0, 0, LISTED};
+    bad[10] = (struct leap_list){yearly_days, offsets, MOST + 1, MOST + 1, LAST_DAY};
     return &bad[which % BAD_LISTS];
 }
