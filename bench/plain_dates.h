@@ -28,7 +28,10 @@ struct date { unsigned year, month, day; };
 
 static inline int is_leap(unsigned year) { return year % 4 == 0 && (year % 100 != 0 || year % 400 == 0); }
 
-static inline int is_date(struct date d) {
+/* By itself the compiler would call it, and the reading of a text would be slower. */
+#define INLINED __attribute__((always_inline)) static inline
+
+INLINED int is_date(struct date d) {
     if (d.month == 0 || d.day == 0) return 0;
     return d.day <= (unsigned)(before[d.month] - before[d.month - 1]) + (d.month == 2 && is_leap(d.year));
 }

@@ -21,7 +21,7 @@ static inline void put_two(uint8_t *out, unsigned n) {
 #define LETTERS(a, b, c) ((unsigned)(a) << 16 | (unsigned)(b) << 8 | (unsigned)(c))
 
 /* 1 to 12, or 0. */
-static inline unsigned month_of(const uint8_t *s) {
+INLINED unsigned month_of(const uint8_t *s) {
     switch (LETTERS(s[0], s[1], s[2])) {
     case LETTERS('J', 'A', 'N'): return 1;
     case LETTERS('F', 'E', 'B'): return 2;
