@@ -9,7 +9,7 @@ use lib.Ieee.{Float, nan, inf, fin, binary64, fits, neg, div, ofInt}
 use lib.Ieee.Fits.{eq→eqb}
 use Rattle.evidence.specs.ShutOut.{ShutOut, differ}
 use Rattle.axis.specs.Meaning.{placeOfDay, floorZ, modZ}
-use Rattle.scales.specs.Meaning.{inSpan, given, gives, outcome, Slip, dated, timeCount, timeAt, recordOf}
+use Rattle.scales.specs.Meaning.{inSpan, given, gives, outcome, Slip, dated, timeCount, timeAt, recordOf, codeOf}
 use Rattle.scales.specs.declared.Scale.{Scale}
 use Rattle.scales.specs.declared.Scale.the-variants as S
 use Rattle.scales.specs.declared.Refusal.the-variants as R
@@ -68,12 +68,7 @@ read-rounded-first = (refl, refl, byNumber (λ e. omega arith))
 -- the empty record always of TAI
 pub read-empty-tai : ShutOut (readOf (inf false) S.Gps) (empty 4 S.Gps) (desk spans microsOf (inf false) S.Tai) (empty 4 S.Tai)
 unfolding readOf
-read-empty-tai = (refl, refl, differ (λ (t : Slip). code (t .scale)) (λ e. omega arith))
-  where
-    code : Scale → ℕ
-    code S.Tai = 0
-    code S.Utc = 1
-    code S.Gps = 2
+read-empty-tai = (refl, refl, differ (λ (t : Slip). codeOf (t .scale)) (λ e. omega arith))
 
 -- 7 for what is no number
 abbrev sevenForAll : Float → Scale → Slip

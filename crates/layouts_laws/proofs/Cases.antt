@@ -6,7 +6,7 @@ use native.Mathlib.Omega.{arith}
 use lib.Dec.{lit<}
 use lib.IntN.{pos, negsuc}
 use Rattle.octets.specs.Meaning.{number, field}
-use Rattle.scales.specs.Meaning.{refused, answer, dated, recordOf}
+use Rattle.scales.specs.Meaning.{recordOf}
 use Rattle.scales.specs.declared.Scale.the-variants as S
 use Rattle.scales.specs.declared.Handed.the-variants as H
 use Rattle.fields.specs.Obet as FO
@@ -14,15 +14,16 @@ use Rattle.layouts.specs.Meaning.{rounding, fractionMicros, fractionAt}
 use Rattle.layouts.specs.Fraction.{last-is}
 use Rattle.layouts.specs.Cuc as Cuc
 use Rattle.layouts.specs.Siral as Siral
+use Rattle.ground_laws.proofs.Desks.{answered, empty}
 
 -- ---- the carry passes midnight: day 0, 86,399,999 ms, 999 us and one unit
-pub carry : Siral.read (0 ∷ 0 ∷ 5 ∷ 38 ∷ 91 ∷ 255 ∷ 3 ∷ 231 ∷ 0 ∷ 1 ∷ []) ≡ dated S.Tai (answer (record { day = pos 1; micro = 1 }))
+pub carry : Siral.read (0 ∷ 0 ∷ 5 ∷ 38 ∷ 91 ∷ 255 ∷ 3 ∷ 231 ∷ 0 ∷ 1 ∷ []) ≡ answered S.Tai (pos 1) 1
 unfolding Siral.read number
 carry = refl
 
 -- 7 is judged with the carry: the last day of the span, and the same with one unit more
-pub carry-out : (Siral.read (142 ∷ 172 ∷ 5 ∷ 38 ∷ 91 ∷ 255 ∷ 3 ∷ 231 ∷ 0 ∷ 0 ∷ []) ≡ dated S.Tai (answer (record { day = pos 36524; micro = 86399999999 })))
-    × (Siral.read (142 ∷ 172 ∷ 5 ∷ 38 ∷ 91 ∷ 255 ∷ 3 ∷ 231 ∷ 0 ∷ 1 ∷ []) ≡ dated S.Tai (refused 7))
+pub carry-out : (Siral.read (142 ∷ 172 ∷ 5 ∷ 38 ∷ 91 ∷ 255 ∷ 3 ∷ 231 ∷ 0 ∷ 0 ∷ []) ≡ answered S.Tai (pos 36524) 86399999999)
+    × (Siral.read (142 ∷ 172 ∷ 5 ∷ 38 ∷ 91 ∷ 255 ∷ 3 ∷ 231 ∷ 0 ∷ 1 ∷ []) ≡ empty 7 S.Tai)
 unfolding Siral.read number
 carry-out = (refl, refl)
 

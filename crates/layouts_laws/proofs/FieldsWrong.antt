@@ -1,7 +1,7 @@
 -- Wrong readers and writers of fields, each shut out by an input at which its answer is not the meaning's. Assumes nothing.
 use mathlib.Core.Path.{refl}
 use mathlib.Core.Bool.{true, false}
-use mathlib.Core.List.{List, [], _∷_, _++_, reverse}
+use mathlib.Core.List.{List, [], _∷_, reverse}
 use Prim.Native.Nat.{ℕ, _+_, _*_, _%_, _^_}
 use native.Mathlib.Omega.{arith}
 use lib.Dec.{leb, eqb}
@@ -22,15 +22,12 @@ use Rattle.fields.specs.declared.cuc.Fields as C
 use Rattle.fields.specs.declared.proteus.Fields as P
 use Rattle.fields.specs.declared.cryosat.Fields as Y
 use Rattle.fields.specs.declared.siral.Fields as R
-use Rattle.ground_laws.proofs.Desks.{got, keeps, bytesAt, madeUp, clearing, scribbling}
+use Rattle.ground_laws.proofs.Desks.{got, keeps, bytesAt, madeUp, clearing, scribbling, sevens}
 
 -- ---- wrong in any layout
 -- a little-endian field
 abbrev little : List ℕ → ℕ → ℕ → ℕ
 little s from n = number (reverse (take n (drop from s)))
-
-abbrev short : List ℕ
-short = 7 ∷ 7 ∷ 7 ∷ []
 
 -- ---- CUC
 abbrev cucLittle : List ℕ → Valued C.Fields
@@ -53,12 +50,12 @@ cuc-any-length = (refl, refl, differ (λ (v : Valued C.Fields). v .number) (λ e
 abbrev cucFields : C.Fields
 cucFields = record { seconds = 1; fraction = 2 }
 
-pub cuc-clearing : ShutOut (Cuc.write cucFields (7 ∷ 7 ∷ 7 ∷ 7 ∷ 7 ∷ 7 ∷ 7 ∷ [])) (got 6 (0 ∷ 0 ∷ 0 ∷ 1 ∷ 0 ∷ 2 ∷ 7 ∷ []))
-    (clearing (7 ∷ 7 ∷ 7 ∷ 7 ∷ 7 ∷ 7 ∷ 7 ∷ []) (Cuc.write cucFields (7 ∷ 7 ∷ 7 ∷ 7 ∷ 7 ∷ 7 ∷ 7 ∷ []))) (got 6 (0 ∷ 0 ∷ 0 ∷ 1 ∷ 0 ∷ 2 ∷ 0 ∷ []))
+pub cuc-clearing : ShutOut (Cuc.write cucFields (sevens 7)) (got 6 (0 ∷ 0 ∷ 0 ∷ 1 ∷ 0 ∷ 2 ∷ 7 ∷ []))
+    (clearing (sevens 7) (Cuc.write cucFields (sevens 7))) (got 6 (0 ∷ 0 ∷ 0 ∷ 1 ∷ 0 ∷ 2 ∷ 0 ∷ []))
 unfolding Cuc.write field
 cuc-clearing = (refl, refl, differ (bytesAt 6) (λ e. omega arith))
 
-pub cuc-scribbling : ShutOut (Cuc.write cucFields short) (keeps 13 short) (scribbling (Cuc.write cucFields short)) (keeps 13 (0 ∷ 7 ∷ 7 ∷ []))
+pub cuc-scribbling : ShutOut (Cuc.write cucFields (sevens 3)) (keeps 13 (sevens 3)) (scribbling (Cuc.write cucFields (sevens 3))) (keeps 13 (0 ∷ 7 ∷ 7 ∷ []))
 unfolding Cuc.write field
 cuc-scribbling = (refl, refl, differ (bytesAt 0) (λ e. omega arith))
 
@@ -82,13 +79,13 @@ goce-any-length = (refl, refl, differ (λ (v : Valued ℕ). v .number) (λ e. om
 abbrev goceCut : ℕ → List ℕ → Wrote
 goceCut n out = written out (outcome (placing (field 6 n) out))
 
-pub goce-cut : ShutOut (Goce.write (2 ^ 48) (7 ∷ 7 ∷ 7 ∷ 7 ∷ 7 ∷ 7 ∷ [])) (keeps 3 (7 ∷ 7 ∷ 7 ∷ 7 ∷ 7 ∷ 7 ∷ []))
-    (goceCut (2 ^ 48) (7 ∷ 7 ∷ 7 ∷ 7 ∷ 7 ∷ 7 ∷ [])) (got 6 (0 ∷ 0 ∷ 0 ∷ 0 ∷ 0 ∷ 0 ∷ []))
+pub goce-cut : ShutOut (Goce.write (2 ^ 48) (sevens 6)) (keeps 3 (sevens 6))
+    (goceCut (2 ^ 48) (sevens 6)) (got 6 (0 ∷ 0 ∷ 0 ∷ 0 ∷ 0 ∷ 0 ∷ []))
 unfolding Goce.write field
 goce-cut = (refl, refl, differ (bytesAt 0) (λ e. omega arith))
 
-pub goce-made-up : ShutOut (Goce.write 1 (7 ∷ 7 ∷ 7 ∷ 7 ∷ 7 ∷ 7 ∷ [])) (got 6 (0 ∷ 0 ∷ 0 ∷ 0 ∷ 0 ∷ 1 ∷ []))
-    (madeUp (Goce.write 1 (7 ∷ 7 ∷ 7 ∷ 7 ∷ 7 ∷ 7 ∷ []))) (got 8 (0 ∷ 0 ∷ 0 ∷ 0 ∷ 0 ∷ 1 ∷ []))
+pub goce-made-up : ShutOut (Goce.write 1 (sevens 6)) (got 6 (0 ∷ 0 ∷ 0 ∷ 0 ∷ 0 ∷ 1 ∷ []))
+    (madeUp (Goce.write 1 (sevens 6))) (got 8 (0 ∷ 0 ∷ 0 ∷ 0 ∷ 0 ∷ 1 ∷ []))
 unfolding Goce.write field
 goce-made-up = (refl, refl, differ (λ (w : Wrote). w .length) (λ e. omega arith))
 
@@ -111,18 +108,15 @@ pub obet-width-code : ShutOut (Obet.read (102 ∷ 0 ∷ 0 ∷ 0 ∷ 1 ∷ 0 ∷ 
 unfolding Obet.read number
 obet-width-code = (refl, refl, differ (λ (v : Valued ℕ). v .value) (λ e. omega arith))
 
-abbrev eight : List ℕ
-eight = 7 ∷ 7 ∷ 7 ∷ 7 ∷ 7 ∷ 7 ∷ 7 ∷ 7 ∷ []
-
 -- written without the marker
 abbrev obetNoMarker : ℕ → List ℕ → Wrote
 obetNoMarker n out = written out (outcome (placing (field 8 n) out))
 
-pub obet-no-marker : ShutOut (Obet.write 1 eight) (got 8 (102 ∷ 0 ∷ 0 ∷ 0 ∷ 0 ∷ 0 ∷ 0 ∷ 1 ∷ [])) (obetNoMarker 1 eight) (got 8 (0 ∷ 0 ∷ 0 ∷ 0 ∷ 0 ∷ 0 ∷ 0 ∷ 1 ∷ []))
+pub obet-no-marker : ShutOut (Obet.write 1 (sevens 8)) (got 8 (102 ∷ 0 ∷ 0 ∷ 0 ∷ 0 ∷ 0 ∷ 0 ∷ 1 ∷ [])) (obetNoMarker 1 (sevens 8)) (got 8 (0 ∷ 0 ∷ 0 ∷ 0 ∷ 0 ∷ 0 ∷ 0 ∷ 1 ∷ []))
 unfolding Obet.write field
 obet-no-marker = (refl, refl, differ (bytesAt 0) (λ e. omega arith))
 
-pub obet-scribbling : ShutOut (Obet.write (2 ^ 56) short) (keeps 3 short) (scribbling (Obet.write (2 ^ 56) short)) (keeps 3 (0 ∷ 7 ∷ 7 ∷ []))
+pub obet-scribbling : ShutOut (Obet.write (2 ^ 56) (sevens 3)) (keeps 3 (sevens 3)) (scribbling (Obet.write (2 ^ 56) (sevens 3))) (keeps 3 (0 ∷ 7 ∷ 7 ∷ []))
 unfolding Obet.write field
 obet-scribbling = (refl, refl, differ (bytesAt 0) (λ e. omega arith))
 
@@ -151,8 +145,8 @@ proteus-late = (refl, refl, differ (λ (v : Valued P.Fields). v .number) (λ e. 
 abbrev proteusCut : P.Fields → List ℕ → Wrote
 proteusCut f out = Proteus.write (record { week = f .week % 4096; h3 = f .h3; second = f .second; fraction = f .fraction }) out
 
-pub proteus-cut : ShutOut (Proteus.write (record { week = 4097; h3 = false; second = 2; fraction = 3 }) eight) (keeps 3 eight)
-    (proteusCut (record { week = 4097; h3 = false; second = 2; fraction = 3 }) eight) (got 8 (0 ∷ 16 ∷ 0 ∷ 0 ∷ 0 ∷ 2 ∷ 0 ∷ 3 ∷ []))
+pub proteus-cut : ShutOut (Proteus.write (record { week = 4097; h3 = false; second = 2; fraction = 3 }) (sevens 8)) (keeps 3 (sevens 8))
+    (proteusCut (record { week = 4097; h3 = false; second = 2; fraction = 3 }) (sevens 8)) (got 8 (0 ∷ 16 ∷ 0 ∷ 0 ∷ 0 ∷ 2 ∷ 0 ∷ 3 ∷ []))
 unfolding Proteus.write field
 proteus-cut = (refl, refl, differ (bytesAt 0) (λ e. omega arith))
 
@@ -160,8 +154,8 @@ proteus-cut = (refl, refl, differ (bytesAt 0) (λ e. omega arith))
 abbrev proteusNoH3 : P.Fields → List ℕ → Wrote
 proteusNoH3 f out = Proteus.write (record { week = f .week; h3 = false; second = f .second; fraction = f .fraction }) out
 
-pub proteus-no-h3 : ShutOut (Proteus.write (record { week = 1; h3 = true; second = 2; fraction = 3 }) eight) (got 8 (0 ∷ 17 ∷ 0 ∷ 0 ∷ 0 ∷ 2 ∷ 0 ∷ 3 ∷ []))
-    (proteusNoH3 (record { week = 1; h3 = true; second = 2; fraction = 3 }) eight) (got 8 (0 ∷ 16 ∷ 0 ∷ 0 ∷ 0 ∷ 2 ∷ 0 ∷ 3 ∷ []))
+pub proteus-no-h3 : ShutOut (Proteus.write (record { week = 1; h3 = true; second = 2; fraction = 3 }) (sevens 8)) (got 8 (0 ∷ 17 ∷ 0 ∷ 0 ∷ 0 ∷ 2 ∷ 0 ∷ 3 ∷ []))
+    (proteusNoH3 (record { week = 1; h3 = true; second = 2; fraction = 3 }) (sevens 8)) (got 8 (0 ∷ 16 ∷ 0 ∷ 0 ∷ 0 ∷ 2 ∷ 0 ∷ 3 ∷ []))
 unfolding Proteus.write field
 proteus-no-h3 = (refl, refl, differ (bytesAt 1) (λ e. omega arith))
 
@@ -187,13 +181,13 @@ cryosat-hands-back = (refl, refl, differ (λ (v : Valued Y.Fields). v .value .da
 abbrev cryosatFields : Y.Fields
 cryosatFields = record { day = 1; millisecond = 2; microsecond = 3 }
 
-pub cryosat-clearing : ShutOut (Cryosat.write cryosatFields (eight ++ short)) (got 8 ((0 ∷ 1 ∷ 0 ∷ 0 ∷ 0 ∷ 2 ∷ 0 ∷ 3 ∷ []) ++ short))
-    (clearing (eight ++ short) (Cryosat.write cryosatFields (eight ++ short))) (got 8 (0 ∷ 1 ∷ 0 ∷ 0 ∷ 0 ∷ 2 ∷ 0 ∷ 3 ∷ 0 ∷ 0 ∷ 0 ∷ []))
+pub cryosat-clearing : ShutOut (Cryosat.write cryosatFields (sevens 11)) (got 8 (0 ∷ 1 ∷ 0 ∷ 0 ∷ 0 ∷ 2 ∷ 0 ∷ 3 ∷ sevens 3))
+    (clearing (sevens 11) (Cryosat.write cryosatFields (sevens 11))) (got 8 (0 ∷ 1 ∷ 0 ∷ 0 ∷ 0 ∷ 2 ∷ 0 ∷ 3 ∷ 0 ∷ 0 ∷ 0 ∷ []))
 unfolding Cryosat.write field
 cryosat-clearing = (refl, refl, differ (bytesAt 8) (λ e. omega arith))
 
-pub cryosat-made-up : ShutOut (Cryosat.write cryosatFields short) (keeps 13 short) (madeUp (Cryosat.write cryosatFields short))
-    (record { number = 13; length = 2; bytes = short })
+pub cryosat-made-up : ShutOut (Cryosat.write cryosatFields (sevens 3)) (keeps 13 (sevens 3)) (madeUp (Cryosat.write cryosatFields (sevens 3)))
+    (record { number = 13; length = 2; bytes = sevens 3 })
 unfolding Cryosat.write field
 cryosat-made-up = (refl, refl, differ (λ (w : Wrote). w .length) (λ e. omega arith))
 
@@ -225,12 +219,12 @@ siralFields = record { day = 1; millisecond = 2; microsecond = 3; extra = 4 }
 abbrev siralZero : R.Fields → List ℕ → Wrote
 siralZero f out = Siral.write (record { day = f .day; millisecond = f .millisecond; microsecond = f .microsecond; extra = 0 }) out
 
-pub siral-zero : ShutOut (Siral.write siralFields (eight ++ short)) (got 10 (0 ∷ 1 ∷ 0 ∷ 0 ∷ 0 ∷ 2 ∷ 0 ∷ 3 ∷ 0 ∷ 4 ∷ 7 ∷ []))
-    (siralZero siralFields (eight ++ short)) (got 10 (0 ∷ 1 ∷ 0 ∷ 0 ∷ 0 ∷ 2 ∷ 0 ∷ 3 ∷ 0 ∷ 0 ∷ 7 ∷ []))
+pub siral-zero : ShutOut (Siral.write siralFields (sevens 11)) (got 10 (0 ∷ 1 ∷ 0 ∷ 0 ∷ 0 ∷ 2 ∷ 0 ∷ 3 ∷ 0 ∷ 4 ∷ 7 ∷ []))
+    (siralZero siralFields (sevens 11)) (got 10 (0 ∷ 1 ∷ 0 ∷ 0 ∷ 0 ∷ 2 ∷ 0 ∷ 3 ∷ 0 ∷ 0 ∷ 7 ∷ []))
 unfolding Siral.write field
 siral-zero = (refl, refl, differ (bytesAt 9) (λ e. omega arith))
 
-pub siral-scribbling : ShutOut (Siral.write siralFields eight) (keeps 13 eight) (scribbling (Siral.write siralFields eight)) (keeps 13 (0 ∷ 7 ∷ 7 ∷ 7 ∷ 7 ∷ 7 ∷ 7 ∷ 7 ∷ []))
+pub siral-scribbling : ShutOut (Siral.write siralFields (sevens 8)) (keeps 13 (sevens 8)) (scribbling (Siral.write siralFields (sevens 8))) (keeps 13 (0 ∷ 7 ∷ 7 ∷ 7 ∷ 7 ∷ 7 ∷ 7 ∷ 7 ∷ []))
 unfolding Siral.write field
 siral-scribbling = (refl, refl, differ (bytesAt 0) (λ e. omega arith))
 
@@ -251,11 +245,11 @@ pub sbt-longer : ShutOut (Sbt.read (0 ∷ 0 ∷ 0 ∷ 1 ∷ 9 ∷ [])) (record {
 unfolding Sbt.read number
 sbt-longer = (refl, refl, differ (λ (v : Valued Tick). v .number) (λ e. omega arith))
 
-pub sbt-clearing : ShutOut (Sbt.write (record { 0 = 1 }) (7 ∷ 7 ∷ 7 ∷ 7 ∷ 7 ∷ [])) (got 4 (0 ∷ 0 ∷ 0 ∷ 1 ∷ 7 ∷ []))
-    (clearing (7 ∷ 7 ∷ 7 ∷ 7 ∷ 7 ∷ []) (Sbt.write (record { 0 = 1 }) (7 ∷ 7 ∷ 7 ∷ 7 ∷ 7 ∷ []))) (got 4 (0 ∷ 0 ∷ 0 ∷ 1 ∷ 0 ∷ []))
+pub sbt-clearing : ShutOut (Sbt.write (record { 0 = 1 }) (sevens 5)) (got 4 (0 ∷ 0 ∷ 0 ∷ 1 ∷ 7 ∷ []))
+    (clearing (sevens 5) (Sbt.write (record { 0 = 1 }) (sevens 5))) (got 4 (0 ∷ 0 ∷ 0 ∷ 1 ∷ 0 ∷ []))
 unfolding Sbt.write field
 sbt-clearing = (refl, refl, differ (bytesAt 4) (λ e. omega arith))
 
-pub sbt-scribbling : ShutOut (Sbt.write (record { 0 = 1 }) short) (keeps 13 short) (scribbling (Sbt.write (record { 0 = 1 }) short)) (keeps 13 (0 ∷ 7 ∷ 7 ∷ []))
+pub sbt-scribbling : ShutOut (Sbt.write (record { 0 = 1 }) (sevens 3)) (keeps 13 (sevens 3)) (scribbling (Sbt.write (record { 0 = 1 }) (sevens 3))) (keeps 13 (0 ∷ 7 ∷ 7 ∷ []))
 unfolding Sbt.write field
 sbt-scribbling = (refl, refl, differ (bytesAt 0) (λ e. omega arith))

@@ -1,7 +1,7 @@
 -- Wrong readers and writers of times, each shut out by an input at which its answer is not the meaning's. Assumes nothing.
 use mathlib.Core.Path.{refl}
 use mathlib.Core.Bool.{Bool, true, false}
-use mathlib.Core.List.{List, [], _∷_, _++_}
+use mathlib.Core.List.{List, [], _∷_}
 use Prim.Native.Nat.{ℕ, _+_, _-_, _*_, _/_, _%_}
 use native.Mathlib.Omega.{arith}
 use lib.IntN.{ℤ, pos, negsuc, natAbs}
@@ -25,15 +25,9 @@ use Rattle.layouts.specs.Cuc as Cuc
 use Rattle.layouts.specs.Proteus as Proteus
 use Rattle.layouts.specs.Cryosat as Cryosat
 use Rattle.layouts.specs.Siral as Siral
-use Rattle.ground_laws.proofs.Desks.{got, keeps, bytesAt, writesNothing, madeUp, clearing, scribbling}
+use Rattle.ground_laws.proofs.Desks.{got, keeps, bytesAt, writesNothing, madeUp, clearing, scribbling, answered, empty, byNumber, byMicro, sevens}
 
-abbrev numberIn : Slip → ℕ
-numberIn t = t .number
-
-abbrev microIn : Slip → ℕ
-microIn t = t .micro
-
--- a handed record, and room for an image and three bytes more
+-- a handed record
 abbrev utc : ℤ → ℕ → Handed
 utc d u = H.Record (recordOf S.Utc d u)
 
@@ -43,31 +37,25 @@ gps d u = H.Record (recordOf S.Gps d u)
 abbrev tai : ℤ → ℕ → Handed
 tai d u = H.Record (recordOf S.Tai d u)
 
-abbrev eight : List ℕ
-eight = 7 ∷ 7 ∷ 7 ∷ 7 ∷ 7 ∷ 7 ∷ 7 ∷ 7 ∷ []
-
-abbrev eleven : List ℕ
-eleven = eight ++ (7 ∷ 7 ∷ 7 ∷ [])
-
 -- ---- CUC read
 -- the fraction rounded to the nearest microsecond
 abbrev cucNearest : List ℕ → Slip
 cucNearest s = dated S.Gps
     (outcome (andThen (FC.reading s) (λ (f : C.Fields). judged S.Gps (momentFrom Cuc.epoch (f .seconds * 1000000 + standsFor nearest 16 (f .fraction))))))
 
-pub cuc-nearest : ShutOut (Cuc.read (0 ∷ 0 ∷ 0 ∷ 0 ∷ 255 ∷ 255 ∷ [])) (dated S.Gps (answer (record { day = negsuc 7299; micro = 999984 })))
-    (cucNearest (0 ∷ 0 ∷ 0 ∷ 0 ∷ 255 ∷ 255 ∷ [])) (dated S.Gps (answer (record { day = negsuc 7299; micro = 999985 })))
+pub cuc-nearest : ShutOut (Cuc.read (0 ∷ 0 ∷ 0 ∷ 0 ∷ 255 ∷ 255 ∷ [])) (answered S.Gps (negsuc 7299) 999984)
+    (cucNearest (0 ∷ 0 ∷ 0 ∷ 0 ∷ 255 ∷ 255 ∷ [])) (answered S.Gps (negsuc 7299) 999985)
 unfolding Cuc.read number
-cuc-nearest = (refl, refl, differ microIn (λ e. omega arith))
+cuc-nearest = (refl, refl, byMicro (λ e. omega arith))
 
 -- the span not judged
 abbrev cucEndless : List ℕ → Slip
 cucEndless s = dated S.Gps (outcome (andThen (FC.reading s) (λ (f : C.Fields). gives (momentFrom Cuc.epoch (Cuc.microsOf f)))))
 
-pub cuc-endless : ShutOut (Cuc.read (225 ∷ 177 ∷ 25 ∷ 128 ∷ 0 ∷ 0 ∷ [])) (dated S.Gps (refused 7))
-    (cucEndless (225 ∷ 177 ∷ 25 ∷ 128 ∷ 0 ∷ 0 ∷ [])) (dated S.Gps (answer (record { day = pos 36525; micro = 0 })))
+pub cuc-endless : ShutOut (Cuc.read (225 ∷ 177 ∷ 25 ∷ 128 ∷ 0 ∷ 0 ∷ [])) (empty 7 S.Gps)
+    (cucEndless (225 ∷ 177 ∷ 25 ∷ 128 ∷ 0 ∷ 0 ∷ [])) (answered S.Gps (pos 36525) 0)
 unfolding Cuc.read number
-cuc-endless = (refl, refl, differ numberIn (λ e. omega arith))
+cuc-endless = (refl, refl, byNumber (λ e. omega arith))
 
 -- ---- CUC write
 -- the fraction rounded down: 999,984 microseconds as FFFE, which is read as 999,969
@@ -76,8 +64,8 @@ cucDown h out =
     let n = microsFrom Cuc.epoch (dayOf h) (microOf h) in
     written out (outcome (placing (FC.imageOf (record { seconds = n / 1000000; fraction = n % 1000000 * 65536 / 1000000 })) out))
 
-pub cuc-down : ShutOut (Cuc.write (gps (negsuc 7299) 999984) eight) (got 6 (0 ∷ 0 ∷ 0 ∷ 0 ∷ 255 ∷ 255 ∷ 7 ∷ 7 ∷ []))
-    (cucDown (gps (negsuc 7299) 999984) eight) (got 6 (0 ∷ 0 ∷ 0 ∷ 0 ∷ 255 ∷ 254 ∷ 7 ∷ 7 ∷ []))
+pub cuc-down : ShutOut (Cuc.write (gps (negsuc 7299) 999984) (sevens 8)) (got 6 (0 ∷ 0 ∷ 0 ∷ 0 ∷ 255 ∷ 255 ∷ 7 ∷ 7 ∷ []))
+    (cucDown (gps (negsuc 7299) 999984) (sevens 8)) (got 6 (0 ∷ 0 ∷ 0 ∷ 0 ∷ 255 ∷ 254 ∷ 7 ∷ 7 ∷ []))
 unfolding Cuc.write field lastTo
 cuc-down = (refl, refl, differ (bytesAt 5) (λ e. omega arith))
 
@@ -85,7 +73,7 @@ cuc-down = (refl, refl, differ (bytesAt 5) (λ e. omega arith))
 abbrev cucAnyScale : Handed → List ℕ → Wrote
 cucAnyScale h out = written out (outcome (placing (Cuc.imageAt (dayOf h) (microOf h)) out))
 
-pub cuc-any-scale : ShutOut (Cuc.write (tai (negsuc 7299) 999984) eight) (keeps 12 eight) (cucAnyScale (tai (negsuc 7299) 999984) eight)
+pub cuc-any-scale : ShutOut (Cuc.write (tai (negsuc 7299) 999984) (sevens 8)) (keeps 12 (sevens 8)) (cucAnyScale (tai (negsuc 7299) 999984) (sevens 8))
     (got 6 (0 ∷ 0 ∷ 0 ∷ 0 ∷ 255 ∷ 255 ∷ 7 ∷ 7 ∷ []))
 unfolding Cuc.write field lastTo
 cuc-any-scale = (refl, refl, differ (bytesAt 0) (λ e. omega arith))
@@ -94,18 +82,18 @@ cuc-any-scale = (refl, refl, differ (bytesAt 0) (λ e. omega arith))
 abbrev cucScaleFirst : Handed → List ℕ → Wrote
 cucScaleFirst h out = written out (outcome (given (sameScale S.Gps (scaleOf h)) 12 (Cuc.writing h out)))
 
-pub cuc-scale-first : ShutOut (Cuc.write (tai (pos 36525) 0) eight) (keeps 7 eight) (cucScaleFirst (tai (pos 36525) 0) eight) (keeps 12 eight)
+pub cuc-scale-first : ShutOut (Cuc.write (tai (pos 36525) 0) (sevens 8)) (keeps 7 (sevens 8)) (cucScaleFirst (tai (pos 36525) 0) (sevens 8)) (keeps 12 (sevens 8))
 unfolding Cuc.write field lastTo
 cuc-scale-first = (refl, refl, differ (λ (w : Wrote). w .number) (λ e. omega arith))
 
-pub cuc-clearing : ShutOut (Cuc.write (gps (negsuc 7299) 999984) eight) (got 6 (0 ∷ 0 ∷ 0 ∷ 0 ∷ 255 ∷ 255 ∷ 7 ∷ 7 ∷ []))
-    (clearing eight (Cuc.write (gps (negsuc 7299) 999984) eight)) (got 6 (0 ∷ 0 ∷ 0 ∷ 0 ∷ 255 ∷ 255 ∷ 0 ∷ 0 ∷ []))
+pub cuc-clearing : ShutOut (Cuc.write (gps (negsuc 7299) 999984) (sevens 8)) (got 6 (0 ∷ 0 ∷ 0 ∷ 0 ∷ 255 ∷ 255 ∷ 7 ∷ 7 ∷ []))
+    (clearing (sevens 8) (Cuc.write (gps (negsuc 7299) 999984) (sevens 8))) (got 6 (0 ∷ 0 ∷ 0 ∷ 0 ∷ 255 ∷ 255 ∷ 0 ∷ 0 ∷ []))
 unfolding Cuc.write field lastTo
 cuc-clearing = (refl, refl, differ (bytesAt 6) (λ e. omega arith))
 
 -- the desk that writes nothing
-pub writes-nothing : ShutOut (Cuc.write (gps (negsuc 7299) 999984) eight) (got 6 (0 ∷ 0 ∷ 0 ∷ 0 ∷ 255 ∷ 255 ∷ 7 ∷ 7 ∷ []))
-    (writesNothing eight (Cuc.write (gps (negsuc 7299) 999984) eight)) (got 6 eight)
+pub writes-nothing : ShutOut (Cuc.write (gps (negsuc 7299) 999984) (sevens 8)) (got 6 (0 ∷ 0 ∷ 0 ∷ 0 ∷ 255 ∷ 255 ∷ 7 ∷ 7 ∷ []))
+    (writesNothing (sevens 8) (Cuc.write (gps (negsuc 7299) 999984) (sevens 8))) (got 6 (sevens 8))
 unfolding Cuc.write field lastTo
 writes-nothing = (refl, refl, differ (bytesAt 0) (λ e. omega arith))
 
@@ -141,8 +129,8 @@ proteus-no-h3 = (refl, refl, differ (λ (t : Proteus.Stamped). bit (t .h3)) (λ 
 abbrev proteusSixty : Handed → Bool → List ℕ → Wrote
 proteusSixty h b out = written out (outcome (placing (Proteus.imageAt (dayOf h) (microOf h) b) out))
 
-pub proteus-sixty : ShutOut (Proteus.write (utc (pos 6209) 86400999984) true eight) (keeps 12 eight)
-    (proteusSixty (utc (pos 6209) 86400999984) true eight) (got 8 (120 ∷ 161 ∷ 0 ∷ 0 ∷ 0 ∷ 0 ∷ 255 ∷ 255 ∷ []))
+pub proteus-sixty : ShutOut (Proteus.write (utc (pos 6209) 86400999984) true (sevens 8)) (keeps 12 (sevens 8))
+    (proteusSixty (utc (pos 6209) 86400999984) true (sevens 8)) (got 8 (120 ∷ 161 ∷ 0 ∷ 0 ∷ 0 ∷ 0 ∷ 255 ∷ 255 ∷ []))
 unfolding Proteus.write field lastTo
 proteus-sixty = (refl, refl, differ (bytesAt 0) (λ e. omega arith))
 
@@ -150,13 +138,13 @@ proteus-sixty = (refl, refl, differ (bytesAt 0) (λ e. omega arith))
 abbrev proteusAdded : Handed → Bool → List ℕ → Wrote
 proteusAdded h b out = written out (outcome (placing (FP.imageOf (Proteus.fieldsAt b (microsFrom Proteus.epoch (dayOf h) (microOf h) + 18000000))) out))
 
-pub proteus-added : ShutOut (Proteus.write (utc (pos 6700) 999984) true eight) (got 8 (125 ∷ 1 ∷ 0 ∷ 0 ∷ 0 ∷ 0 ∷ 255 ∷ 255 ∷ []))
-    (proteusAdded (utc (pos 6700) 999984) true eight) (got 8 (125 ∷ 1 ∷ 0 ∷ 0 ∷ 0 ∷ 18 ∷ 255 ∷ 255 ∷ []))
+pub proteus-added : ShutOut (Proteus.write (utc (pos 6700) 999984) true (sevens 8)) (got 8 (125 ∷ 1 ∷ 0 ∷ 0 ∷ 0 ∷ 0 ∷ 255 ∷ 255 ∷ []))
+    (proteusAdded (utc (pos 6700) 999984) true (sevens 8)) (got 8 (125 ∷ 1 ∷ 0 ∷ 0 ∷ 0 ∷ 18 ∷ 255 ∷ 255 ∷ []))
 unfolding Proteus.write field lastTo
 proteus-added = (refl, refl, differ (bytesAt 5) (λ e. omega arith))
 
-pub proteus-scribbling : ShutOut (Proteus.write (utc (pos 21372) 999984) true eight) (keeps 12 eight)
-    (scribbling (Proteus.write (utc (pos 21372) 999984) true eight)) (keeps 12 (0 ∷ 7 ∷ 7 ∷ 7 ∷ 7 ∷ 7 ∷ 7 ∷ 7 ∷ []))
+pub proteus-scribbling : ShutOut (Proteus.write (utc (pos 21372) 999984) true (sevens 8)) (keeps 12 (sevens 8))
+    (scribbling (Proteus.write (utc (pos 21372) 999984) true (sevens 8))) (keeps 12 (0 ∷ 7 ∷ 7 ∷ 7 ∷ 7 ∷ 7 ∷ 7 ∷ 7 ∷ []))
 unfolding Proteus.write field lastTo
 proteus-scribbling = (refl, refl, differ (bytesAt 0) (λ e. omega arith))
 
@@ -165,8 +153,8 @@ proteus-scribbling = (refl, refl, differ (bytesAt 0) (λ e. omega arith))
 abbrev cryosatUtc : List ℕ → Slip
 cryosatUtc s = dated S.Utc (outcome (Cryosat.reading s))
 
-pub cryosat-utc : ShutOut (Cryosat.read (0 ∷ 1 ∷ 0 ∷ 0 ∷ 0 ∷ 2 ∷ 0 ∷ 3 ∷ [])) (dated S.Tai (answer (record { day = pos 1; micro = 2003 })))
-    (cryosatUtc (0 ∷ 1 ∷ 0 ∷ 0 ∷ 0 ∷ 2 ∷ 0 ∷ 3 ∷ [])) (dated S.Utc (answer (record { day = pos 1; micro = 2003 })))
+pub cryosat-utc : ShutOut (Cryosat.read (0 ∷ 1 ∷ 0 ∷ 0 ∷ 0 ∷ 2 ∷ 0 ∷ 3 ∷ [])) (answered S.Tai (pos 1) 2003)
+    (cryosatUtc (0 ∷ 1 ∷ 0 ∷ 0 ∷ 0 ∷ 2 ∷ 0 ∷ 3 ∷ [])) (answered S.Utc (pos 1) 2003)
 unfolding Cryosat.read number
 cryosat-utc = (refl, refl, differ (λ (t : Slip). bound (t .scale)) (λ e. omega arith))
 
@@ -174,8 +162,8 @@ cryosat-utc = (refl, refl, differ (λ (t : Slip). bound (t .scale)) (λ e. omega
 abbrev cryosatElsewhere : List ℕ → Slip
 cryosatElsewhere s = dated S.Gps (refused (Cryosat.read s .number))
 
-pub cryosat-elsewhere : ShutOut (Cryosat.read (255 ∷ 255 ∷ 0 ∷ 0 ∷ 0 ∷ 0 ∷ 0 ∷ 0 ∷ [])) (dated S.Tai (refused 7))
-    (cryosatElsewhere (255 ∷ 255 ∷ 0 ∷ 0 ∷ 0 ∷ 0 ∷ 0 ∷ 0 ∷ [])) (dated S.Gps (refused 7))
+pub cryosat-elsewhere : ShutOut (Cryosat.read (255 ∷ 255 ∷ 0 ∷ 0 ∷ 0 ∷ 0 ∷ 0 ∷ 0 ∷ [])) (empty 7 S.Tai)
+    (cryosatElsewhere (255 ∷ 255 ∷ 0 ∷ 0 ∷ 0 ∷ 0 ∷ 0 ∷ 0 ∷ [])) (empty 7 S.Gps)
 unfolding Cryosat.read number
 cryosat-elsewhere = (refl, refl, differ (λ (t : Slip). firstAt (t .scale)) (λ e. omega arith))
 
@@ -184,13 +172,13 @@ cryosat-elsewhere = (refl, refl, differ (λ (t : Slip). firstAt (t .scale)) (λ 
 abbrev cryosatHeld : Handed → List ℕ → Wrote
 cryosatHeld h out = written out (outcome (placing (Cryosat.imageAt (dayOf h) (microOf h)) out))
 
-pub cryosat-held : ShutOut (Cryosat.write (tai (negsuc 0) 2003) eight) (keeps 12 eight) (cryosatHeld (tai (negsuc 0) 2003) eight) (got 8 (0 ∷ 0 ∷ 0 ∷ 0 ∷ 0 ∷ 2 ∷ 0 ∷ 3 ∷ []))
+pub cryosat-held : ShutOut (Cryosat.write (tai (negsuc 0) 2003) (sevens 8)) (keeps 12 (sevens 8)) (cryosatHeld (tai (negsuc 0) 2003) (sevens 8)) (got 8 (0 ∷ 0 ∷ 0 ∷ 0 ∷ 0 ∷ 2 ∷ 0 ∷ 3 ∷ []))
 unfolding Cryosat.write field
 cryosat-held = (refl, refl, differ (bytesAt 0) (λ e. omega arith))
 
 -- the desk with a made-up length
-pub cryosat-made-up : ShutOut (Cryosat.write (tai (pos 1) 2003) eight) (got 8 (0 ∷ 1 ∷ 0 ∷ 0 ∷ 0 ∷ 2 ∷ 0 ∷ 3 ∷ []))
-    (madeUp (Cryosat.write (tai (pos 1) 2003) eight)) (got 10 (0 ∷ 1 ∷ 0 ∷ 0 ∷ 0 ∷ 2 ∷ 0 ∷ 3 ∷ []))
+pub cryosat-made-up : ShutOut (Cryosat.write (tai (pos 1) 2003) (sevens 8)) (got 8 (0 ∷ 1 ∷ 0 ∷ 0 ∷ 0 ∷ 2 ∷ 0 ∷ 3 ∷ []))
+    (madeUp (Cryosat.write (tai (pos 1) 2003) (sevens 8))) (got 10 (0 ∷ 1 ∷ 0 ∷ 0 ∷ 0 ∷ 2 ∷ 0 ∷ 3 ∷ []))
 unfolding Cryosat.write field
 cryosat-made-up = (refl, refl, differ (λ (w : Wrote). w .length) (λ e. omega arith))
 
@@ -201,8 +189,8 @@ siralRound s =
     dated S.Tai
     (outcome (andThen (FR.reading s) (λ (f : R.Fields). judged S.Tai (record { day = pos (f .day); micro = Siral.microsOf f % 86400000000 }))))
 
-pub siral-round : ShutOut (Siral.read (0 ∷ 0 ∷ 5 ∷ 38 ∷ 91 ∷ 255 ∷ 3 ∷ 231 ∷ 0 ∷ 1 ∷ [])) (dated S.Tai (answer (record { day = pos 1; micro = 1 })))
-    (siralRound (0 ∷ 0 ∷ 5 ∷ 38 ∷ 91 ∷ 255 ∷ 3 ∷ 231 ∷ 0 ∷ 1 ∷ [])) (dated S.Tai (answer (record { day = pos 0; micro = 1 })))
+pub siral-round : ShutOut (Siral.read (0 ∷ 0 ∷ 5 ∷ 38 ∷ 91 ∷ 255 ∷ 3 ∷ 231 ∷ 0 ∷ 1 ∷ [])) (answered S.Tai (pos 1) 1)
+    (siralRound (0 ∷ 0 ∷ 5 ∷ 38 ∷ 91 ∷ 255 ∷ 3 ∷ 231 ∷ 0 ∷ 1 ∷ [])) (answered S.Tai (pos 0) 1)
 unfolding Siral.read number
 siral-round = (refl, refl, differ (λ (t : Slip). natAbs (t .day)) (λ e. omega arith))
 
@@ -213,22 +201,22 @@ siralTwos s =
     (outcome (andThen (FR.reading s)
     (λ (f : R.Fields). judged S.Tai (momentFrom Cryosat.epoch (Siral.sixteenths (f .day) (f .millisecond) (f .microsecond) 0 / 16 + f .extra * 2)))))
 
-pub siral-twos : ShutOut (Siral.read (0 ∷ 1 ∷ 0 ∷ 0 ∷ 0 ∷ 0 ∷ 0 ∷ 0 ∷ 0 ∷ 16 ∷ [])) (dated S.Tai (answer (record { day = pos 1; micro = 33 })))
-    (siralTwos (0 ∷ 1 ∷ 0 ∷ 0 ∷ 0 ∷ 0 ∷ 0 ∷ 0 ∷ 0 ∷ 16 ∷ [])) (dated S.Tai (answer (record { day = pos 1; micro = 32 })))
+pub siral-twos : ShutOut (Siral.read (0 ∷ 1 ∷ 0 ∷ 0 ∷ 0 ∷ 0 ∷ 0 ∷ 0 ∷ 0 ∷ 16 ∷ [])) (answered S.Tai (pos 1) 33)
+    (siralTwos (0 ∷ 1 ∷ 0 ∷ 0 ∷ 0 ∷ 0 ∷ 0 ∷ 0 ∷ 0 ∷ 16 ∷ [])) (answered S.Tai (pos 1) 32)
 unfolding Siral.read number
-siral-twos = (refl, refl, differ microIn (λ e. omega arith))
+siral-twos = (refl, refl, byMicro (λ e. omega arith))
 
 -- ---- SIRAL write
 -- the extra counter left as it was
 abbrev siralEight : Handed → List ℕ → Wrote
 siralEight h out = Cryosat.write h out
 
-pub siral-eight : ShutOut (Siral.write (tai (pos 1) 2003) eleven) (got 10 (0 ∷ 1 ∷ 0 ∷ 0 ∷ 0 ∷ 2 ∷ 0 ∷ 3 ∷ 0 ∷ 0 ∷ 7 ∷ []))
-    (siralEight (tai (pos 1) 2003) eleven) (got 8 (0 ∷ 1 ∷ 0 ∷ 0 ∷ 0 ∷ 2 ∷ 0 ∷ 3 ∷ 7 ∷ 7 ∷ 7 ∷ []))
+pub siral-eight : ShutOut (Siral.write (tai (pos 1) 2003) (sevens 11)) (got 10 (0 ∷ 1 ∷ 0 ∷ 0 ∷ 0 ∷ 2 ∷ 0 ∷ 3 ∷ 0 ∷ 0 ∷ 7 ∷ []))
+    (siralEight (tai (pos 1) 2003) (sevens 11)) (got 8 (0 ∷ 1 ∷ 0 ∷ 0 ∷ 0 ∷ 2 ∷ 0 ∷ 3 ∷ 7 ∷ 7 ∷ 7 ∷ []))
 unfolding Siral.write Cryosat.write field
 siral-eight = (refl, refl, differ (bytesAt 8) (λ e. omega arith))
 
-pub siral-scribbling : ShutOut (Siral.write (tai (pos 1) 2003) eight) (keeps 13 eight) (scribbling (Siral.write (tai (pos 1) 2003) eight))
+pub siral-scribbling : ShutOut (Siral.write (tai (pos 1) 2003) (sevens 8)) (keeps 13 (sevens 8)) (scribbling (Siral.write (tai (pos 1) 2003) (sevens 8)))
     (keeps 13 (0 ∷ 7 ∷ 7 ∷ 7 ∷ 7 ∷ 7 ∷ 7 ∷ 7 ∷ []))
 unfolding Siral.write field
 siral-scribbling = (refl, refl, differ (bytesAt 0) (λ e. omega arith))

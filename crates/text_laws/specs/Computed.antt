@@ -6,7 +6,7 @@ use native.Mathlib.Omega.{arith}
 use lib.Dec.{lit≤}
 use lib.IntN.{pos}
 use lib.ListN.{take, drop}
-use Rattle.scales.specs.Meaning.{refused, answer, Slip, dated, Wrote, recordOf}
+use Rattle.scales.specs.Meaning.{Slip, Wrote, recordOf}
 use Rattle.scales.specs.declared.Scale.the-variants as S
 use Rattle.scales.specs.declared.Handed.{Handed}
 use Rattle.scales.specs.declared.Handed.the-variants as H
@@ -20,6 +20,7 @@ use Rattle.text_write.specs.declared.Form.{Form}
 use Rattle.text_write.specs.declared.Form.the-variants as F
 use Rattle.text_laws.specs.Back.{read-back, none-refused}
 use Rattle.text_laws.specs.Fresh.{published-again}
+use Rattle.ground_laws.proofs.Desks.{answered, empty}
 
 abbrev pub reads : List ℕ → Slip
 reads s = readText s publishedDays publishedOffsets publishedLast
@@ -30,7 +31,7 @@ sixty =
     85 ∷ 84 ∷ 67 ∷ 61 ∷ 51 ∷ 49 ∷ 45 ∷ 68 ∷ 69 ∷ 67 ∷ 45 ∷ 50 ∷ 48 ∷ 49 ∷ 54 ∷ 32 ∷ 50 ∷ 51 ∷ 58 ∷ 53 ∷ 57 ∷ 58 ∷ 54 ∷ 48 ∷ 46 ∷ 48 ∷ 48 ∷ 48 ∷ 48 ∷ 48 ∷ 48 ∷ []
 
 -- 31-DEC-2016 23:59:6
-pub read-short : reads (drop 4 (take 23 sixty)) ≡ dated S.Tai (refused 1)
+pub read-short : reads (drop 4 (take 23 sixty)) ≡ empty 1 S.Tai
 unfolding readText
 read-short = refl
 
@@ -48,14 +49,14 @@ pub write-sixty : writes leapSecond F.PrefixedMicros ≡ record { number = 0; le
 unfolding writeText textOf prefixOf letter names dateOfDay daysTo dayAfter walk firstDay lengthOf monthLength leap isStep
 write-sixty = rw published
 
-pub sixty-back : let w = writes leapSecond F.PrefixedMicros in reads (take (w .length) (w .bytes)) ≡ dated S.Utc (answer (record { day = pos 6209; micro = 86400000000 }))
+pub sixty-back : let w = writes leapSecond F.PrefixedMicros in reads (take (w .length) (w .bytes)) ≡ answered S.Utc (pos 6209) 86400000000
 sixty-back = read-back leapSecond F.PrefixedMicros publishedDays publishedOffsets publishedLast blank (lit≤ tt) (λ i. write-sixty i .number)
 
 pub sixty-not-refused : let w = writes leapSecond F.PrefixedMicros in reads (take (w .length) (w .bytes)) .number ≡ 0
 sixty-not-refused = none-refused leapSecond F.PrefixedMicros publishedDays publishedOffsets publishedLast blank (lit≤ tt) (λ i. write-sixty i .number)
 
 -- under a list that ends on that very day it was read the same, and a list that extends it keeps the answer
-pub read-early : readText sixty publishedDays publishedOffsets (pos 6209) ≡ dated S.Utc (answer (record { day = pos 6209; micro = 86400000000 }))
+pub read-early : readText sixty publishedDays publishedOffsets (pos 6209) ≡ answered S.Utc (pos 6209) 86400000000
 unfolding readText isPrefixRight isBody scaleIn bodyIn hasPrefix prefixOf hasMarks stampIn microIn inLimits digitOf twoOf fourOf sixOf monthOf seek isNamed letter names isDate dayOfDate dayAfter firstDay lengthOf monthLength leap isStep
 read-early = rw published-6209
 

@@ -7,7 +7,7 @@ use native.Mathlib.Omega.{arith}
 use lib.Dec.{eqb, leb}
 use lib.IntN.{pos, negsuc, natAbs}
 use Rattle.evidence.specs.ShutOut.{ShutOut, differ}
-use Rattle.scales.specs.Meaning.{codeOf, given, refused, answer, outcome, Slip, dated, Wrote, written, recordOf}
+use Rattle.scales.specs.Meaning.{codeOf, given, outcome, Slip, dated, Wrote, written, recordOf}
 use Rattle.scales.specs.declared.Scale.the-variants as S
 use Rattle.scales.specs.declared.Handed.{Handed}
 use Rattle.scales.specs.declared.Handed.the-variants as H
@@ -19,7 +19,7 @@ use Rattle.text_read.specs.Meaning.{digitOf, twoOf, fourOf, names, letter, isNa
 use Rattle.text_write.specs.Meaning.{textOf, hasImage, writing, writeText}
 use Rattle.text_write.specs.declared.Form.{Form}
 use Rattle.text_write.specs.declared.Form.the-variants as F
-use Rattle.ground_laws.proofs.Desks.{refusesAll, dayZero, got, bytesAt, writesNothing, madeUp}
+use Rattle.ground_laws.proofs.Desks.{refusesAll, dayZero, got, bytesAt, writesNothing, madeUp, answered, empty}
 use Rattle.text_laws.specs.Computed.{reads, blank, writes}
 
 -- ---- reading
@@ -31,11 +31,11 @@ capitals (b ∷ bs) = cond (leb 97 b && leb b 122) (b - 32) b ∷ capitals bs
 abbrev pub lower : List ℕ
 lower = 51 ∷ 49 ∷ 45 ∷ 100 ∷ 101 ∷ 99 ∷ 45 ∷ 50 ∷ 48 ∷ 49 ∷ 54 ∷ 32 ∷ 48 ∷ 48 ∷ 58 ∷ 48 ∷ 48 ∷ 58 ∷ 48 ∷ 48 ∷ []
 
-upper : reads (capitals lower) ≡ dated S.Utc (answer (record { day = pos 6209; micro = 0 }))
+upper : reads (capitals lower) ≡ answered S.Utc (pos 6209) 0
 unfolding readText isPrefixRight isBody scaleIn bodyIn hasPrefix prefixOf hasMarks stampIn microIn inLimits digitOf twoOf fourOf monthOf seek isNamed letter names isDate dayOfDate dayAfter firstDay lengthOf monthLength leap
 upper = rw published
 
-pub lower-case : ShutOut (reads lower) (dated S.Tai (refused 3)) (reads (capitals lower)) (dated S.Utc (answer (record { day = pos 6209; micro = 0 })))
+pub lower-case : ShutOut (reads lower) (empty 3 S.Tai) (reads (capitals lower)) (answered S.Utc (pos 6209) 0)
 unfolding readText isPrefixRight isBody scaleIn bodyIn hasPrefix prefixOf hasMarks stampIn microIn inLimits digitOf twoOf fourOf monthOf seek isNamed letter names isDate dayOfDate dayAfter firstDay lengthOf monthLength leap
 lower-case = (refl, upper, λ q. let z : _≡_ {A = ℕ} 3 0 = (λ i. q i .number) ∙ (λ i. upper i .number) in omega arith)
 
@@ -46,11 +46,11 @@ swapped r = record { number = cond (eqb (r .number) 3) 7 (cond (eqb (r .number) 
 abbrev pub leapDay0000 : List ℕ
 leapDay0000 = 50 ∷ 57 ∷ 45 ∷ 70 ∷ 69 ∷ 66 ∷ 45 ∷ 48 ∷ 48 ∷ 48 ∷ 48 ∷ 32 ∷ 48 ∷ 48 ∷ 58 ∷ 48 ∷ 48 ∷ 58 ∷ 48 ∷ 48 ∷ []
 
-outside : reads leapDay0000 ≡ dated S.Tai (refused 7)
+outside : reads leapDay0000 ≡ empty 7 S.Tai
 unfolding readText isPrefixRight isBody scaleIn bodyIn hasPrefix prefixOf hasMarks stampIn microIn inLimits digitOf twoOf fourOf monthOf seek isNamed letter names isDate dayOfDate dayAfter firstDay lengthOf monthLength leap
 outside = rw published
 
-pub three-for-seven : ShutOut (reads leapDay0000) (dated S.Tai (refused 7)) (swapped (reads leapDay0000)) (dated S.Tai (refused 3))
+pub three-for-seven : ShutOut (reads leapDay0000) (empty 7 S.Tai) (swapped (reads leapDay0000)) (empty 3 S.Tai)
 three-for-seven = (outside, ap swapped outside, λ q. let z : _≡_ {A = ℕ} 7 3 = (λ i. sym outside i .number) ∙ (λ i. q i .number) ∙ (λ i. ap swapped outside i .number) in omega arith)
 
 -- a refused reading in the text's own scale: GPS=01-JAN-1972 00:00:00
@@ -61,7 +61,7 @@ abbrev pub beforeGps : List ℕ
 beforeGps =
     71 ∷ 80 ∷ 83 ∷ 61 ∷ 48 ∷ 49 ∷ 45 ∷ 74 ∷ 65 ∷ 78 ∷ 45 ∷ 49 ∷ 57 ∷ 55 ∷ 50 ∷ 32 ∷ 48 ∷ 48 ∷ 58 ∷ 48 ∷ 48 ∷ 58 ∷ 48 ∷ 48 ∷ []
 
-pub refused-in-gps : ShutOut (reads beforeGps) (dated S.Tai (refused 7)) (ownScale beforeGps) (dated S.Gps (refused 7))
+pub refused-in-gps : ShutOut (reads beforeGps) (empty 7 S.Tai) (ownScale beforeGps) (empty 7 S.Gps)
 unfolding readText isPrefixRight isBody scaleIn bodyIn hasPrefix prefixOf hasMarks stampIn microIn inLimits digitOf twoOf fourOf monthOf seek isNamed letter names isDate dayOfDate dayAfter firstDay lengthOf monthLength leap
 refused-in-gps = (refl, refl, λ q. let z : _≡_ {A = ℕ} 0 2 = λ i. codeOf (q i .scale) in omega arith)
 
@@ -73,16 +73,16 @@ abbrev pub firstTai : List ℕ
 firstTai =
     84 ∷ 65 ∷ 73 ∷ 61 ∷ 48 ∷ 49 ∷ 45 ∷ 74 ∷ 65 ∷ 78 ∷ 45 ∷ 49 ∷ 57 ∷ 55 ∷ 50 ∷ 32 ∷ 48 ∷ 48 ∷ 58 ∷ 48 ∷ 48 ∷ 58 ∷ 48 ∷ 48 ∷ []
 
-pub list-for-tai : ShutOut (readText firstTai [] [] (pos 0)) (dated S.Tai (answer (record { day = negsuc 10226; micro = 0 }))) (listFirst firstTai) (dated S.Tai (refused 5))
+pub list-for-tai : ShutOut (readText firstTai [] [] (pos 0)) (answered S.Tai (negsuc 10226) 0) (listFirst firstTai) (empty 5 S.Tai)
 unfolding readText isPrefixRight isBody scaleIn bodyIn hasPrefix prefixOf hasMarks stampIn microIn inLimits digitOf twoOf fourOf monthOf seek isNamed letter names isDate dayOfDate dayAfter firstDay lengthOf monthLength leap accepted
 list-for-tai = (refl, refl, λ q. let z : _≡_ {A = ℕ} 0 5 = λ i. q i .number in omega arith)
 
 -- the desk that refuses all, and the one that answers day 0 for everything
-pub refuses-all : ShutOut (readText firstTai [] [] (pos 0)) (dated S.Tai (answer (record { day = negsuc 10226; micro = 0 }))) (refusesAll S.Tai) (dated S.Tai (refused 7))
+pub refuses-all : ShutOut (readText firstTai [] [] (pos 0)) (answered S.Tai (negsuc 10226) 0) (refusesAll S.Tai) (empty 7 S.Tai)
 unfolding readText isPrefixRight isBody scaleIn bodyIn hasPrefix prefixOf hasMarks stampIn microIn inLimits digitOf twoOf fourOf monthOf seek isNamed letter names isDate dayOfDate dayAfter firstDay lengthOf monthLength leap
 refuses-all = (refl, refl, differ (λ (t : Slip). t .number) (λ e. omega arith))
 
-pub day-zero : ShutOut (readText firstTai [] [] (pos 0)) (dated S.Tai (answer (record { day = negsuc 10226; micro = 0 }))) (dayZero S.Tai) (dated S.Tai (answer (record { day = pos 0; micro = 0 })))
+pub day-zero : ShutOut (readText firstTai [] [] (pos 0)) (answered S.Tai (negsuc 10226) 0) (dayZero S.Tai) (answered S.Tai (pos 0) 0)
 unfolding readText isPrefixRight isBody scaleIn bodyIn hasPrefix prefixOf hasMarks stampIn microIn inLimits digitOf twoOf fourOf monthOf seek isNamed letter names isDate dayOfDate dayAfter firstDay lengthOf monthLength leap
 day-zero = (refl, refl, differ (λ (t : Slip). natAbs (t .day)) (λ e. omega arith))
 
