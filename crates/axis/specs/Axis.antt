@@ -1,10 +1,10 @@
--- The laws of the two axes in use, days and microseconds, and how they meet. Assumes nothing.
+-- The laws of the three axes in use, days, microseconds and counts, and how they meet. Assumes nothing.
 use mathlib.Core.Path.{_≡_}
 use Prim.Native.Nat.{ℕ, _/_, _%_, _≤_, _<_}
 use lib.Dec.{leb, lit<}
 use lib.IntN.{ℤ}
 use lib.Signed.{leZ}
-use Rattle.axis.specs.Meaning.{placeOfDay, dayAt, placeOfMicros, microsAt, floorZ, modZ}
+use Rattle.axis.specs.Meaning.{placeOfDay, dayAt, placeOfMicros, microsAt, placeOfCounts, countsAt, floorZ, modZ}
 use Rattle.axis.specs.Diff.{sub-floor, sub-mod, sub-le-same, sub-inj-same}
 use Rattle.axis.specs.Shift as F
 
@@ -40,3 +40,13 @@ micros-day m = sub-floor m 40000 86400000000 (lit< tt)
 
 pub micros-left : (m : ℕ) → modZ (microsAt m) 86400000000 ≡ m % 86400000000
 micros-left m = sub-mod m 40000 86400000000 (lit< tt)
+
+-- ---- counts of 1/65536 s since day 0
+pub counts-place : (n : ℤ) → 0 < placeOfCounts n → placeOfCounts n < 566231040000000 → countsAt (placeOfCounts n) ≡ n
+counts-place n h k = F.number-at 226492416000000 566231040000000 n h k
+
+pub counts-from : (f : ℕ) (n : ℤ) → 0 < f → f ≤ 566231040000000 → leZ (countsAt f) n ≡ leb f (placeOfCounts n)
+counts-from f n h k = F.from-le 226492416000000 566231040000000 f n h k
+
+pub counts-to : (l : ℕ) (n : ℤ) → l < 566231040000000 → leZ n (countsAt l) ≡ leb (placeOfCounts n) l
+counts-to l n h = F.to-le 226492416000000 566231040000000 l n h

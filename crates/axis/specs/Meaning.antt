@@ -1,4 +1,4 @@
--- The one axis of the product: a day, or a microsecond since day 0, as a natural number. Days -40000 to 60000 stand at
+-- The one axis of the product: a day, or a microsecond or a count since day 0, as a natural number. Days -40000 to 60000 stand at
 -- places 0 to 100000, and every span lies well within; what lies outside stands at the nearer end. Assumes nothing.
 use Prim.Native.Nat.{ℕ, suc, _+_, _-_, _/_, _%_, min}
 use lib.IntN.{ℤ, pos, negsuc, subℕ}
@@ -25,6 +25,13 @@ microsAt m = subℕ m 3456000000000000
 -- the same, held to the axis: all that 64 bits can say of a place has an answer
 abbrev pub heldMicrosAt : ℕ → ℤ
 heldMicrosAt m = microsAt (min m 8640000000000000)
+
+-- counts of 1/65536 s since day 0: 5,662,310,400 a day
+abbrev pub placeOfCounts : ℤ → ℕ
+placeOfCounts n = place 226492416000000 566231040000000 n
+
+abbrev pub countsAt : ℕ → ℤ
+countsAt m = subℕ m 226492416000000
 
 -- the quotient rounded down (towards the past) by a natural m > 0, and what is left over
 abbrev pub floorZ : ℤ → ℕ → ℤ

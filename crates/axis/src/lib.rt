@@ -1,7 +1,7 @@
-// The one axis: signed days, and signed microseconds since day 0, as naturals and back.
-// Only these four functions meet a signed number; all other code reckons with places.
+// The one axis: signed days, and signed microseconds and counts since day 0, as naturals and back.
+// Only these five functions meet a signed number; all other code reckons with places.
 ghost use mathlib.Core.Path.{_≡_};
-ghost use Rattle.axis.specs.Meaning.{placeOfDay, dayAt, placeOfMicros, heldMicrosAt};
+ghost use Rattle.axis.specs.Meaning.{placeOfDay, dayAt, placeOfMicros, heldMicrosAt, placeOfCounts};
 
 // The place of a day. One outside the axis stands at its nearer end, outside every span.
 pub fn place_of_day(day: i64) -> u64
@@ -44,4 +44,17 @@ pub fn micros_at(place: u64) -> i64
         return 5_184_000_000_000_000;
     }
     (place as i64) - 3_456_000_000_000_000
+}
+
+// The place of a signed number of counts of 1/65536 s since day 0, every day having 86,400 s.
+pub fn place_of_counts(counts: i64) -> u64
+    ensures { λ r. ⌜ r ≡ placeOfCounts counts ⌝ }
+{
+    if counts < -226_492_416_000_000 {
+        return 0;
+    }
+    if 339_738_624_000_000 < counts {
+        return 566_231_040_000_000;
+    }
+    (counts + 226_492_416_000_000) as u64
 }

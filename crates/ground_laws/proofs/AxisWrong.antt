@@ -9,8 +9,8 @@ use lib.Signed.{leZ}
 use mir.Syntax.{w64}
 use mir.Val.{ofZ}
 use Rattle.evidence.specs.ShutOut.{ShutOut, differ}
-use Rattle.axis.specs.Meaning.{placeOfDay, dayAt, placeOfMicros, microsAt, heldMicrosAt, floorZ, modZ}
-use Rattle.axis.specs.Axis.{place-day, day-place, day-from, day-to, place-micros, micros-place}
+use Rattle.axis.specs.Meaning.{placeOfDay, dayAt, placeOfMicros, microsAt, heldMicrosAt, placeOfCounts, countsAt, floorZ, modZ}
+use Rattle.axis.specs.Axis.{place-day, day-place, day-from, day-to, place-micros, micros-place, counts-place, counts-from, counts-to}
 
 -- ---- place_of_day
 -- a bare cast: a day before the axis wraps to its far end
@@ -70,6 +70,18 @@ notBefore m = pos (m - 3456000000000000)
 pub micros-not-before : ShutOut (heldMicrosAt 0) (negsuc 3455999999999999) (notBefore 0) (pos 0)
 micros-not-before = (refl, refl, differ natAbs (λ e. omega arith))
 
+-- ---- place_of_counts
+-- a bare cast: what lies before the axis wraps to its far end
+abbrev bareCounts : ℤ → ℕ
+bareCounts n = ofZ w64 (n +ℤ pos 226492416000000)
+
+pub counts-wrap : ShutOut (placeOfCounts (negsuc 226492416000000)) 0 (bareCounts (negsuc 226492416000000)) 18446744073709551615
+counts-wrap = (refl, refl, λ e. omega arith)
+
+-- counts taken for microseconds
+pub counts-as-micros : ShutOut (placeOfCounts (pos 1)) 226492416000001 (placeOfMicros (pos 1)) 3456000000000001
+counts-as-micros = (refl, refl, λ e. omega arith)
+
 -- ---- the laws, each at an input that meets its hypotheses: day -7300 and its place, a microsecond before day 0
 pub days-meet :
     (placeOfDay (dayAt 32700) ≡ 32700) × (dayAt (placeOfDay (negsuc 7299)) ≡ negsuc 7299)
@@ -83,6 +95,15 @@ days-meet = (
 
 pub micros-meet : (placeOfMicros (microsAt 1) ≡ 1) × (microsAt (placeOfMicros (negsuc 0)) ≡ negsuc 0)
 micros-meet = (place-micros 1 (lit≤ tt), micros-place (negsuc 0) (lit< tt) (lit< tt))
+
+pub counts-meet :
+    (countsAt (placeOfCounts (negsuc 0)) ≡ negsuc 0)
+    × (leZ (countsAt 1) (negsuc 0) ≡ leb 1 226492415999999) × (leZ (negsuc 0) (countsAt 1) ≡ leb 226492415999999 1)
+counts-meet = (
+  counts-place (negsuc 0) (lit< tt) (lit< tt),
+  counts-from 1 (negsuc 0) (lit< tt) (lit≤ tt),
+  counts-to 1 (negsuc 0) (lit< tt),
+)
 
 -- the microsecond before day 0 is the last of day -1, not the first of day 0
 pub floor-before-zero : (floorZ (negsuc 0) 86400000000 ≡ negsuc 0) × (modZ (negsuc 0) 86400000000 ≡ 86399999999)
