@@ -16,9 +16,10 @@ use Rattle.scales.specs.declared.Time.{Time}
 use Rattle.scales.specs.declared.Timed.the-variants as TD
 use Rattle.scales.specs.declared.Refusal.{Refusal}
 use Rattle.scales.specs.declared.Dated.the-variants as D
-use Rattle.correlation.specs.Places.{spot, placeIn, placeAt, Spanned, coversAt, resultAt}
-use Rattle.correlation.specs.declared.Cover.{Cover}
-use Rattle.correlation.specs.declared.Place.the-variants as P
+use Rattle.clock.specs.Places.{withinAt, windowAt}
+use Rattle.clock.specs.Stage.{spot, placeIn, placeAt, Spanned, resultAt}
+use Rattle.clock.specs.declared.inner.Ends.{Ends}
+use Rattle.clock.specs.declared.inner.Place.the-variants as P
 
 module _ (s : Scale) (d : ℤ) (u : ℕ) where
   pub place-over : 86400000000 ≤ u → P.Outside ≡ placeIn s d u
@@ -55,9 +56,16 @@ module _ (s : Scale) (m : ℕ) where
       dated s (refused 11) ≡ resultAt s m
   result-out f r e = rw (timed-no s (dayAt (m / 86400000000)) (m % 86400000000) f r e .0)
 
-module _ (v : Cover) (w : ℕ) where
-  pub cover-before : w < v .from → false ≡ coversAt v w
+module _ (v : Ends) (w : ℕ) where
+  pub cover-before : w < v .from → false ≡ withinAt v w
   cover-before h = rw (lt-leb (v .from) w h)
 
-  pub cover-from : v .from ≤ w → leb w (v .to) ≡ coversAt v w
+  pub cover-from : v .from ≤ w → leb w (v .to) ≡ withinAt v w
   cover-from h = rw (le-leb (v .from) w h)
+
+module _ (h b a k : ℕ) where
+  pub window-before : k < h - b → false ≡ windowAt h b a k
+  window-before l = rw (lt-leb (h - b) k l)
+
+  pub window-from : h - b ≤ k → leb k (h + a) ≡ windowAt h b a k
+  window-from l = rw (le-leb (h - b) k l)

@@ -10,8 +10,8 @@ use borrow.Author.Tests.{le-leb, lt-leb, leb-true}
 use Rattle.axis.specs.Meaning.{floorZ}
 use Rattle.axis.specs.Diff.{Way, way, below, above, is-negsuc, sub-eq, sub-add, sub-mul, sub-negate, sub-le, tests, up, down, parts}
 use Rattle.axis.specs.Shift.{number-add}
-use Rattle.correlation.specs.Meaning.{clock, latest}
-use Rattle.correlation.specs.Signs.{plus, le-refl, le-trans, le-both, above-next, next-above, le-less, le-steps, steps, steps-to, under-floor, over-floor}
+use Rattle.clock.specs.Meaning.{clock, latest}
+use Rattle.clock.specs.Signs.{plus, le-refl, le-trans, le-both, above-next, next-above, le-less, le-steps, steps, steps-to, under-floor, over-floor}
 
 -- ---- sums and orders, at the parts
 pub less-one : (a b c d : ℕ) → subℕ a b -ℤ pos 1 -ℤ subℕ c d ≡ subℕ (a + d) (b + 1 + c)

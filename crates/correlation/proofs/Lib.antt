@@ -1,2 +1,1 @@
 pub mod Reckoned
-pub mod Ways

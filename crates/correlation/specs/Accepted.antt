@@ -2,15 +2,18 @@
 use mathlib.Core.Path.{_≡_}
 use mathlib.Core.Bool.{true}
 use Prim.Native.Nat.{_-_, _≤_, _<_}
-use lib.Dec.{leb, ltb}
+use native.Mathlib.Omega.{arith}
+use lib.Dec.{leb, ltb, lit<}
 use borrow.Author.Tests.{leb-true, ltb-true, le-leb, lt-leb}
 use Rattle.scales.specs.Meaning.{inSpan}
 use Rattle.scales.specs.Place.{and-both}
 use Rattle.decimal.specs.Meaning.{dayMicros}
-use Rattle.correlation.specs.Meaning.{accepted}
-use Rattle.correlation.specs.Places.{placeIn, placeOf, Held, held}
+use Rattle.correlation.specs.Meaning.{accepted, clockOf}
+use Rattle.clock.specs.Stage.{placeIn, Held, held}
+use Rattle.clock.specs.Window.{Runs}
+use Rattle.correlation.specs.Places.{placeOf}
 use Rattle.correlation.specs.declared.Correlation.{Correlation}
-use Rattle.correlation.specs.declared.Place.the-variants as P
+use Rattle.clock.specs.declared.inner.Place.the-variants as P
 
 -- ---- the tests of acceptance, one after the other
 module _ (c : Correlation) where
@@ -63,3 +66,8 @@ sound c e =
       back-to = leb-true (c .back) 2147483648 (z .0);
       ahead-to = leb-true (c .ahead) 2147483647 (v .0);
     }
+
+pub runs : (c : Correlation) → accepted c ≡ true → Runs (clockOf c)
+runs c e =
+    let s = sound c e in
+    record { whole = lit< tt; fast = omega (arith, s .fast); back-to = s .back-to; ahead-to = omega (arith, s .ahead-to) }

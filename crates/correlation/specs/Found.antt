@@ -1,56 +1,43 @@
--- What the code finds, and the meanings on the places of what it found. Assumes nothing.
-use mathlib.Core.Path.{_≡_, refl, ap, ap₂, _∙_}
-use mathlib.Core.Bool.{Bool, true, false, cond, _&&_}
-use Prim.Native.Nat.{ℕ, _+_, _-_, _*_, _<_}
+-- What the code finds, and the meanings by it: one law for each way out of `date` and of `tick_of`. Assumes nothing.
+use mathlib.Core.Path.{_≡_, sym, ap, _∙_}
+use mathlib.Core.Bool.{Bool, true, false}
+use Prim.Native.Nat.{ℕ, _+_, _*_, _≤_, _<_}
 use native.Mathlib.Omega.{arith}
-use lib.Dec.{leb, ltb}
+use native.Mathlib.Nat.{mul-le-mul}
 use lib.IntN.{ℤ, pos, subℕ, _*ℤ_}
-use lib.Signed.{leZ}
 use Rattle.axis.specs.Meaning.{microsAt}
-use Rattle.axis.specs.Diff.{sub-le-same}
-use Rattle.scales.specs.Meaning.{inSpan}
-use Rattle.scales.specs.Place.{and-both}
-use Rattle.scales.specs.declared.Scale.{Scale}
-use Rattle.decimal.specs.Meaning.{dayMicros}
-use Rattle.correlation.specs.Meaning.{accepted, instant, clock, time, inWindow, covers}
-use Rattle.correlation.specs.Clock.{lastOf}
-use Rattle.correlation.specs.Places.{spot, placeIn, placeOf, timeAt, coverAt, coversAt, lastAt, Windowed, held, instant-place, back-place, ahead-place, startAt, clock-place, last-place}
-use Rattle.correlation.specs.Accepted.{Sound, sound}
-use Rattle.correlation.specs.Window.{start, divided}
+use Rattle.axis.specs.Diff.{sub-mul}
+use Rattle.scales.specs.Meaning.{dated, refused, answer, Outcome, outcome, Moment}
+use Rattle.scales.specs.declared.Handed.{Handed}
+use Rattle.clock.specs.Meaning as K
+use Rattle.clock.specs.Places as C
+use Rattle.clock.specs.Stage.{spot, covering, unacceptedBy, found, none, instant-place}
+use Rattle.clock.specs.Turning as T
+use Rattle.clock.specs.declared.inner.Place.the-variants as P
+use Rattle.correlation.specs.Meaning.{accepted, clockOf, dateOf, ticked, tickOf}
+use Rattle.correlation.specs.Places.{placeOf, timeAt, endsAt, countFrom, lastAt, tickFrom, Based, Windowed, Near}
+use Rattle.correlation.specs.Accepted.{Sound, sound, runs}
 use Rattle.correlation.specs.declared.Correlation.{Correlation}
-use Rattle.correlation.specs.declared.Place.the-variants as P
 
-found : (t : Bool) (x r : ℕ) → cond t (P.At x) P.Outside ≡ P.At r → (t ≡ true) × (x ≡ r)
-found true x r e = (refl, cc)
-found false x r e = absurd (let z : _≡_ {A = ℕ} 0 1 = cc in omega arith)
-
-none : (t : Bool) (x : ℕ) → cond t (P.At x) P.Outside ≡ P.Outside → t ≡ false
-none true x e = absurd (let z : _≡_ {A = ℕ} 0 1 = cc in omega arith)
-none false x e = refl
-
--- ---- the place of a day and a microsecond
-module _ (s : Scale) (d : ℤ) (u : ℕ) where
-  pub no-place : placeIn s d u ≡ P.Outside → (inSpan s d u && ltb u dayMicros) ≡ false
-  no-place e = none (inSpan s d u && ltb u dayMicros) (spot d u) e
-
-  module _ (w : ℕ) (e : placeIn s d u ≡ P.At w) where
-    pub in-day : (inSpan s d u && ltb u dayMicros) ≡ true
-    in-day = found (inSpan s d u && ltb u dayMicros) (spot d u) w e .0
-
-    pub instant-found : instant s d u ≡ microsAt w
-    instant-found =
-        instant-place s d u (held s d u (and-both (inSpan s d u) (ltb u dayMicros) in-day .0))
-        ∙ ap microsAt (found (inSpan s d u && ltb u dayMicros) (spot d u) w e .1)
-
--- ---- the reference
-pub not-accepted : (c : Correlation) → placeOf c ≡ P.Outside → accepted c ≡ false
+not-accepted : (c : Correlation) → placeOf c ≡ P.Outside → accepted c ≡ false
 not-accepted c e = none (accepted c) (spot (c .day) (c .micro)) e
 
+pub date-6 : (c : Correlation) (t : ℕ) (d : ℤ) (u : ℕ) → placeOf c ≡ P.Outside → dated (c .scale) (refused 6) ≡ dateOf c t d u
+unfolding dateOf
+date-6 c t d u e = rw (not-accepted c e)
+
+pub tick-unaccepted : (c : Correlation) (h : Handed) → placeOf c ≡ P.Outside → ticked (refused (unacceptedBy h)) ≡ tickOf c h
+unfolding tickOf
+tick-unaccepted c h e =
+    ap ticked (T.turn-unaccepted (clockOf c) h)
+    ∙ ap (λ (x : Bool). ticked (outcome (K.turning x (clockOf c) h))) (sym (not-accepted c e))
+
+-- ---- an accepted correlation with its reference at r
 module _ (c : Correlation) (r : ℕ) (e : placeOf c ≡ P.At r) where
-  pub is-accepted : accepted c ≡ true
+  is-accepted : accepted c ≡ true
   is-accepted = found (accepted c) (spot (c .day) (c .micro)) r e .0
 
-  pub sounds : Sound c
+  sounds : Sound c
   sounds = sound c is-accepted
 
   place-is : spot (c .day) (c .micro) ≡ r
@@ -70,37 +57,43 @@ module _ (c : Correlation) (r : ℕ) (e : placeOf c ≡ P.At r) where
         ahead-to = a .ahead-to;
       }
 
-  start-is : start c ≡ startAt r
-  start-is =
-      ap (λ (x : ℤ). x *ℤ pos 1000000) (instant-place (c .scale) (c .day) (c .micro) (sounds .day) ∙ ap microsAt place-is)
+  pub clock-based : C.Based (clockOf c) (r * 1000000)
+  clock-based =
+      record {
+        runs = runs c is-accepted;
+        start =
+            ap (λ (x : ℤ). x *ℤ pos 1000000) (instant-place (c .scale) (c .day) (c .micro) (sounds .day) ∙ ap microsAt place-is)
+            ∙ sub-mul r 3456000000000000 1000000;
+        early = omega (arith, window-of .based .early, window-of .based .slow);
+      }
 
-  pub time-is : (k : ℕ) → time c (subℕ k 2147483648) ≡ microsAt (timeAt r (c .period) k)
-  time-is k =
-      ap (λ (x : ℤ). clock x (c .period) 1000000 (subℕ k 2147483648)) start-is
-      ∙ clock-place r (c .period) k (omega (arith, window-of .based .early, window-of .based .slow))
+  pub date-at : (t : ℕ) (d : ℤ) (u : ℕ) (o : Outcome Moment) → o ≡ outcome (K.dating true (clockOf c) t d u) → dated (c .scale) o ≡ dateOf c t d u
+  unfolding dateOf
+  date-at t d u o f =
+      ap (dated (c .scale)) f ∙ ap (λ (x : Bool). dated (c .scale) (outcome (K.dating x (clockOf c) t d u))) (sym is-accepted)
 
-  pub divided-is : (w : ℕ) → r * 1000000 < (w + 1) * 1000000 + 2147483648 * c .period →
-      divided c (microsAt w) ≡ subℕ (lastAt r (c .period) w) 2147483648
-  divided-is w h =
-      ap (λ (x : ℤ). lastOf x (c .period) 1000000 (microsAt w)) start-is
-      ∙ last-place r (c .period) w (omega (arith, window-of .based .fast)) h
+  -- ---- the way back
+  module _ (h : Handed) where
+    ends : outcome (covering (c .scale) (C.coverOf (endsAt r (c .period) (c .back) (c .ahead))) h) ≡ outcome (covering (c .scale) (K.cover (clockOf c)) h)
+    ends = ap (λ (v : K.Cover). outcome (covering (c .scale) v h)) (sym (C.cover-place (clockOf c) (r * 1000000) clock-based))
 
-  pub window-is : (k : ℕ) → inWindow c (subℕ k 2147483648) ≡ (leb (2147483648 - c .back) k && leb k (2147483648 + c .ahead))
-  unfolding inWindow
-  window-is k =
-      rw (
-        back-place (c .back) (window-of .back-to),
-        ahead-place (c .ahead),
-        sub-le-same 2147483648 (2147483648 - c .back) k,
-        sub-le-same 2147483648 k (2147483648 + c .ahead),
-      )
+    turned : (o : Outcome ℕ) → o ≡ outcome (K.turning true (clockOf c) h) → ticked o ≡ tickOf c h
+    unfolding tickOf
+    turned o f = ap ticked f ∙ ap (λ (x : Bool). ticked (outcome (K.turning x (clockOf c) h))) (sym is-accepted)
 
-  pub covers-is : (w : ℕ) → covers c (microsAt w) ≡ coversAt (coverAt r (c .period) (c .back) (c .ahead)) w
-  unfolding covers
-  covers-is w =
-      ap₂ (λ (x y : ℤ). leZ x (microsAt w) && leZ (microsAt w) y)
-      (ap (time c) (back-place (c .back) (window-of .back-to)) ∙ time-is (2147483648 - c .back))
-      (ap (time c) (ahead-place (c .ahead)) ∙ time-is (2147483648 + c .ahead))
-      ∙ ap₂ _&&_
-      (sub-le-same 3456000000000000 (timeAt r (c .period) (2147483648 - c .back)) w)
-      (sub-le-same 3456000000000000 w (timeAt r (c .period) (2147483648 + c .ahead)))
+    pub tick-not : (n : ℕ) → refused n ≡ outcome (covering (c .scale) (C.coverOf (endsAt r (c .period) (c .back) (c .ahead))) h) →
+        ticked (refused n) ≡ tickOf c h
+    tick-not n f = turned (refused n) (T.turn-not (clockOf c) h n (f ∙ ends))
+
+    module _ (w : ℕ) (f : answer (microsAt w) ≡ outcome (covering (c .scale) (C.coverOf (endsAt r (c .period) (c .back) (c .ahead))) h)) where
+      pub near : Near r (c .period) w
+      near =
+          let n = T.near (clockOf c) h (r * 1000000) clock-based w f in
+          let p : c .ahead * c .period ≤ 8389144870912000000 = mul-le-mul {n₂ = 2147483648} {m₂ = 3906500000} (omega (arith, window-of .ahead-to)) (sounds .slow) in
+          record { based = window-of .based; low = n .low; high = omega (arith, n .high, p) }
+
+      pub few : lastAt r (c .period) w < 4294967296
+      few = T.few (clockOf c) h (r * 1000000) clock-based w f
+
+      pub tick-is : ticked (answer (tickFrom (c .tick .0) (lastAt r (c .period) w))) ≡ tickOf c h
+      tick-is = turned _ (T.turn-is (clockOf c) h (r * 1000000) clock-based w f)

@@ -1,10 +1,5 @@
 pub mod Meaning
 pub mod Same
-pub mod Signs
-pub mod Clock
 pub mod Places
 pub mod Accepted
-pub mod Window
 pub mod Found
-pub mod Dating
-pub mod Turning

@@ -1,42 +1,25 @@
--- Marked case 8 both ways and the night of the letter, computed; the order of 12 and 8; and each theorem at an input that meets its
--- hypotheses. Assumes nothing.
+-- Marked case 8 both ways and the night of the letter, computed; and each theorem at an input that meets its hypotheses. Assumes
+-- nothing.
 use mathlib.Core.Path.{_≡_, refl, _∙_, sym}
-use mathlib.Core.Bool.{Bool, true, false}
-use Prim.Native.Nat.{ℕ, _<_, _≤_}
+use mathlib.Core.Bool.{true}
+use Prim.Native.Nat.{ℕ}
 use lib.Dec.{lit<, lit≤}
 use lib.IntN.{ℤ, pos, negsuc, _+ℤ_}
 use lib.Signed.{leZ}
 use lib.Ieee.{nan}
-use Rattle.scales.specs.Meaning.{Moment, Judged, given, gives, Outcome, answer, refused, outcome, recordOf}
+use Rattle.scales.specs.Meaning.{Moment, Outcome, answer, refused, outcome, recordOf}
 use Rattle.scales.specs.declared.Scale.the-variants as S
 use Rattle.scales.specs.declared.Handed.{Handed}
 use Rattle.scales.specs.declared.Handed.the-variants as H
 use Rattle.scales.specs.Order.{no-answer}
-use Rattle.decimal.specs.Meaning.{since, isFinite, isInSpan}
-use Rattle.correlation.specs.Meaning.{accepted, clock, time, inWindow, covers, elapsed, dating, latest, lastCount, tickAt, instantOf, hasImage, turning}
-use Rattle.correlation.specs.Clock.{lastOf, last-of-clock, last-early, last-close}
+use Rattle.decimal.specs.Meaning.{since}
+use Rattle.clock.specs.Meaning.{clock, time, inWindow, within, elapsed, latest}
+use Rattle.correlation.specs.Meaning.{accepted, clockOf, dating, turning}
 use Rattle.correlation.specs.declared.Correlation.{Correlation}
 use Rattle.correlation_laws.proofs.Counts.{elapsed-one}
 use Rattle.correlation_laws.proofs.Trips.{same-tick, record-back, never-later, little-earlier}
 use Rattle.correlation_laws.proofs.Wider.{widened, date-kept, tick-kept}
 use Rattle.correlation_laws.proofs.Night.{received-before, received-after, no-wrap}
-
--- ---- what is judged in effect: 12 before 8, which is not judged for a time without an image
-abbrev pub imageFirst : Correlation → Handed → Judged ℕ
-imageFirst c h =
-    given (isFinite h) 4
-    (given (accepted c) 6
-    (given (isInSpan h) 7
-    (given (hasImage c h) 12
-    (given (covers c (instantOf h)) 8
-    (gives (tickAt (c .tick .0) (lastCount c (instantOf h))))))))
-
-pub image-first : (c : Correlation) (h : Handed) → outcome (turning c h) ≡ outcome (imageFirst c h)
-image-first c h = go (hasImage c h) refl
-  where
-    go : (i : Bool) → hasImage c h ≡ i → outcome (turning c h) ≡ outcome (imageFirst c h)
-    go true e = rw e
-    go false e = rw e
 
 -- ---- reference tick FFFFFFFF at the beginning of TAI day 0, P = 3,906,250,000, the same window either way
 abbrev pub marked : ℕ → Correlation
@@ -55,7 +38,7 @@ pub either-side :
     × (outcome (dating (marked 10) 4294967294 (pos 0) 0) ≡ answer (at (negsuc 0) 86399996093))
     × (outcome (turning (marked 10) (tai (pos 0) 3906)) ≡ answer 0)
     × (outcome (turning (marked 10) (tai (negsuc 0) 86399996093)) ≡ answer 4294967294)
-unfolding accepted clock inWindow covers latest
+unfolding accepted clock inWindow within latest
 either-side = (refl, refl, refl, refl)
 
 -- ---- the night of the letter: the record of 1 October 2008 with the widest window, a packet received on 10 March 2009 at
@@ -64,7 +47,7 @@ abbrev pub autumn : Correlation
 autumn = record { tick = record { 0 = 537399297 }; scale = S.Tai; day = pos 3196; micro = 0; period = 3906250000; back = 2147483648; ahead = 2147483647 }
 
 pub night : outcome (dating autumn 4078800897 (pos 3356) 9600000000) ≡ refused 8
-unfolding accepted clock inWindow covers
+unfolding accepted clock inWindow within
 night = refl
 
 -- ---- each refusal, where the next would be due too: in dating 6 before 7, 7 before 8, second 60 received, the next tick after the
@@ -83,7 +66,7 @@ pub dating-refusals :
     × (outcome (dating (marked 0) 7 (pos 36525) 0) ≡ refused 7)
     × (outcome (dating utc 7 (pos 0) 86400000000) ≡ refused 7)
     × (outcome (dating end 8 (pos 36524) 86399999999) ≡ refused 11)
-unfolding accepted clock inWindow covers
+unfolding accepted clock inWindow within
 dating-refusals = (refl, refl, refl, refl)
 
 pub turning-refusals :
@@ -91,7 +74,7 @@ pub turning-refusals :
     × (outcome (turning slow (tai (pos 36525) 0)) ≡ refused 6)
     × (outcome (turning (marked 10) (H.Record (recordOf S.Gps (negsuc 7300) 0))) ≡ refused 7)
     × (outcome (turning (marked 10) (tai (pos 1) 0)) ≡ refused 8)
-unfolding accepted clock covers
+unfolding accepted clock within
 turning-refusals = (refl, refl, refl, refl)
 
 -- ---- each theorem, at an input
@@ -118,11 +101,11 @@ trip-same =
 
 -- a time to a tick and back: 3,905 microseconds after the reference, the reference
 turned : outcome (turning (marked 10) (tai (pos 0) 3905)) ≡ answer 4294967295
-unfolding accepted clock inWindow covers latest
+unfolding accepted clock inWindow within latest
 turned = refl
 
 dated-again : outcome (dating (marked 10) 4294967295 (pos 0) 0) ≡ answer (at (pos 0) 0)
-unfolding accepted clock inWindow covers
+unfolding accepted clock inWindow within
 dated-again = refl
 
 pub time-trip : (leZ (since (pos 0) 0) (since (pos 0) 3905) ≡ true) × (leZ (since (pos 0) 3905) (since (pos 0) 0 +ℤ pos 3906) ≡ true)
@@ -148,22 +131,9 @@ unfolding accepted clock
 too-late = received-after autumn (pos 3356) 9600000000 refl refl refl
 
 -- the tick before the reference is at count -1, and its date time(-1)
-pub one-before : negsuc 0 ≡ elapsed 4294967294 4294967295
-one-before = elapsed-one 4294967294 4294967295 (negsuc 0) refl refl refl
+pub one-before : negsuc 0 ≡ elapsed (clockOf (marked 10)) 4294967294
+one-before = elapsed-one (marked 10) 4294967294 (negsuc 0) refl refl refl
 
-pub right-wrap : since (negsuc 0) 86399996093 ≡ time (marked 10) (negsuc 0)
+pub right-wrap : since (negsuc 0) 86399996093 ≡ time (clockOf (marked 10)) (negsuc 0)
 unfolding inWindow
 right-wrap = no-wrap (marked 10) 4294967294 (pos 0) 0 (at (negsuc 0) 86399996093) (either-side .1) (negsuc 0) refl refl
-
--- ---- the law of the clock where the start is a fraction before day 0 and the gain no whole number: a count comes back, and the
--- last count of a time is never late, nor early by 16
-pub fraction : lastOf (negsuc 6) 999000001 65536000 (clock (negsuc 6) 999000001 65536000 (negsuc 4)) ≡ negsuc 4
-fraction = last-of-clock (negsuc 6) 999000001 65536000 (lit< tt) (lit≤ tt) (negsuc 4)
-
-pub fraction-last :
-    (leZ (clock (negsuc 6) 999000001 65536000 (lastOf (negsuc 6) 999000001 65536000 (negsuc 99))) (negsuc 99) ≡ true)
-    × (leZ (negsuc 99) (clock (negsuc 6) 999000001 65536000 (lastOf (negsuc 6) 999000001 65536000 (negsuc 99)) +ℤ pos 15) ≡ true)
-fraction-last = (
-  last-early (negsuc 6) 999000001 65536000 (lit< tt) (lit≤ tt) (negsuc 99),
-  last-close (negsuc 6) 999000001 65536000 (lit< tt) (lit≤ tt) 15 (lit≤ tt) (negsuc 99),
-)

@@ -3,7 +3,7 @@ use mathlib.Core.Path.{ap, _∙_}
 use lib.IntN.{ℤ}
 use mir.Syntax.{w64}
 use mir.Facts.{toZ-ofZ}
-use Rattle.correlation.specs.Places.{placeIn}
+use Rattle.clock.specs.Stage.{placeIn}
 use Rattle.correlation.specs.Accepted.{not-fast, not-slow, not-back, not-ahead, reference-is}
 use borrow.Author.Needs.{needs}
 use Rattle.correlation.proofs.reference_of.Statement.{statement}

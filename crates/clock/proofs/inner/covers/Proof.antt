@@ -1,7 +1,7 @@
--- `correlation::covers` meets its contract. Assumes nothing.
-use Rattle.correlation.proofs.Ways.{cover-before, cover-from}
-use Rattle.correlation.proofs.covers.Statement.{statement}
-use Rattle.correlation.proofs.covers.Tie as tie
+-- `clock::inner::covers` meets its contract. Assumes nothing.
+use Rattle.clock.proofs.Ways.{cover-before, cover-from}
+use Rattle.clock.proofs.inner.covers.Statement.{statement}
+use Rattle.clock.proofs.inner.covers.Tie as tie
 
 returns : tie.Need-returns
 returns c = let a = c .before .before .args in cover-before (a .v) (a .w) (c .if1 .taken)

@@ -1,11 +1,11 @@
--- `correlation::place_at` meets its contract, by the scale. Assumes nothing.
+-- `clock::inner::place_at` meets its contract, by the scale. Assumes nothing.
 use mathlib.Core.Path.{refl}
 use native.Mathlib.Omega.{arith}
 use Rattle.scales.specs.declared.Scale.the-variants as S
-use Rattle.correlation.proofs.Ways.{count-over, count-at}
+use Rattle.clock.proofs.Ways.{count-over, count-at}
 use borrow.Author.Needs.{needs}
-use Rattle.correlation.proofs.place_at.Statement.{statement}
-use Rattle.correlation.proofs.place_at.Tie as tie
+use Rattle.clock.proofs.inner.place_at.Statement.{statement}
+use Rattle.clock.proofs.inner.place_at.Tie as tie
 
 returns : tie.Need-returns
 returns c =

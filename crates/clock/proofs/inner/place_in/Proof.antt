@@ -1,4 +1,4 @@
--- `correlation::place_in` meets its contract. Assumes nothing.
+-- `clock::inner::place_in` meets its contract. Assumes nothing.
 use mathlib.Core.Path.{_≡_, ap, sym, _∙_}
 use Prim.Native.Nat.{ℕ, _+_, _*_}
 use native.Mathlib.Omega.{arith}
@@ -8,11 +8,11 @@ use Rattle.axis.specs.Meaning.{placeOfDay}
 use Rattle.axis.specs.Shift.{place-top}
 use Rattle.scales.specs.Meaning.{slipTimed, spanned, recordOf}
 use Rattle.scales.specs.declared.Record.{Record}
-use Rattle.correlation.specs.declared.Place.the-variants as P
-use Rattle.correlation.proofs.Ways.{place-over, place-at, place-out}
+use Rattle.clock.specs.declared.inner.Place.the-variants as P
+use Rattle.clock.proofs.Ways.{place-over, place-at, place-out}
 use borrow.Author.Needs.{needs}
-use Rattle.correlation.proofs.place_in.Statement.{statement}
-use Rattle.correlation.proofs.place_in.Tie as tie
+use Rattle.clock.proofs.inner.place_in.Statement.{statement}
+use Rattle.clock.proofs.inner.place_in.Tie as tie
 
 -- the callees read the day from its bits
 seen : (c : tie.After-to-time) → let a = c .before .before .before .args in slipTimed (c .to-time .result) ≡ spanned (a .scale) (a .day) (a .micro)

@@ -1,4 +1,4 @@
--- `correlation::record_in` meets its contract. Assumes nothing.
+-- `clock::inner::record_in` meets its contract. Assumes nothing.
 use mathlib.Core.Path.{_≡_, ap, sym, _∙_}
 use Prim.Native.Nat.{_/_, _%_}
 use lib.IntN.{ℤ}
@@ -8,10 +8,10 @@ use Rattle.axis.specs.Meaning.{dayAt}
 use Rattle.scales.specs.Meaning.{slip, slipTimed, spanned, recordOf}
 use Rattle.scales.specs.declared.Record.{Record}
 use Rattle.scales.specs.declared.Dated.the-variants as D
-use Rattle.correlation.proofs.Ways.{result-at, result-out}
+use Rattle.clock.proofs.Ways.{result-at, result-out}
 use borrow.Author.Needs.{needs}
-use Rattle.correlation.proofs.record_in.Statement.{statement}
-use Rattle.correlation.proofs.record_in.Tie as tie
+use Rattle.clock.proofs.inner.record_in.Statement.{statement}
+use Rattle.clock.proofs.inner.record_in.Tie as tie
 
 -- the day of the place, and the record made of it
 made : (c : tie.After-new) → let a = c .before .before .args in c .new .result ≡ recordOf (a .scale) (dayAt (a .place / 86400000000)) (a .place % 86400000000)

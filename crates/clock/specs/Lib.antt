@@ -1,0 +1,9 @@
+pub mod Meaning
+pub mod Signs
+pub mod Clock
+pub mod Window
+pub mod Places
+pub mod Stage
+pub mod Dating
+pub mod Turning
+pub mod Same
