@@ -1,0 +1,51 @@
+-- The correlation on the places of the axis, as the code reckons: `clock`'s numbers at the reference s, in counts from day -40000 on, and
+-- the gradient g. Assumes nothing.
+use mathlib.Core.Bool.{cond}
+use Prim.Native.Nat.{ℕ, _+_, _*_, _≤_, _<_}
+use Rattle.axis.specs.Meaning.{placeOfCounts}
+use Rattle.clock.specs.Places as C
+use Rattle.clock.specs.declared.inner.Ends.{Ends}
+use Rattle.clock.specs.declared.inner.Place.{Place}
+use Rattle.clock.specs.declared.inner.Place.the-variants as P
+use Rattle.goce.specs.Meaning.{accepted}
+use Rattle.goce.specs.declared.Correlation.{Correlation}
+
+-- ---- what the private functions answer
+abbrev pub spot : Correlation → ℕ
+spot c = c .utc0 + placeOfCounts (c .offset)
+
+abbrev pub placeOf : Correlation → Place
+placeOf c = cond (accepted c) (P.At (spot c)) P.Outside
+
+abbrev pub timeAt : ℕ → ℕ → ℕ → ℕ
+timeAt s g k = C.timeAt (s * 1000000000) g 65536000 140737488355328 k
+
+abbrev pub endsAt : ℕ → ℕ → ℕ → ℕ → Ends
+endsAt s g b a = C.endsAt (s * 1000000000) g 65536000 140737488355328 b a
+
+abbrev pub countFrom : ℕ → ℕ → ℕ
+countFrom t r = C.countFrom 140737488355328 t r
+
+abbrev pub lastAt : ℕ → ℕ → ℕ → ℕ
+lastAt s g w = C.lastAt (s * 1000000000) g 65536000 140737488355328 w
+
+abbrev pub obtFrom : ℕ → ℕ → ℕ
+obtFrom r k = C.shownAt 140737488355328 r k
+
+-- ---- what they require: a reference from day -1 to the end of the span and a gradient, as accepted
+pub record Based (s g : ℕ) : Type 0 where
+  pub early : 226486753689600 ≤ s
+  pub late : s < 433308303360000
+  pub slow : 999000000 ≤ g
+  pub fast : g ≤ 1001000000
+
+pub record Windowed (s g back ahead : ℕ) : Type 0 where
+  pub based : Based s g
+  pub back-to : back ≤ 140737488355328
+  pub ahead-to : ahead < 140737488355328
+
+-- a place within 2^47 counts of the reference
+pub record Near (s g w : ℕ) : Type 0 where
+  pub based : Based s g
+  pub low : s * 1000000000 < (w + 1) * 65536000 + 140737488355328 * g
+  pub high : w < 8800000000000000
