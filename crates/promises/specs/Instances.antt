@@ -23,16 +23,22 @@ use Rattle.text_laws.specs.Computed.{reads, sixty, read-early, blank, write-ear
 use Rattle.correlation.specs.Meaning as Correlation
 use Rattle.correlation_laws.proofs.Cases.{marked, either-side}
 use Rattle.correlation_laws.proofs.Wider.{widened}
+use Rattle.fields.specs.Meaning.{valued}
+use Rattle.goce.specs.Meaning as Goce
+use Rattle.goce_laws.proofs.Cases as GoceCases
+use Rattle.goce_laws.proofs.Wider as GoceWider
 use Rattle.promises.specs.Meaning.{lengthIsNone}
 use Rattle.promises.specs.First.{exactly}
 use Rattle.promises.specs.One.{cuc-read, cuc-write}
 use Rattle.promises.specs.Two.{cuc-time, proteus-time, cryosat-time, siral-time}
 use Rattle.rack.specs.Meaning as Rack
 use Rattle.rack.specs.Bytes as Bytes
+use Rattle.rack.specs.Counts as Counts
 use Rattle.rack.specs.Texts as Texts
 use Rattle.rack.specs.declared.VrkHanded.{VrkHanded}
 use Rattle.rack.specs.declared.VrkCorrelation.{VrkCorrelation}
-use Rattle.promises.specs.Three.{FreshPaper, old-dates-stay, widenedForC, change-for-c, text-read-for-c, text-write-for-c, date-for-c, tick-for-c}
+use Rattle.rack.specs.declared.counts.VrkGoceCorrelation.{VrkGoceCorrelation}
+use Rattle.promises.specs.Three.{FreshPaper, old-dates-stay, widenedForC, goceWidenedForC, change-for-c, text-read-for-c, text-write-for-c, date-for-c, tick-for-c, goce-date-for-c, goce-count-for-c}
 
 -- ---- demand 1: CUC of no bytes is refused 1, with day 0 of GPS; a CryoSat time is no image of CUC, and the slice keeps its byte
 pub refusal-instance : Cuc.read [] ≡ record { number = 1; scale = S.Gps; day = pos 0; micro = 0 }
@@ -65,7 +71,7 @@ pub siral-time-instance : since (pos 2) 32 ≡ since Cryosat.epoch 172800000032
 unfolding number
 siral-time-instance = siral-time (0 ∷ 1 ∷ 5 ∷ 38 ∷ 91 ∷ 255 ∷ 3 ∷ 231 ∷ 0 ∷ 16 ∷ []) (record { day = pos 2; micro = 32 }) refl
 
--- ---- demand 3: the published steps with E = 6209 and with E = 9131, and a window of 10 ticks widened
+-- ---- demand 3: the published steps with E = 6209 and with E = 9131, and windows of 10 ticks and 10 counts widened
 accepts : Correlation.accepted (marked 10) ≡ true
 unfolding Correlation.accepted
 accepts = refl
@@ -74,9 +80,18 @@ wider : Correlation.accepted (widened (marked 10) 11 12) ≡ true
 unfolding Correlation.accepted
 wider = refl
 
-pub paper-instance : FreshPaper publishedDays publishedOffsets (pos 6209) publishedDays publishedOffsets publishedLast (marked 10) 11 12
+goce-accepts : Goce.accepted (GoceCases.zero 10) ≡ true
+unfolding Goce.accepted
+goce-accepts = refl
+
+goce-wider : Goce.accepted (GoceWider.widened (GoceCases.zero 10) 11 12) ≡ true
+unfolding Goce.accepted
+goce-wider = refl
+
+pub paper-instance : FreshPaper publishedDays publishedOffsets (pos 6209) publishedDays publishedOffsets publishedLast (marked 10) 11 12 (GoceCases.zero 10) 11 12
 paper-instance =
-    old-dates-stay publishedDays publishedOffsets (pos 6209) publishedDays publishedOffsets publishedLast published-6209 published extended (marked 10) 11 12 (lit≤ tt) (lit≤ tt) accepts wider
+    old-dates-stay publishedDays publishedOffsets (pos 6209) publishedDays publishedOffsets publishedLast published-6209 published extended
+    (marked 10) 11 12 (lit≤ tt) (lit≤ tt) accepts wider (GoceCases.zero 10) 11 12 (lit≤ tt) (lit≤ tt) goce-accepts goce-wider
 
 -- UTC=31-DEC-2016 23:59:60.000000 was an answer, and stays
 pub sixty-instance : reads sixty ≡ dated S.Utc (answer (record { day = pos 6209; micro = 86400000000 }))
@@ -146,3 +161,27 @@ tick-for-c-instance =
     tick-for-c reference 11 12 (lit≤ tt) (lit≤ tt) reference-accepted reference-wider (handed 0 (pos 0) 3906)
     (λ q. let z : _≡_ {A = ℕ} 0 8 = (λ i. sym turned-before i .refusal) ∙ q in omega arith)
     ∙ turned-before
+
+-- GOCE: the count before OBT0 takes away 16, and the time gives the count
+abbrev clock : VrkGoceCorrelation
+clock = record { obt0 = 0; utc0 = 0; offset = pos 0; gradient = 1000000000; back = 10; ahead = 10 }
+
+goce-dated-before : Counts.goceDate 281474976710655 clock (pos 0) 0 ≡ record { refusal = 0; scale = 1; day = negsuc 0; micro = 86399999984 }
+unfolding Counts.goceDate Goce.dateOf
+goce-dated-before = ap (λ (o : Outcome Moment). Rack.timeOut (dated S.Utc o)) (GoceCases.either-side .1)
+
+pub goce-date-for-c-instance : Counts.goceDate 281474976710655 (goceWidenedForC clock 11 12) (pos 0) 0 ≡ record { refusal = 0; scale = 1; day = negsuc 0; micro = 86399999984 }
+goce-date-for-c-instance =
+    goce-date-for-c clock 11 12 (lit≤ tt) (lit≤ tt) goce-accepts goce-wider 281474976710655 (pos 0) 0
+    (λ q. let z : _≡_ {A = ℕ} 0 8 = (λ i. sym goce-dated-before i .refusal) ∙ q in omega arith)
+    ∙ goce-dated-before
+
+goce-turned-before : Counts.goceCount (handed 1 (negsuc 0) 86399999984) clock ≡ record { refusal = 0; count = 281474976710655 }
+unfolding Counts.goceCount
+goce-turned-before = ap (λ (o : Outcome ℕ). Bytes.countOut (valued 0 o)) (GoceCases.either-side .3)
+
+pub goce-count-for-c-instance : Counts.goceCount (handed 1 (negsuc 0) 86399999984) (goceWidenedForC clock 11 12) ≡ record { refusal = 0; count = 281474976710655 }
+goce-count-for-c-instance =
+    goce-count-for-c clock 11 12 (lit≤ tt) (lit≤ tt) goce-accepts goce-wider (handed 1 (negsuc 0) 86399999984)
+    (λ q. let z : _≡_ {A = ℕ} 0 8 = (λ i. sym goce-turned-before i .refusal) ∙ q in omega arith)
+    ∙ goce-turned-before

@@ -18,6 +18,8 @@ use Rattle.changes.specs.Meaning as Changes
 use Rattle.leap_laws.proofs.Order.{any}
 use Rattle.correlation.specs.Meaning as Correlation
 use Rattle.correlation.specs.declared.Correlation.{Correlation}
+use Rattle.goce.specs.Meaning as Goce
+use Rattle.goce.specs.declared.Correlation as GoceDeclared
 use Rattle.fields.specs.Meaning.{Valued, valued}
 use Rattle.fields.specs.Cuc as CucFields
 use Rattle.fields.specs.Goce as GoceFields
@@ -132,6 +134,16 @@ sbt-date c t d u = times (c .scale) (Correlation.dating c t d u) refl
 pub sbt-tick : (c : Correlation) (h : Handed) → Promise Correlation.ticked (λ (x : Correlation.TickSlip). x .number) (Correlation.tickOf c h) (Correlation.turning c h)
 unfolding Correlation.tickOf
 sbt-tick c h = promised (record { of-refusal = λ n. refl; of-answer = λ a. refl }) (Correlation.turning c h) refl
+
+-- ---- GOCE's correlation
+
+pub goce-date : (c : GoceDeclared.Correlation) (t : ℕ) (d : ℤ) (u : ℕ) → Times S.Utc (Goce.dateOf c t d u) (Goce.dating c t d u)
+unfolding Goce.dateOf
+goce-date c t d u = times S.Utc (Goce.dating c t d u) refl
+
+pub goce-count : (c : GoceDeclared.Correlation) (h : Handed) → Values 0 (Goce.obtOf c h) (Goce.turning c h)
+unfolding Goce.obtOf
+goce-count c h = values 0 (Goce.turning c h) refl
 
 -- ---- bytes and fields
 

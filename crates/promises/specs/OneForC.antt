@@ -12,6 +12,7 @@ use Rattle.scales.specs.declared.Tick.{Tick}
 use Rattle.decimal.specs.Meaning as Decimal
 use Rattle.leap_laws.proofs.Order.{any}
 use Rattle.correlation.specs.Meaning as Correlation
+use Rattle.goce.specs.Meaning as Goce
 use Rattle.fields.specs.Meaning.{valued}
 use Rattle.fields.specs.Cuc as CucFields
 use Rattle.fields.specs.Goce as GoceFields
@@ -27,12 +28,14 @@ use Rattle.layouts.specs.Siral as Siral
 use Rattle.text_read.specs.Meaning as TextRead
 use Rattle.rack.specs.Meaning as Rack
 use Rattle.rack.specs.Bytes as Bytes
+use Rattle.rack.specs.Counts as CountsForC
 use Rattle.rack.specs.Parts as Parts
 use Rattle.rack.specs.Texts as Texts
 use Rattle.rack.specs.declared.VrkHanded.{VrkHanded}
 use Rattle.rack.specs.declared.VrkTime.{VrkTime}
 use Rattle.rack.specs.declared.VrkCount.{VrkCount}
 use Rattle.rack.specs.declared.VrkCorrelation.{VrkCorrelation}
+use Rattle.rack.specs.declared.counts.VrkGoceCorrelation.{VrkGoceCorrelation}
 use Rattle.rack.specs.declared.bytes.VrkProteus.{VrkProteus}
 use Rattle.rack.specs.declared.parts.VrkCucFields.{VrkCucFields}
 use Rattle.rack.specs.declared.parts.VrkProteusFields.{VrkProteusFields}
@@ -70,6 +73,14 @@ sbt-date t c d u = times (Rack.correlationOf c .scale) (Correlation.dating (Rack
 pub sbt-tick : (h : VrkHanded) (c : VrkCorrelation) → Promise (λ (o : Outcome ℕ). Rack.tickOut (Correlation.ticked o)) (λ (x : VrkCount). x .refusal) (Rack.sbtTick h c) (given (Rack.known h) 3 (Correlation.turning (Rack.correlationOf c) (Rack.handedOf h)))
 unfolding Rack.sbtTick
 sbt-tick h c = promised (record { of-refusal = λ n. refl; of-answer = λ a. refl }) (given (Rack.known h) 3 (Correlation.turning (Rack.correlationOf c) (Rack.handedOf h))) refl
+
+pub goce-date : (t : ℕ) (c : VrkGoceCorrelation) (d : ℤ) (u : ℕ) → Times S.Utc (CountsForC.goceDate t c d u) (Goce.dating (CountsForC.goceOf c) t d u)
+unfolding CountsForC.goceDate Goce.dateOf
+goce-date t c d u = times S.Utc (Goce.dating (CountsForC.goceOf c) t d u) refl
+
+pub goce-count : (h : VrkHanded) (c : VrkGoceCorrelation) → Counts (CountsForC.goceCount h c) (given (Rack.known h) 3 (Goce.turning (CountsForC.goceOf c) (Rack.handedOf h)))
+unfolding CountsForC.goceCount
+goce-count h c = counts (given (Rack.known h) 3 (Goce.turning (CountsForC.goceOf c) (Rack.handedOf h))) refl
 
 pub cuc-read : (s : List ℕ) → Times S.Gps (Rack.timeOut (Cuc.read s)) (Cuc.reading s)
 unfolding Cuc.read

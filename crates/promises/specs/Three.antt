@@ -6,43 +6,70 @@ use mathlib.Core.List.{List}
 use Prim.Native.Nat.{ℕ, _≤_}
 use lib.IntN.{ℤ}
 use Rattle.scales.specs.Meaning.{scaleAt, given, Outcome, outcome, Moment, dated, written}
+use Rattle.scales.specs.declared.Scale.the-variants as S
 use Rattle.scales.specs.declared.Handed.{Handed}
 use Rattle.leap.specs.Meaning as Leap
 use Rattle.leap_laws.proofs.Promises.{Fresh, fresh}
 use Rattle.correlation.specs.Meaning as Correlation
 use Rattle.correlation.specs.declared.Correlation.{Correlation}
 use Rattle.correlation_laws.proofs.Wider.{widened, date-kept, tick-kept}
+use Rattle.fields.specs.Meaning.{Valued, valued}
+use Rattle.goce.specs.Meaning as Goce
+use Rattle.goce.specs.declared.Correlation as GoceDeclared
+use Rattle.goce_laws.proofs.Wider as GoceWider
 use Rattle.changes.specs.Meaning.{changing, changeOf}
 use Rattle.text_read.specs.Meaning.{readText}
 use Rattle.text_write.specs.Meaning.{writing, writeText}
 use Rattle.text_laws.specs.Fresh.{Again, again}
 use Rattle.rack.specs.Meaning as Rack
 use Rattle.rack.specs.Bytes as Bytes
+use Rattle.rack.specs.Counts as Counts
 use Rattle.rack.specs.Texts as Texts
 use Rattle.rack.specs.declared.VrkHanded.{VrkHanded}
 use Rattle.rack.specs.declared.VrkCorrelation.{VrkCorrelation}
+use Rattle.rack.specs.declared.counts.VrkGoceCorrelation.{VrkGoceCorrelation}
 
--- the correlation for C with another window
+-- the correlations for C with another window
 abbrev pub widenedForC : VrkCorrelation → ℕ → ℕ → VrkCorrelation
 widenedForC c b a = record { tick = c .tick; scale = c .scale; day = c .day; micro = c .micro; period = c .period; back = b; ahead = a }
 
--- old paper: the list ds, os, e and the correlation c; fresh paper: the list cs, ps, f, and c with the window b, a
-pub record FreshPaper (ds : List ℤ) (os : List ℕ) (e : ℤ) (cs : List ℤ) (ps : List ℕ) (f : ℤ) (c : Correlation) (b a : ℕ) : Type 0 where
+abbrev pub goceWidenedForC : VrkGoceCorrelation → ℕ → ℕ → VrkGoceCorrelation
+goceWidenedForC c b a = record { obt0 = c .obt0; utc0 = c .utc0; offset = c .offset; gradient = c .gradient; back = b; ahead = a }
+
+-- old paper: the list ds, os, e, SBT's correlation c and GOCE's g; fresh paper: the list cs, ps, f, c with the window b, a and g with the
+-- window y, x
+pub record FreshPaper (ds : List ℤ) (os : List ℕ) (e : ℤ) (cs : List ℤ) (ps : List ℕ) (f : ℤ) (c : Correlation) (b a : ℕ)
+    (g : GoceDeclared.Correlation) (y x : ℕ) : Type 0 where
   pub changes : Fresh ds os e cs ps f
   pub texts : Again ds os e cs ps f
   pub date : (t : ℕ) (d : ℤ) (u : ℕ) → (Correlation.dateOf c t d u .number ≡ 8 → ⊥) → Correlation.dateOf (widened c b a) t d u ≡ Correlation.dateOf c t d u
   pub tick : (h : Handed) → (Correlation.tickOf c h .number ≡ 8 → ⊥) → Correlation.tickOf (widened c b a) h ≡ Correlation.tickOf c h
+  pub goce-date : (t : ℕ) (d : ℤ) (u : ℕ) → (Goce.dateOf g t d u .number ≡ 8 → ⊥) → Goce.dateOf (GoceWider.widened g y x) t d u ≡ Goce.dateOf g t d u
+  pub goce-count : (h : Handed) → (Goce.obtOf g h .number ≡ 8 → ⊥) → Goce.obtOf (GoceWider.widened g y x) h ≡ Goce.obtOf g h
+
+-- ---- GOCE's date and count, whose window is no narrower
+module _ (g : GoceDeclared.Correlation) (y x : ℕ) (l : g .back ≤ y) (m : g .ahead ≤ x) (v : Goce.accepted g ≡ true) (w : Goce.accepted (GoceWider.widened g y x) ≡ true) where
+  goce-date-kept : (t : ℕ) (d : ℤ) (u : ℕ) → (Goce.dateOf g t d u .number ≡ 8 → ⊥) → Goce.dateOf (GoceWider.widened g y x) t d u ≡ Goce.dateOf g t d u
+  unfolding Goce.dateOf
+  goce-date-kept t d u n = ap (dated S.Utc) (GoceWider.date-kept g y x l m v w t d u (λ q. n (ap (λ (o : Outcome Moment). dated S.Utc o .number) q)))
+
+  goce-count-kept : (h : Handed) → (Goce.obtOf g h .number ≡ 8 → ⊥) → Goce.obtOf (GoceWider.widened g y x) h ≡ Goce.obtOf g h
+  unfolding Goce.obtOf
+  goce-count-kept h n = ap (valued 0) (GoceWider.count-kept g y x l m v w h (λ q. n (ap (λ (o : Outcome ℕ). valued 0 o .number) q)))
 
 module _ (ds : List ℤ) (os : List ℕ) (e : ℤ) (cs : List ℤ) (ps : List ℕ) (f : ℤ) (v : Leap.accepted ds os e ≡ true) (w : Leap.accepted cs ps f ≡ true) (x : Leap.Extends ds os e cs ps f)
-    (c : Correlation) (b a : ℕ) (l : c .back ≤ b) (m : c .ahead ≤ a) (y : Correlation.accepted c ≡ true) (z : Correlation.accepted (widened c b a) ≡ true) where
-  pub old-dates-stay : FreshPaper ds os e cs ps f c b a
+    (c : Correlation) (b a : ℕ) (l : c .back ≤ b) (m : c .ahead ≤ a) (y : Correlation.accepted c ≡ true) (z : Correlation.accepted (widened c b a) ≡ true)
+    (g : GoceDeclared.Correlation) (j i : ℕ) (p : g .back ≤ j) (q : g .ahead ≤ i) (r : Goce.accepted g ≡ true) (s : Goce.accepted (GoceWider.widened g j i) ≡ true) where
+  pub old-dates-stay : FreshPaper ds os e cs ps f c b a g j i
   unfolding Correlation.dateOf Correlation.tickOf
   old-dates-stay =
       record {
         changes = fresh ds os e cs ps f v w x;
         texts = again ds os e cs ps f v w x;
-        date = λ t d u n. ap (dated (c .scale)) (date-kept c b a l m y z t d u (λ q. n (ap (λ (o : Outcome Moment). dated (c .scale) o .number) q)));
-        tick = λ h n. ap Correlation.ticked (tick-kept c b a l m y z h (λ q. n (ap (λ (o : Outcome ℕ). Correlation.ticked o .number) q)));
+        date = λ t d u n. ap (dated (c .scale)) (date-kept c b a l m y z t d u (λ k. n (ap (λ (o : Outcome Moment). dated (c .scale) o .number) k)));
+        tick = λ h n. ap Correlation.ticked (tick-kept c b a l m y z h (λ k. n (ap (λ (o : Outcome ℕ). Correlation.ticked o .number) k)));
+        goce-date = goce-date-kept g j i p q r s;
+        goce-count = goce-count-kept g j i p q r s;
       }
 
 -- ---- the same for C, where a number that stands for nothing is refused 3 first
@@ -90,4 +117,20 @@ module _ (c : VrkCorrelation) (b a : ℕ) (l : c .back ≤ b) (m : c .ahead ≤ 
       go true n =
           ap (λ (o : Outcome ℕ). Rack.tickOut (Correlation.ticked o))
           (tick-kept (Rack.correlationOf c) b a l m y z (Rack.handedOf h) (λ q. n (ap (λ (o : Outcome ℕ). Correlation.ticked o .number) q)))
+      go false n = refl
+
+module _ (c : VrkGoceCorrelation) (b a : ℕ) (l : c .back ≤ b) (m : c .ahead ≤ a)
+    (y : Goce.accepted (Counts.goceOf c) ≡ true) (z : Goce.accepted (Counts.goceOf (goceWidenedForC c b a)) ≡ true) where
+  pub goce-date-for-c : (t : ℕ) (d : ℤ) (u : ℕ) → (Counts.goceDate t c d u .refusal ≡ 8 → ⊥) → Counts.goceDate t (goceWidenedForC c b a) d u ≡ Counts.goceDate t c d u
+  unfolding Counts.goceDate
+  goce-date-for-c t d u n = ap Rack.timeOut (goce-date-kept (Counts.goceOf c) b a l m y z t d u n)
+
+  pub goce-count-for-c : (h : VrkHanded) → (Counts.goceCount h c .refusal ≡ 8 → ⊥) → Counts.goceCount h (goceWidenedForC c b a) ≡ Counts.goceCount h c
+  unfolding Counts.goceCount Goce.obtOf
+  goce-count-for-c h n = go (Rack.known h) n
+    where
+      go : (k : Bool) → (Bytes.countOut (valued 0 (outcome (given k 3 (Goce.turning (Counts.goceOf c) (Rack.handedOf h))))) .refusal ≡ 8 → ⊥)
+          → Bytes.countOut (valued 0 (outcome (given k 3 (Goce.turning (Counts.goceOf (goceWidenedForC c b a)) (Rack.handedOf h)))))
+          ≡ Bytes.countOut (valued 0 (outcome (given k 3 (Goce.turning (Counts.goceOf c) (Rack.handedOf h)))))
+      go true n = ap Bytes.countOut (goce-count-kept (Counts.goceOf c) b a l m y z (Rack.handedOf h) n)
       go false n = refl

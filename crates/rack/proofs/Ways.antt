@@ -16,12 +16,16 @@ use Rattle.scales.specs.Place.{and-false}
 use Rattle.decimal.specs.Meaning.{readOf, WroteDay, decimalSlip, plusZero}
 use Rattle.decimal.specs.declared.Decimal.{Decimal}
 use Rattle.correlation.specs.Meaning.{tickOf}
+use Rattle.goce.specs.Meaning.{obtOf}
 use Rattle.changes.specs.Meaning.{changeOf}
 use Rattle.rack.specs.declared.VrkCorrelation.{VrkCorrelation}
 use Rattle.rack.specs.declared.VrkHanded.{VrkHanded}
+use Rattle.rack.specs.declared.counts.VrkGoceCorrelation.{VrkGoceCorrelation}
 use Rattle.rack.specs.declared.Given.the-variants as G
 use Rattle.rack.specs.declared.Named.the-variants as N
 use Rattle.rack.specs.Meaning.{knownScale, known, handedOf, timeOut, decimalOut, decimalRead, DecimalWrote, correlationOf, tickOut, sbtTick, changed, namedBy, givenOf}
+use Rattle.rack.specs.Bytes.{countOut}
+use Rattle.rack.specs.Counts.{goceOf, goceCount}
 
 -- ---- an answer picked by a test tells the test
 module _ {A : Type 0} (good bad : A) (apart : good ≡ bad → ⊥) where
@@ -130,6 +134,16 @@ tick-known h c t e = let k = given-good h t e in rw (k .0, k .1)
 pub tick-unknown : (h : VrkHanded) (c : VrkCorrelation) → givenOf h ≡ G.Unknown → record { refusal = 3; count = 0 } ≡ sbtTick h c
 unfolding sbtTick
 tick-unknown h c e = rw (given-bad h e)
+
+-- ---- GOCE
+module _ (h : VrkHanded) (c : VrkGoceCorrelation) where
+  pub count-known : (t : Handed) → givenOf h ≡ G.Handed t → countOut (obtOf (goceOf c) t) ≡ goceCount h c
+  unfolding goceCount obtOf
+  count-known t e = let k = given-good h t e in rw (k .0, k .1)
+
+  pub count-unknown : givenOf h ≡ G.Unknown → record { refusal = 3; count = 0 } ≡ goceCount h c
+  unfolding goceCount
+  count-unknown e = rw (given-bad h e)
 
 -- ---- changes of scale
 module _ (h : VrkHanded) (c : ℕ) (ds : List ℤ) (os : List ℕ) (e : ℤ) where

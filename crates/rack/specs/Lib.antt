@@ -3,3 +3,4 @@ pub mod Bytes
 pub mod Parts
 pub mod Same
 pub mod Texts
+pub mod Counts

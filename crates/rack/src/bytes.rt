@@ -88,7 +88,7 @@ pub extern "C" fn vrk_siral_read(bytes: &[u8]) -> VrkTime
     time_out(layouts::siral::read(bytes))
 }
 
-fn count_out(c: Counting) -> VrkCount
+pub(crate) fn count_out(c: Counting) -> VrkCount
     ensures { λ r. ⌜ r ≡ countOut (countSlip c) ⌝ }
 {
     match c {

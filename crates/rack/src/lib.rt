@@ -15,6 +15,7 @@ use scales::Tick;
 use scales::Ticked;
 
 pub mod bytes;
+pub mod counts;
 pub mod parts;
 pub mod texts;
 

@@ -3,3 +3,4 @@ pub mod ReadersWrong
 pub mod TextsWrong
 pub mod WritersWrong
 pub mod Wrong
+pub mod CountsWrong

@@ -9,7 +9,8 @@ use lib.Ieee.{Float, nan}
 use Rattle.evidence.specs.ShutOut.{ShutOut, differ}
 use Rattle.scales.specs.Meaning.{scaleAt, given, outcome, dated}
 use Rattle.decimal.specs.Meaning.{reading, plusZero}
-use Rattle.correlation.specs.Meaning.{accepted, inWindow, covers, clock, dateOf, ticked, turning}
+use Rattle.clock.specs.Meaning.{inWindow, within, clock}
+use Rattle.correlation.specs.Meaning.{accepted, dateOf, ticked, turning}
 use Rattle.calendar.specs.Meaning.{leap, monthLength, lengthOf, firstDay, dayAfter, daysTo, walk, isFirst}
 use Rattle.leap.specs.Meaning as L
 use Rattle.leap.specs.Meaning.{begins, risesFrom, rises, countsFrom, countsUp}
@@ -73,12 +74,12 @@ abbrev unknownDated : ℕ → VrkCorrelation → ℤ → ℕ → VrkTime
 unknownDated t c d u = timeOut (dateOf (correlationOf (record { tick = c .tick; scale = 0; day = c .day; micro = c .micro; period = c .period; back = c .back; ahead = c .ahead })) t d u)
 
 pub date-unknown : ShutOut (sbtDate 7 (dead 3) (pos 0) 0) (record { refusal = 6; scale = 0; day = pos 0; micro = 0 }) (unknownDated 7 (dead 3) (pos 0) 0) (record { refusal = 0; scale = 0; day = pos 0; micro = 0 })
-unfolding sbtDate correlationOf dateOf accepted inWindow covers clock
+unfolding sbtDate correlationOf dateOf accepted inWindow within clock
 date-unknown = (refl, refl, differ (λ (t : VrkTime). t .refusal) (λ e. omega arith))
 
 -- the window left to the caller
 pub date-window : ShutOut (sbtDate 8 (dead 0) (pos 0) 0) (record { refusal = 8; scale = 0; day = pos 0; micro = 0 }) (sbtDate 8 (record { tick = 7; scale = 0; day = pos 0; micro = 0; period = 3906250000; back = 1; ahead = 1 }) (pos 0) 0) (record { refusal = 0; scale = 0; day = pos 0; micro = 3906 })
-unfolding sbtDate correlationOf dateOf accepted inWindow covers clock
+unfolding sbtDate correlationOf dateOf accepted inWindow within clock
 date-window = (refl, refl, differ (λ (t : VrkTime). t .refusal) (λ e. omega arith))
 
 -- ---- vrk_sbt_tick
