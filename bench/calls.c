@@ -39,6 +39,8 @@ BOTH(decimal_read, vrk_time, x->time.decimal, x->time.scale)
 BOTH(decimal_write, vrk_decimal, x->time)
 BOTH(sbt_date, vrk_time, x->code, x->correlation, x->time.day, x->time.micro)
 BOTH(sbt_tick, vrk_count, x->time, x->correlation)
+BOTH(goce_date, vrk_time, x->obt, x->goce, x->time.day, x->time.micro)
+BOTH(goce_count, vrk_count, x->time, x->goce)
 BOTH(list_accepted, uint32_t, LIST)
 BOTH(change, vrk_time, x->time, x->code, LIST)
 RUN(plain_change_listed, vrk_time, x->time, x->code, LIST)
@@ -104,6 +106,8 @@ static const struct row rows[] = {
     ROW("decimal_write", make_decimal_write, NUMBER, decimal_write),
     ROW("sbt_date", make_sbt_date, TIME, sbt_date),
     ROW("sbt_tick", make_sbt_tick, NUMBER, sbt_tick),
+    ROW("goce_date", make_goce_date, TIME, goce_date),
+    ROW("goce_count", make_goce_count, NUMBER, goce_count),
     ROW("list_accepted", make_list, FLAG, list_accepted),
     ROW("change", make_change, TIME, change),
     {"change UTC TAI", make_utc_tai, TIME, {run_vrk_change, run_plain_change, run_plain_change_listed, run_erfa_change, 0}, 0},

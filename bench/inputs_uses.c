@@ -1,4 +1,4 @@
-/* The inputs of functions of times: decimal days, ticks, lists, changes, texts. */
+/* The inputs of functions of times: decimal days, ticks, counts, lists, changes, texts. */
 #include "inputs.h"
 
 void make_decimal_read(struct input *x, size_t i, size_t steps) {
@@ -17,7 +17,23 @@ void make_decimal_write(struct input *x, size_t i, size_t steps) {
     x->time = !bad ? any_time((uint32_t)(i % 3), FIRST_DAY) : bad % 8 == 0 ? second_60() : bad_time(bad);
 }
 
-/* ---- ticks: a window of 2^20 ticks, 68 minutes, to either side */
+/* ---- ticks and counts: a window of 2^20 ticks or 2^28 counts, 68 minutes, to either side */
+
+/* A time within the window, told by its microseconds from the reference. */
+static vrk_handed near(uint32_t scale, int64_t reference) {
+    int64_t t = reference + (int64_t)below(7200 * SECOND) - 3600 * SECOND;
+    int64_t day = t / DAY - (t % DAY < 0);
+    return (vrk_handed){VRK_RECORD, scale, day, (uint64_t)(t - day * DAY), 0};
+}
+
+/* One of eight as a decimal day. */
+static vrk_handed or_decimal(size_t i, vrk_handed time) {
+    if (i % 8 == 0) time.kind = VRK_DECIMAL, time.decimal = (double)time.day + (double)time.micro / (double)DAY;
+    return time;
+}
+
+/* A day that no window reaches. */
+static int64_t far(int64_t day) { return day + (day < 0 ? 2 : -2); }
 
 enum { WINDOW = 1 << 20 };
 
@@ -26,12 +42,7 @@ static vrk_correlation any_correlation(uint32_t scale) {
     return (vrk_correlation){(uint32_t)below(UINT64_C(1) << 32), scale, r.day, r.micro, 3906000000 + below(500001), WINDOW, WINDOW};
 }
 
-/* A time within the window, told by its microseconds from the reference. */
-static void near(struct input *x) {
-    int64_t t = x->correlation.day * DAY + (int64_t)x->correlation.micro + (int64_t)below(7200 * SECOND) - 3600 * SECOND;
-    int64_t day = t / DAY - (t % DAY < 0);
-    x->time = (vrk_handed){VRK_RECORD, x->correlation.scale, day, (uint64_t)(t - day * DAY), 0};
-}
+static vrk_handed near_tick(const vrk_correlation *c) { return near(c->scale, c->day * DAY + (int64_t)c->micro); }
 
 static void make_unaccepted(vrk_correlation *c, size_t which) {
     switch (which % 7) {
@@ -48,7 +59,7 @@ static void make_unaccepted(vrk_correlation *c, size_t which) {
 void make_sbt_date(struct input *x, size_t i, size_t steps) {
     (void)steps;
     x->correlation = any_correlation((uint32_t)(i % 3));
-    near(x);
+    x->time = near_tick(&x->correlation);
     x->code = x->correlation.tick + (uint32_t)below(2 * WINDOW) - WINDOW;
     size_t bad = refused(i);
     if (!bad) return;
@@ -56,7 +67,7 @@ void make_sbt_date(struct input *x, size_t i, size_t steps) {
     case 0: make_unaccepted(&x->correlation, bad / 5); break;
     case 1: x->time.micro = DAY; break;
     case 2: x->code = x->correlation.tick + WINDOW + 1; break;
-    case 3: x->time.day += x->time.day < 0 ? 2 : -2; break;
+    case 3: x->time.day = far(x->time.day); break;
     case 4: /* a reference in the last microsecond of the span */
         x->correlation.day = x->time.day = LAST_DAY, x->correlation.micro = x->time.micro = DAY - 1;
         x->code = x->correlation.tick + WINDOW;
@@ -67,18 +78,88 @@ void make_sbt_date(struct input *x, size_t i, size_t steps) {
 void make_sbt_tick(struct input *x, size_t i, size_t steps) {
     (void)steps;
     x->correlation = any_correlation((uint32_t)(i % 3));
-    near(x);
-    if (i % 8 == 0) {
-        x->time.kind = VRK_DECIMAL;
-        x->time.decimal = (double)x->time.day + (double)x->time.micro / (double)DAY;
-    }
+    x->time = or_decimal(i, near_tick(&x->correlation));
     size_t bad = refused(i);
     if (!bad) return;
     switch (bad % 4) {
     case 0: make_unaccepted(&x->correlation, bad / 4); break;
     case 1: x->time = bad_time(bad / 4); break;
     case 2: x->time.scale = (x->time.scale + 1) % 3; break;
-    case 3: x->time.day += x->time.day < 0 ? 2 : -2; break;
+    case 3: x->time.day = far(x->time.day); break;
+    }
+}
+
+enum { GOCE_WINDOW = 1 << 28 };
+
+static uint64_t near_obt(uint64_t obt) { return (obt + below(2 * GOCE_WINDOW) - GOCE_WINDOW) % COUNTS; }
+
+/* A reference of day -1 on to 2024; in one of sixteen the count wraps within the window. */
+static vrk_goce_correlation any_goce(void) {
+    uint64_t obt0 = below(16) ? below(COUNTS) : near_obt(0);
+    return (vrk_goce_correlation){obt0, below(LISTED * DAY_COUNTS), (int64_t)below(2 * DAY_COUNTS + 1) - DAY_COUNTS,
+                                  999000000 + below(2000001), GOCE_WINDOW, GOCE_WINDOW};
+}
+
+static vrk_handed near_count(const vrk_goce_correlation *c) {
+    return near(VRK_UTC, ((int64_t)c->utc0 + c->offset) * 15625 / 1024);
+}
+
+static void make_unaccepted_goce(vrk_goce_correlation *c, size_t which) {
+    switch (which % 9) {
+    case 0: c->obt0 = COUNTS; break;
+    case 1: c->utc0 += UINT64_C(1) << 63; break;
+    case 2: c->offset = DAY_COUNTS + 1; break;
+    case 3: c->offset = -DAY_COUNTS - 1; break;
+    case 4: c->gradient = 998999999; break;
+    case 5: c->gradient = 1001000001; break;
+    case 6: c->back = COUNTS / 2 + 1; break;
+    case 7: c->ahead = COUNTS / 2; break;
+    case 8: c->utc0 = (uint64_t)((LAST_DAY + 1) * DAY_COUNTS - c->offset); break;
+    }
+}
+
+void make_goce_date(struct input *x, size_t i, size_t steps) {
+    (void)steps;
+    x->goce = any_goce();
+    x->time = near_count(&x->goce);
+    x->obt = near_obt(x->goce.obt0);
+    size_t bad = refused(i);
+    if (!bad) return;
+    switch (bad % 8) {
+    case 0: make_unaccepted_goce(&x->goce, bad / 8); break;
+    case 1: x->time.micro = DAY; break;
+    case 2: x->obt = (x->goce.obt0 + GOCE_WINDOW + 1) % COUNTS; break;
+    case 3: x->time.day = far(x->time.day); break;
+    case 4: x->obt |= COUNTS; break;
+    case 5: /* a reference in the last count of the span */
+        x->goce.utc0 = (uint64_t)((LAST_DAY + 1) * DAY_COUNTS - 1 - x->goce.offset);
+        x->time.day = LAST_DAY, x->time.micro = DAY - 1;
+        x->obt = (x->goce.obt0 + GOCE_WINDOW) % COUNTS;
+        break;
+    case 6: /* as far back as a count can be, before the span */
+        x->goce.back = COUNTS / 2, x->obt = x->goce.obt0 ^ COUNTS / 2;
+        break;
+    case 7: /* several at once */
+        make_unaccepted_goce(&x->goce, bad / 8);
+        x->time.micro = DAY;
+        if (bad / 8 % 2) x->obt |= COUNTS;
+        break;
+    }
+}
+
+void make_goce_count(struct input *x, size_t i, size_t steps) {
+    (void)steps;
+    x->goce = any_goce();
+    x->time = or_decimal(i, near_count(&x->goce));
+    size_t bad = refused(i);
+    if (!bad) return;
+    switch (bad % 6) {
+    case 0: make_unaccepted_goce(&x->goce, bad / 6); break;
+    case 1: x->time = bad_time(bad / 6); break;
+    case 2: x->time.scale = bad / 6 % 2 ? VRK_TAI : VRK_GPS; break;
+    case 3: x->time.day = far(x->time.day); break;
+    case 4: x->time.micro = DAY; break;
+    case 5: make_unaccepted_goce(&x->goce, bad / 6), x->time = bad_time(bad / 6); break;
     }
 }
 

@@ -1,5 +1,5 @@
 /* The same work in plain C, to measure the library against: each function has the signature of its namesake in vrikshonem.h and
- * gives the same answers and refusals. It is written from document 01 and tested only, by the comparison in the benchmark. */
+ * gives the same answers and refusals. It is written from documents 01 and 02 and tested only, by the benchmark's comparison. */
 #ifndef PLAIN_H
 #define PLAIN_H
 
@@ -10,6 +10,8 @@ vrk_decimal plain_decimal_write(vrk_handed time);
 
 vrk_time plain_sbt_date(uint32_t tick, vrk_correlation correlation, int64_t receipt_day, uint64_t receipt_micro);
 vrk_count plain_sbt_tick(vrk_handed time, vrk_correlation correlation);
+vrk_time plain_goce_date(uint64_t obt, vrk_goce_correlation correlation, int64_t receipt_day, uint64_t receipt_micro);
+vrk_count plain_goce_count(vrk_handed time, vrk_goce_correlation correlation);
 
 uint32_t plain_list_accepted(const int64_t *days, size_t day_count, const uint64_t *offsets, size_t offset_count, int64_t last);
 vrk_time plain_change(vrk_handed time, uint32_t to_scale, const int64_t *days, size_t day_count, const uint64_t *offsets,

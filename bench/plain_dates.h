@@ -1,4 +1,4 @@
-/* What plain C has of document 01 in all its programs: the numbers of the slip, the spans, the published list and the calendar. */
+/* What plain C has of the papers in all its programs: the numbers of the slip, the spans, the published list and the calendar. */
 #ifndef PLAIN_DATES_H
 #define PLAIN_DATES_H
 
@@ -14,6 +14,10 @@ enum { FIRST_OFFSET = 10, GPS_OFFSET = 19 };
 
 #define SECOND INT64_C(1000000)
 #define DAY (86400 * SECOND)
+
+/* GOCE's counter: 48 bits, in 1/65536 s. */
+#define COUNTS (UINT64_C(1) << 48)
+#define DAY_COUNTS (86400 * INT64_C(65536))
 
 enum { PUBLISHED = 28, LISTED = 9131 };
 static const int64_t published_days[PUBLISHED] = {

@@ -3,20 +3,18 @@
 enum { LEAST_PERIOD = 3906000000u, MOST_PERIOD = 3906500000u };
 
 static inline int is_correlation(const vrk_correlation *c) {
-    return c->scale <= VRK_GPS && spans(c->scale, c->day, c->micro) && c->micro < (uint64_t)DAY && c->period >= LEAST_PERIOD &&
+    return c->scale <= VRK_GPS && spans_plainly(c->scale, c->day, c->micro) && c->period >= LEAST_PERIOD &&
            c->period <= MOST_PERIOD && c->back <= UINT64_C(1) << 31 && c->ahead < UINT64_C(1) << 31;
 }
 
 /* Microseconds since day 0 of the tick that is k after the reference, rounded down. No product is above 2^63. */
 static inline int64_t time_of_tick(const vrk_correlation *c, int64_t k) {
-    int64_t picos = k * (int64_t)c->period, micros = picos / 1000000;
-    if (picos % 1000000 < 0) micros--;
-    return c->day * DAY + (int64_t)c->micro + micros;
+    return c->day * DAY + (int64_t)c->micro + floored(k * (int64_t)c->period, 1000000);
 }
 
 vrk_time plain_sbt_date(uint32_t tick, vrk_correlation c, int64_t receipt_day, uint64_t receipt_micro) {
     if (!is_correlation(&c)) return no_time(CORRELATION, c.scale <= VRK_GPS ? c.scale : 0);
-    if (!spans(c.scale, receipt_day, receipt_micro) || receipt_micro >= (uint64_t)DAY) return no_time(SPAN, c.scale);
+    if (!spans_plainly(c.scale, receipt_day, receipt_micro)) return no_time(SPAN, c.scale);
     int64_t k = (int32_t)(tick - c.tick), back = -(int64_t)c.back, ahead = (int64_t)c.ahead;
     int64_t receipt = receipt_day * DAY + (int64_t)receipt_micro;
     if (k < back || k > ahead || receipt < time_of_tick(&c, back) || receipt > time_of_tick(&c, ahead))
@@ -33,8 +31,7 @@ vrk_count plain_sbt_tick(vrk_handed time, vrk_correlation c) {
     if (taken_time.scale != c.scale || in_second_60(taken_time)) return (vrk_count){NO_IMAGE, 0};
     int64_t at = micros_of(taken_time);
     if (at < time_of_tick(&c, -(int64_t)c.back) || at > time_of_tick(&c, (int64_t)c.ahead)) return (vrk_count){NOT_IN_FORCE, 0};
-    int64_t picos = (at - time_of_tick(&c, 0) + 1) * 1000000 - 1, k = picos / (int64_t)c.period;
-    if (picos % (int64_t)c.period < 0) k--;
+    int64_t k = floored((at - time_of_tick(&c, 0) + 1) * 1000000 - 1, (int64_t)c.period);
     if (k > (int64_t)c.ahead) k = (int64_t)c.ahead;
     return (vrk_count){0, (uint32_t)(c.tick + (uint32_t)k)};
 }

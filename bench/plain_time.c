@@ -11,6 +11,14 @@ static inline int spans(uint32_t scale, int64_t day, uint64_t micro) {
     return day >= first_day(scale) && day <= LAST_DAY && micro < (uint64_t)(scale == VRK_UTC ? DAY + SECOND : DAY);
 }
 
+/* As a reference or a receipt must: in second 60 there is none. */
+static inline int spans_plainly(uint32_t scale, int64_t day, uint64_t micro) {
+    return spans(scale, day, micro) && micro < (uint64_t)DAY;
+}
+
+/* Rounded down, towards the past; d is above 0. */
+static inline int64_t floored(int64_t n, int64_t d) { return n / d - (n % d < 0); }
+
 /* The record at a number of microseconds since day 0, or the refusal where it lies outside its scale's span. */
 static inline vrk_time time_at(uint32_t scale, int64_t t, uint32_t refusal) {
     int64_t day = t / DAY, micro = t % DAY;

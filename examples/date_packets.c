@@ -8,6 +8,10 @@
 
 enum { PACKET = 24, LONGEST = 10, TEXT = 31 };
 
+/* The layouts of a packet's time. */
+enum { CUC = 1, PROTEUS, CRYOSAT, SIRAL, SBT, GOCE };
+static const char *const NAMES[] = {"?", "CUC", "Proteus", "CryoSat", "SIRAL", "SBT", "GOCE"};
+
 /* The published leap list: 28 steps, the last day that it speaks of is 31 December 2024. */
 static const int64_t DAYS[] = {-10227, -10045, -9861, -9496, -9131, -8766, -8400, -8035, -7670, -7305,
                                -6758,  -6393,  -6028, -5297, -4383, -3652, -3287, -2740, -2375, -2010,
@@ -18,12 +22,17 @@ static const uint64_t OFFSETS[] = {10, 11, 12, 13, 14, 15, 16, 17, 18, 19, 20, 2
 #define LIST DAYS, STEPS, OFFSETS, STEPS, 9131
 
 /* 2 October 2001, 10:00:00 UTC; it may be relied on a day back and thirty days ahead. */
-static const vrk_correlation CORRELATION = {
+static const vrk_correlation SBT_CORRELATION = {
     .tick = 0xFFFFF000, .scale = VRK_UTC, .day = 640, .micro = 36000000000, .period = 3906250000,
     .back = 86400 * 256, .ahead = 30 * 86400 * 256,
 };
 
-static const char *const NAMES[] = {"?", "CUC", "Proteus", "CryoSat", "SIRAL", "SBT"};
+/* 17 March 2009, 16:00:00 UTC less a quarter of a second, with as wide a window; the clock loses 21 ns in a second. */
+#define SECOND_OF_COUNTS UINT64_C(65536)
+static const vrk_goce_correlation GOCE_CORRELATION = {
+    .obt0 = 0xFFFFFFFF0000, .utc0 = (3363 * 86400 + 57600) * SECOND_OF_COUNTS, .offset = -16384, .gradient = 1000000021,
+    .back = 86400 * SECOND_OF_COUNTS, .ahead = 30 * 86400 * SECOND_OF_COUNTS,
+};
 
 /* The header's table. */
 static const char *const WORDS[] = {
@@ -54,14 +63,17 @@ static uint64_t number(const uint8_t *bytes, size_t count) {
     return value;
 }
 
-/* The time of an SBT packet: its tick's, where the packet was received while the correlation is in force. */
-static vrk_time ticked(const uint8_t *packet) {
-    vrk_count tick = vrk_sbt_read(packet + 2, packet[1]);
-    if (tick.refusal) {
-        vrk_time refused = {tick.refusal, VRK_UTC, 0, 0};
+/* The time of an SBT or GOCE packet: its counter's, where the packet was received while the correlation is in force. */
+static vrk_time correlated(const uint8_t *packet) {
+    vrk_count read = packet[0] == SBT ? vrk_sbt_read(packet + 2, packet[1]) : vrk_goce_read(packet + 2, packet[1]);
+    int64_t day = (int32_t)number(packet + 12, 4);
+    uint64_t micro = number(packet + 16, 8);
+    if (read.refusal) {
+        vrk_time refused = {read.refusal, VRK_UTC, 0, 0};
         return refused;
     }
-    return vrk_sbt_date((uint32_t)tick.count, CORRELATION, (int32_t)number(packet + 12, 4), number(packet + 16, 8));
+    if (packet[0] == SBT) return vrk_sbt_date((uint32_t)read.count, SBT_CORRELATION, day, micro);
+    return vrk_goce_date(read.count, GOCE_CORRELATION, day, micro);
 }
 
 /* The time of a packet in its own scale. */
@@ -69,15 +81,15 @@ static vrk_time dated(const uint8_t *packet) {
     const uint8_t *time = packet + 2;
     size_t count = packet[1];
     switch (packet[0]) {
-    case 1: return vrk_cuc_read(time, count);
-    case 2: {
+    case CUC: return vrk_cuc_read(time, count);
+    case PROTEUS: {
         vrk_proteus read = vrk_proteus_read(time, count);
         vrk_time plain = {read.refusal, read.scale, read.day, read.micro};
         return plain;
     }
-    case 3: return vrk_cryosat_read(time, count);
-    case 4: return vrk_siral_read(time, count);
-    default: return ticked(packet);
+    case CRYOSAT: return vrk_cryosat_read(time, count);
+    case SIRAL: return vrk_siral_read(time, count);
+    default: return correlated(packet);
     }
 }
 
@@ -97,7 +109,7 @@ static uint32_t text_of(const uint8_t *packet, uint8_t *text) {
 
 static void print_packet(unsigned line, const uint8_t *packet) {
     uint8_t text[TEXT];
-    if (packet[0] < 1 || packet[0] > 5 || packet[1] > LONGEST) {
+    if (packet[0] < CUC || packet[0] > GOCE || packet[1] > LONGEST) {
         printf("%2u ?       not a packet\n", line);
         return;
     }

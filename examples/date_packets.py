@@ -12,14 +12,23 @@ import vrikshonem as vrk
 
 PACKET = struct.Struct(">BB10siQ")
 LIST = vrk.LeapList.PUBLISHED
-NAMES = ["?", "CUC", "Proteus", "CryoSat", "SIRAL", "SBT"]
+NAMES = ["?", "CUC", "Proteus", "CryoSat", "SIRAL", "SBT", "GOCE"]
 # 2 October 2001, 10:00:00 UTC; it may be relied on a day back and thirty days ahead.
-CORRELATION = vrk.Correlation(
+SBT_CORRELATION = vrk.Correlation(
     tick=0xFFFFF000,
     reference=vrk.Utc(640, 36_000_000_000),
     period=3_906_250_000,
     back=86_400 * 256,
     ahead=30 * 86_400 * 256,
+)
+# 17 March 2009, 16:00:00 UTC less a quarter of a second, with as wide a window; the clock loses 21 ns in a second.
+GOCE_CORRELATION = vrk.GoceCorrelation(
+    obt0=0xFFFFFFFF0000,
+    utc0=(3363 * 86_400 + 57_600) * 65_536,
+    offset=-16_384,
+    gradient=1_000_000_021,
+    back=86_400 * 65_536,
+    ahead=30 * 86_400 * 65_536,
 )
 
 
@@ -32,7 +41,9 @@ def dated(layout: int, time: bytes, receipt: vrk.Utc) -> vrk.Utc:
         return vrk.cryosat_read(time).to_utc(LIST)
     if layout == 4:
         return vrk.siral_read(time).to_utc(LIST)
-    return CORRELATION.date(vrk.sbt_read(time), receipt)
+    if layout == 5:
+        return SBT_CORRELATION.date(vrk.sbt_read(time), receipt)
+    return GOCE_CORRELATION.date(vrk.goce_read(time), receipt)
 
 
 def said(layout: int, time: bytes, receipt: vrk.Utc) -> str:
@@ -48,7 +59,7 @@ def date(name: str) -> int:
         data = file.read()
     rest = len(data) % PACKET.size
     for line, (layout, count, time, day, micro) in enumerate(PACKET.iter_unpack(data[: len(data) - rest]), 1):
-        if not 1 <= layout <= 5 or count > len(time):
+        if not 1 <= layout <= 6 or count > len(time):
             print(f"{line:2} ?       not a packet")
             continue
         print(f"{line:2} {NAMES[layout]:7} {said(layout, time[:count], vrk.Utc(day, micro))}")

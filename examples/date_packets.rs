@@ -7,21 +7,31 @@ use std::fs;
 use std::io::{self, Write};
 use std::path::{Path, PathBuf};
 use std::process::ExitCode;
-use vrikshonem::{cryosat, cuc, proteus, sbt, siral, text};
-use vrikshonem::{Correlation, Error, Form, LeapList, Tick, Utc};
+use vrikshonem::{cryosat, cuc, goce, proteus, sbt, siral, text};
+use vrikshonem::{Correlation, Error, Form, GoceCorrelation, LeapList, Tick, Utc};
 
 const PACKET: usize = 24;
 const LONGEST: usize = 10;
 const LIST: LeapList<'static> = LeapList::PUBLISHED;
-const NAMES: [&str; 6] = ["?", "CUC", "Proteus", "CryoSat", "SIRAL", "SBT"];
+const NAMES: [&str; 7] = ["?", "CUC", "Proteus", "CryoSat", "SIRAL", "SBT", "GOCE"];
 
 // 2 October 2001, 10:00:00 UTC; it may be relied on a day back and thirty days ahead.
-const CORRELATION: Correlation<Utc> = Correlation {
+const SBT_CORRELATION: Correlation<Utc> = Correlation {
     tick: Tick(0xFFFF_F000),
     reference: Utc { day: 640, micro: 36_000_000_000 },
     period: 3_906_250_000,
     back: 86_400 * 256,
     ahead: 30 * 86_400 * 256,
+};
+
+// 17 March 2009, 16:00:00 UTC less a quarter of a second, with as wide a window; the clock loses 21 ns in a second.
+const GOCE_CORRELATION: GoceCorrelation = GoceCorrelation {
+    obt0: 0xFFFF_FFFF_0000,
+    utc0: (3363 * 86_400 + 57_600) * 65_536,
+    offset: -16_384,
+    gradient: 1_000_000_021,
+    back: 86_400 * 65_536,
+    ahead: 30 * 86_400 * 65_536,
 };
 
 fn number(bytes: &[u8]) -> u64 {
@@ -30,21 +40,20 @@ fn number(bytes: &[u8]) -> u64 {
 
 fn dated(packet: &[u8]) -> Result<Utc, Error> {
     let time = &packet[2..2 + usize::from(packet[1])];
+    let receipt = Utc::new(i64::from(number(&packet[12..16]) as i32), number(&packet[16..24]));
     match packet[0] {
         1 => cuc::read(time)?.to_utc(&LIST),
         2 => Ok(proteus::read(time)?.0),
         3 => cryosat::read(time)?.to_utc(&LIST),
         4 => siral::read(time)?.to_utc(&LIST),
-        _ => {
-            let receipt = Utc::new(i64::from(number(&packet[12..16]) as i32), number(&packet[16..24]));
-            CORRELATION.date(sbt::read(time)?, receipt)
-        }
+        5 => SBT_CORRELATION.date(sbt::read(time)?, receipt),
+        _ => GOCE_CORRELATION.date(goce::read(time)?, receipt),
     }
 }
 
 fn said(packet: &[u8]) -> String {
     let layout = usize::from(packet[0]);
-    if !(1..=5).contains(&layout) || usize::from(packet[1]) > LONGEST {
+    if !(1..=6).contains(&layout) || usize::from(packet[1]) > LONGEST {
         return "?       not a packet".to_string();
     }
     match dated(packet).and_then(|utc| text::string(utc, Form::PrefixedMicros, &LIST)) {

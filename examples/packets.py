@@ -2,7 +2,7 @@
 """Makes packets.bin, the file that the three examples date: packets.py OUT
 
 A packet is 24 bytes, most significant byte first:
-    0        its layout: 1 CUC, 2 Proteus, 3 CryoSat general, 4 SIRAL, 5 SBT
+    0        its layout: 1 CUC, 2 Proteus, 3 CryoSat general, 4 SIRAL, 5 SBT, 6 GOCE
     1        how many bytes its time has, at most 10
     2 to 11  its time, and zero bytes after it
     12 to 15 the day on which it was received, signed, UTC, counted from 1 January 2000
@@ -12,12 +12,14 @@ A packet is 24 bytes, most significant byte first:
 import struct
 import sys
 
-CUC, PROTEUS, CRYOSAT, SIRAL, SBT = 1, 2, 3, 4, 5
+CUC, PROTEUS, CRYOSAT, SIRAL, SBT, GOCE = 1, 2, 3, 4, 5, 6
 SECOND = 1_000_000
 # GPS second of 31 December 2016 23:59:60 UTC: day 6210 of TAI 36 s is 17 s of GPS, counted from day -7300.
 LEAP_SECOND = (6210 + 7300) * 86400 + 17
-# The examples' correlation: this tick stood for 2 October 2001, 10:00:00 UTC.
+# The examples' correlations: this tick stood for 2 October 2001, 10:00:00 UTC, and this count, one second before the wrap, for
+# 17 March 2009, 16:00:00 UTC less a quarter of a second.
 REFERENCE, DAY, NOON = 0xFFFFF000, 640, 12 * 3600 * SECOND
+OBT0, LAUNCH, EVENING = 0xFFFFFFFF0000, 3363, 18 * 3600 * SECOND
 
 
 def packet(layout, time, day=DAY, micro=NOON):
@@ -34,6 +36,10 @@ def proteus(week, low_bits, second, fraction):
 
 def sbt(ticks, day=DAY, micro=NOON):
     return packet(SBT, struct.pack(">I", (REFERENCE + ticks) % 2**32), day, micro)
+
+
+def goce(counts, day=LAUNCH, micro=EVENING):
+    return packet(GOCE, ((OBT0 + counts) % 2**48).to_bytes(6, "big"), day, micro)
 
 
 PACKETS = [
@@ -57,6 +63,15 @@ PACKETS = [
     sbt(-2 * 86400 * 256, DAY),  # and one before it
     sbt(0, DAY, 86_400_000_000),  # no such microsecond
     packet(SBT, bytes(3)),
+    goce(0),
+    goce(65536 * 3600),  # an hour later, past the counter's wrap
+    goce(-1),  # a count before the reference, rounded towards the past
+    goce(29 * 86400 * 65536, LAUNCH + 29),  # four weeks and a day: the rate shows
+    goce(65536 * 3600, LAUNCH + 31),  # the correlation is dead
+    goce(31 * 86400 * 65536),  # a count beyond the window
+    goce(-2 * 86400 * 65536),  # and one before it
+    goce(0, 36525),  # received in 2100
+    packet(GOCE, bytes(5)),
     packet(9, bytes(4)),  # a layout that nobody knows
 ]
 

@@ -83,9 +83,9 @@ pub fn bytes(random: &mut Random, mut all: Vec<u8>, other: &[u8]) -> Vec<u8> {
 }
 
 /// Where rules begin or end, and where arithmetic could.
-const EDGES: [u64; 20] = [
+const EDGES: [u64; 22] = [
     0, 1, 2, 3, 999, 1000, 65_535, 65_536, 86_400_000_000, 86_399_999_999, 86_401_000_000, 36_524, 36_525, 1 << 31, u32::MAX as u64,
-    1 << 32, 1 << 48, 1 << 56, i64::MAX as u64, 1 << 63,
+    1 << 32, 5_662_310_400, 1 << 47, 1 << 48, 1 << 56, i64::MAX as u64, 1 << 63,
 ];
 
 fn word(random: &mut Random, old: u64, other: u64) -> u64 {

@@ -44,8 +44,10 @@ fn stop(why: &str) -> ! {
 }
 
 /// Numbers of the rules: of a range that is tested as one, libFuzzer sees no end.
-const RULES: [u64; 8] =
-    [3_906_000_000, 3_906_500_000, 86_400_000_000, 86_401_000_000, 1 << 31, 36_525, (-10_227i64) as u64, (-7_300i64) as u64];
+const RULES: [u64; 14] = [
+    3_906_000_000, 3_906_500_000, 86_400_000_000, 86_401_000_000, 1 << 31, 36_525, (-10_227i64) as u64, (-7_300i64) as u64,
+    999_000_000, 1_001_000_000, 5_662_310_400, (-5_662_310_400i64) as u64, 1 << 47, 206_815_887_360_000,
+];
 
 struct Bytes<'a>(&'a [u8]);
 
@@ -62,12 +64,13 @@ impl Bytes<'_> {
 
     /// A number of few bytes, as days are, one beside a rule's, or a whole word.
     fn word(&mut self, wide: bool) -> u64 {
-        match self.one() % 6 {
+        match self.one() % 7 {
             0 => self.one().into(),
             1 => self.number(2) as i16 as u64,
             2 => self.number(4),
             3 if wide => self.number(5),
-            4 => RULES[usize::from(self.one()) % RULES.len()].wrapping_add(self.one() as i8 as u64),
+            4 if wide => self.number(6),
+            5 => RULES[usize::from(self.one()) % RULES.len()].wrapping_add(self.one() as i8 as u64),
             _ => self.number(if wide { 8 } else { 4 }),
         }
     }

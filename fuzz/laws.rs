@@ -1,11 +1,11 @@
-//! What holds of every answer whatever the independent program says: the form of a refusal and of an answer, and that what is
-//! written reads back and what is read is written again.
+//! What holds of every answer whatever the independent program says: the form of a refusal and of an answer, that what is written
+//! reads back and what is read is written again, and that a wider window changes nothing but an 8.
 
 use crate::calls::{Answer, Call};
 use crate::shape::SHAPES;
 
 fn is_time(function: u32) -> bool {
-    matches!(function, 0 | 2 | 5 | 6 | 12 | 14 | 16 | 28)
+    matches!(function, 0 | 2 | 5 | 6 | 12 | 14 | 16 | 28 | 30)
 }
 
 /// A scale, a day and a microsecond.
@@ -50,21 +50,25 @@ enum Due {
     NotLater(Vec<u64>, i128, u64),
 }
 
-/// The call that undoes an answered one, and what it must give.
-pub struct Back {
+/// A further call that follows from an answer, and what it must give.
+pub struct Again {
     pub function: u32,
     pub call: Call,
     due: Due,
+    /// What is wrong where it gives something else.
+    pub wrong: &'static str,
 }
 
-fn reading(function: u32, bytes: &[u8], words: &[u64], due: Due) -> Option<Back> {
-    Some(Back { function, call: Call { words: words.to_vec(), input: bytes.to_vec(), lent: Vec::new() }, due })
+const BACK: &str = "it does not come back";
+
+fn reading(function: u32, bytes: &[u8], words: &[u64], due: Due) -> Option<Again> {
+    Some(Again { function, call: Call { words: words.to_vec(), input: bytes.to_vec(), lent: Vec::new() }, due, wrong: BACK })
 }
 
 /// Into as many bytes as there were.
-fn writing(function: u32, words: Vec<u64>, bytes: &[u8]) -> Option<Back> {
+fn writing(function: u32, words: Vec<u64>, bytes: &[u8]) -> Option<Again> {
     let call = Call { words, input: Vec::new(), lent: vec![0x5a; bytes.len()] };
-    Some(Back { function, call, due: Due::Bytes(bytes.to_vec()) })
+    Some(Again { function, call, due: Due::Bytes(bytes.to_vec()), wrong: BACK })
 }
 
 /// The words of a record handed in.
@@ -72,25 +76,49 @@ fn record(time: &[u64]) -> Vec<u64> {
     vec![0, time[0], time[1], time[2], 0]
 }
 
-pub fn back(function: u32, call: &Call, answer: &Answer) -> Option<Back> {
+/// Of a function with a correlation: half a wrap, and the most microseconds from a tick or a count to a time before the next.
+fn clock(function: u32) -> Option<(u64, u64)> {
+    match function {
+        2 | 3 => Some((1 << 31, 3906)),
+        30 | 31 => Some((1 << 47, 15)),
+        _ => None,
+    }
+}
+
+/// The same call with the widest window; that of a correlation that is not accepted may be wider.
+fn wider(function: u32, call: &Call, answer: &Answer) -> Option<Again> {
+    let (half, _) = clock(function)?;
+    if matches!(answer.words[0], 6 | 8) {
+        return None;
+    }
+    let mut words = call.words.clone();
+    // behind the correlation of a date its receipt stands
+    let end = words.len() - if is_time(function) { 2 } else { 0 };
+    words[end - 2..end].copy_from_slice(&[half, half - 1]);
+    Some(Again { function, call: Call::of(words), due: Due::Words(answer.words.clone()), wrong: "a wider window changes it" })
+}
+
+/// The call that undoes an answered one.
+fn back(function: u32, call: &Call, answer: &Answer) -> Option<Again> {
     if function == 4 || answer.words[0] != 0 {
         return None;
     }
     let (values, words, input) = (&answer.words[1..], &call.words, &call.input);
     let is_record = words.first() == Some(&0);
+    let (_, most) = clock(function).unwrap_or_default();
     let image = if SHAPES[function as usize].image.is_some() { &answer.lent[..values[0] as usize] } else { &[] };
     // a record, as a reading must give it back
     let same = || Due::Words([&[0], &words[1..4]].concat());
     match function {
         1 if is_record => reading(0, &[], &[values[0], words[1]], same()),
-        2 => {
-            let again = [&record(values)[..], &words[1..8]].concat();
-            reading(3, &[], &again, Due::Words(vec![0, words[0]]))
+        2 | 30 => {
+            let again = [&record(values)[..], &words[1..words.len() - 2]].concat();
+            reading(function + 1, &[], &again, Due::Words(vec![0, words[0]]))
         }
         // nearer to midnight the tick's own time may lie before the span
-        3 if is_record && words[3] > 3906 => {
-            let again = [&values[..1], &words[5..12], &words[2..4]].concat();
-            reading(2, &[], &again, Due::NotLater(words[1..4].to_vec(), 3906, 0))
+        3 | 31 if is_record && words[3] > most => {
+            let again = [&values[..1], &words[5..], &words[2..4]].concat();
+            reading(function - 1, &[], &again, Due::NotLater(words[1..4].to_vec(), most.into(), 0))
         }
         5 if is_record => {
             let again = [&record(values)[..], &words[1..2], &words[6..]].concat();
@@ -111,7 +139,11 @@ pub fn back(function: u32, call: &Call, answer: &Answer) -> Option<Back> {
     }
 }
 
-impl Back {
+pub fn again(function: u32, call: &Call, answer: &Answer) -> impl Iterator<Item = Again> {
+    back(function, call, answer).into_iter().chain(wider(function, call, answer))
+}
+
+impl Again {
     pub fn agrees(&self, got: &Answer) -> bool {
         let micros = |time: &[u64]| i128::from(time[1] as i64) * 86_400_000_000 + i128::from(time[2]);
         match &self.due {

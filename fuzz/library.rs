@@ -30,7 +30,11 @@ pub fn wrong(server: &mut Server, function: u32, call: &Call) -> Option<String> 
     if let Some(why) = laws::broken(function, call, &answer) {
         return Some(format!("{why}: {answer:x?}"));
     }
-    let back = laws::back(function, call, &answer)?;
-    let again = ask(server, back.function, &back.call);
-    (!back.agrees(&again)).then(|| format!("it does not come back: {again:x?}"))
+    for again in laws::again(function, call, &answer) {
+        let got = ask(server, again.function, &again.call);
+        if !again.agrees(&got) {
+            return Some(format!("{}: {got:x?}", again.wrong));
+        }
+    }
+    None
 }

@@ -73,7 +73,7 @@ fn stop(why: &str) -> ! {
 #[derive(Default)]
 struct Tally {
     calls: usize,
-    backs: usize,
+    again: usize,
     numbers: BTreeMap<u64, usize>,
 }
 
@@ -128,7 +128,7 @@ impl Fuzz {
         let at = function.number as usize;
         let batch: Vec<Call> = (0..BATCH).map(|_| damage::call(random, function, &self.pools[at])).collect();
         let answers = self.ask(function.number, &batch);
-        let mut backs: BTreeMap<u32, Vec<(&Call, laws::Back)>> = BTreeMap::new();
+        let mut further: BTreeMap<u32, Vec<(&Call, laws::Again)>> = BTreeMap::new();
         for (call, answer) in batch.iter().zip(&answers) {
             let right = (function.model)(call);
             *self.tallies[at].numbers.entry(answer.words[0]).or_default() += 1;
@@ -136,18 +136,20 @@ impl Fuzz {
                 self.keep(function.number, call, &format!("the library: {answer:x?}\n    independent: {right:x?}"));
             } else if let Some(why) = laws::broken(function.number, call, answer) {
                 self.keep(function.number, call, &format!("{why}: {answer:x?}"));
-            } else if let Some(back) = laws::back(function.number, call, answer) {
-                backs.entry(back.function).or_default().push((call, back));
+            } else {
+                for again in laws::again(function.number, call, answer) {
+                    further.entry(again.function).or_default().push((call, again));
+                }
             }
         }
         self.tallies[at].calls += batch.len();
-        for (reader, backs) in backs {
-            let calls: Vec<Call> = backs.iter().map(|(_, back)| shape::copy(&back.call)).collect();
-            let answers = self.ask(reader, &calls);
-            self.tallies[at].backs += calls.len();
-            for ((call, back), answer) in backs.iter().zip(&answers) {
-                if !back.agrees(answer) {
-                    self.keep(function.number, call, &format!("it does not come back: {answer:x?}"));
+        for (asked, further) in further {
+            let calls: Vec<Call> = further.iter().map(|(_, again)| shape::copy(&again.call)).collect();
+            let answers = self.ask(asked, &calls);
+            self.tallies[at].again += calls.len();
+            for ((call, again), answer) in further.iter().zip(&answers) {
+                if !again.agrees(answer) {
+                    self.keep(function.number, call, &format!("{}: {answer:x?}", again.wrong));
                 }
             }
         }
@@ -186,8 +188,8 @@ impl Fuzz {
         let seconds = self.began.elapsed().as_secs_f64();
         let mut all = 0;
         for (function, tally) in FUNCTIONS.iter().zip(&self.tallies) {
-            all += tally.calls + tally.backs;
-            println!("{}: {} calls, {} back again; numbers {:?}", function.name, tally.calls, tally.backs, tally.numbers);
+            all += tally.calls + tally.again;
+            println!("{}: {} calls, {} called again; numbers {:?}", function.name, tally.calls, tally.again, tally.numbers);
         }
         let (runs, bytes, lines) = self.desk;
         println!("desk: {runs} runs, {bytes} bytes, {lines} lines");

@@ -19,7 +19,7 @@ const fn of(words: &'static str, list: bool, bytes: bool, image: usize) -> Shape
 const READS: Shape = of("", false, true, 0);
 
 /// By the functions' numbers.
-pub const SHAPES: [Shape; 30] = [
+pub const SHAPES: [Shape; 32] = [
     of("wn", false, false, 0),
     of("nnwww", false, false, 0),
     of("nnnwwwwwww", false, false, 0),
@@ -50,6 +50,8 @@ pub const SHAPES: [Shape; 30] = [
     of("nnnn", false, false, 10),
     of("", true, true, 0),
     of("nnwwwn", true, false, 31),
+    of("wwwwwwwww", false, false, 0),
+    of("nnwwwwwwwww", false, false, 0),
 ];
 
 /// A call's words, its list taken apart.

@@ -133,6 +133,35 @@ vrk_time vrk_sbt_date(uint32_t tick, vrk_correlation correlation, int64_t receip
  *           another scale than the correlation's, or second 60. */
 vrk_count vrk_sbt_tick(vrk_handed time, vrk_correlation correlation);
 
+/* ---- GOCE counts */
+
+/* A correlation of GOCE's clock, always UTC; a count is 1/65536 s. `obt0` is the reference count. It stood for `utc0` plus
+ * `offset`, counts since 1 January 2000 in days of 86,400 s. `gradient` is the clock's rate in billionths; `back` and `ahead`
+ * are its window, in counts. It is accepted, or refused 6, with `obt0` and `utc0` below 2^48, an `offset` of at most one day
+ * (5,662,310,400) either way, a `gradient` from 999,000,000 to 1,001,000,000, `back` to 2^47, `ahead` to 2^47 - 1, and `utc0`
+ * plus `offset` in the UTC span: below 206,815,887,360,000, the counts of 36525 days. */
+typedef struct {
+    uint64_t obt0;
+    uint64_t utc0;
+    int64_t offset;
+    uint64_t gradient;
+    uint64_t back;
+    uint64_t ahead;
+} vrk_goce_correlation;
+
+/* Given     a count, a correlation, and the day and microsecond at which the packet was received, in UTC.
+ * Returned  the count's time in UTC: Gradient x (OBT - OBT0) + Offset + UTC0, the exact sum rounded down once. OBT - OBT0 is
+ *           signed, from -2^47 to 2^47 - 1: of the counts with this number it is the one within half a wrap of the reference.
+ * Refused   3 a count from 2^48 on; 6; 7 for the receipt, from microsecond 86,400,000,000 on too; 8 where the count lies
+ *           outside the window or the receipt outside the window's times; 11. The empty record is of UTC. */
+vrk_time vrk_goce_date(uint64_t obt, vrk_goce_correlation correlation, int64_t receipt_day, uint64_t receipt_micro);
+
+/* Given     a time and a correlation.
+ * Returned  the last count of the window whose time is not later, below 2^48. That time is at most 15 microseconds earlier.
+ * Refused   3 unknown kind or scale of the time; 4; 6; 7; 8 outside the window's times, not judged of a time that gets 12; 12
+ *           another scale than UTC, or second 60. */
+vrk_count vrk_goce_count(vrk_handed time, vrk_goce_correlation correlation);
+
 /* ---- the leap list, and changes of scale
  *
  * A list is two slices of the same length, the steps' days and TAI minus UTC in seconds from each day on, and the last day E
@@ -164,7 +193,7 @@ vrk_time vrk_cuc_read(const uint8_t *bytes, size_t count);
  * Refused   3 unknown kind or scale; 4; 7; 12 a scale other than GPS; 13. */
 vrk_written vrk_cuc_write(vrk_handed time, uint8_t *out, size_t count);
 
-/* GOCE OBT, 6 bytes: a count of 48 bits, without an epoch.
+/* GOCE OBT, 6 bytes: a count of 48 bits, without an epoch; vrk_goce_date dates it.
  *
  * Given     6 bytes.    Returned  the count.    Refused  1. */
 vrk_count vrk_goce_read(const uint8_t *bytes, size_t count);

@@ -22,6 +22,7 @@ enum {
     CRYOSAT_READ, CRYOSAT_WRITE, SIRAL_READ, SIRAL_WRITE, SBT_READ, SBT_WRITE,
     CUC_FIELDS_READ, CUC_FIELDS_WRITE, PROTEUS_FIELDS_READ, PROTEUS_FIELDS_WRITE,
     CRYOSAT_FIELDS_READ, CRYOSAT_FIELDS_WRITE, SIRAL_FIELDS_READ, SIRAL_FIELDS_WRITE, TEXT_READ, TEXT_WRITE,
+    GOCE_DATE, GOCE_COUNT,
 };
 
 static pthread_mutex_t turn = PTHREAD_MUTEX_INITIALIZER;
@@ -97,6 +98,10 @@ static void put_correlation(vrk_correlation c) {
     put(c.tick), put(c.scale), put((uint64_t)c.day), put(c.micro), put(c.period), put(c.back), put(c.ahead);
 }
 
+static void put_goce_correlation(vrk_goce_correlation c) {
+    put(c.obt0), put(c.utc0), put((uint64_t)c.offset), put(c.gradient), put(c.back), put(c.ahead);
+}
+
 static void put_list(const int64_t *days, size_t day_count, const uint64_t *offsets, size_t offset_count, int64_t last) {
     put((uint64_t)last), put(cut(day_count)), put(cut(offset_count));
     for (size_t k = 0; k < cut(day_count); k++) put((uint64_t)days[k]);
@@ -140,6 +145,17 @@ vrk_time vrk_sbt_date(uint32_t tick, vrk_correlation correlation, int64_t receip
 
 vrk_count vrk_sbt_tick(vrk_handed time, vrk_correlation correlation) {
     begin(), put_handed(time), put_correlation(correlation), ask(SBT_TICK, 0, 0, 0, 0);
+    return count_is();
+}
+
+vrk_time vrk_goce_date(uint64_t obt, vrk_goce_correlation correlation, int64_t receipt_day, uint64_t receipt_micro) {
+    begin(), put(obt), put_goce_correlation(correlation), put((uint64_t)receipt_day), put(receipt_micro);
+    ask(GOCE_DATE, 0, 0, 0, 0);
+    return time_is();
+}
+
+vrk_count vrk_goce_count(vrk_handed time, vrk_goce_correlation correlation) {
+    begin(), put_handed(time), put_goce_correlation(correlation), ask(GOCE_COUNT, 0, 0, 0, 0);
     return count_is();
 }
 

@@ -6,7 +6,7 @@ import threading
 import unittest
 
 import vrikshonem as vrk
-from vrikshonem import Correlation, Decimal, Gps, LeapList, Refused, Tai, Utc
+from vrikshonem import Correlation, Decimal, GoceCorrelation, Gps, LeapList, Refused, Tai, Utc
 
 LIST = LeapList.PUBLISHED
 DAY = 86_400_000_000
@@ -15,6 +15,10 @@ SECOND = 1_000_000
 
 def correlation(tick, reference, back, ahead, period=3_906_250_000):
     return Correlation(tick, reference, period, back, ahead)
+
+
+def goce(obt0=0, utc0=0, offset=0, gradient=1_000_000_000, back=2**47, ahead=2**47 - 1):
+    return GoceCorrelation(obt0, utc0, offset, gradient, back, ahead)
 
 
 def load_tests(loader, tests, pattern):
@@ -121,6 +125,40 @@ class Desk(unittest.TestCase):
             self.refused(8, held.date, 100, Utc(0, micro))
         self.refused(7, held.date, 100, Utc(0, DAY))
 
+    def test_goce_counts_are_dated(self):
+        received = Utc(0, 0)
+        self.assertEqual(goce().date(1, received), Utc(0, 15))
+        # a count before the reference, past the wrap, is rounded towards the past
+        self.assertEqual(goce().date(2**48 - 1, received), Utc(-1, DAY - 16))
+        # one rounding: 45.8 and 45.8 are 91
+        self.assertEqual(goce(utc0=3).date(3, received), Utc(0, 91))
+        # the offset has a sign, and the rate is of the difference alone
+        held = goce(65_536, 7 * 65_536, -65_536, 1_001_000_000)
+        self.assertEqual(held.date(2 * 65_536, received), Utc(0, 7_001_000))
+        for count in 0, 1, 2**47 - 1, 2**48 - 1:
+            self.assertEqual(goce().count_of(goce().date(count, received)), count)
+        self.assertEqual(goce().count_of(Utc(0, 14)), 0)
+        self.assertEqual(goce().count_of(Decimal(-0.5, Utc)), 2**48 - 43_200 * 65_536)
+
+    def test_goce_refuses(self):
+        received = Utc(0, 0)
+        self.refused(3, goce().date, 2**48, Utc(0, DAY))
+        self.refused(6, goce(obt0=2**48).date, 0, Utc(0, DAY))
+        self.refused(6, goce(offset=-5_662_310_401).count_of, received)
+        self.refused(7, goce().date, 0, Utc(0, DAY))
+        narrow = goce(back=0, ahead=1)
+        self.assertEqual(narrow.date(1, Utc(0, 15)), Utc(0, 15))
+        self.refused(8, narrow.date, 2, received)
+        self.refused(8, narrow.date, 1, Utc(0, 16))
+        self.refused(8, narrow.count_of, Utc(0, 16))
+        # half a wrap is more than 68 years, and UTC begins in 1972
+        self.refused(11, goce().date, 2**47, received)
+        self.refused(4, goce().count_of, Decimal(float("nan"), Utc))
+        self.refused(7, goce().count_of, Utc(36525, 0))
+        # of a time without an image 8 is not judged
+        self.refused(12, narrow.count_of, Utc(1, DAY))
+        self.refused(12, narrow.count_of, Gps(1, 0))
+
     def test_proteus_keeps_its_bit(self):
         for h3 in False, True:
             self.assertEqual(vrk.proteus_read(vrk.proteus_write(Utc(6209, 500_000), h3)), (Utc(6209, 500_000), h3))
@@ -197,6 +235,14 @@ class Desk(unittest.TestCase):
         self.refused(6, correlation(0, Tai(0, 0), 2**64, 1).date, 0, Tai(0, 0))
         self.refused(6, correlation(0, Tai(2**64, 0), 1, 1).date, 0, Tai(0, 0))
         self.refused(7, held.date, 0, Tai(2**64, 0))
+        for obt in 2**64, -1:
+            self.refused(3, goce().date, obt, Utc(0, 0))
+        for name in "obt0", "utc0", "offset", "gradient", "back", "ahead":
+            right = getattr(goce(), name)
+            for wrong in right + 2**64, right - 2**64:
+                self.refused(6, goce(**{name: wrong}).date, 0, Utc(0, 0))
+                self.refused(6, goce(**{name: wrong}).count_of, Utc(0, 0))
+        self.refused(7, goce().date, 0, Utc(2**64, 0))
         self.assertTrue(LIST.is_accepted())
         wide = [day + 2**64 for day in LIST.days]
         self.assertFalse(LeapList(wide, LIST.offsets, 9131).is_accepted())
@@ -206,6 +252,8 @@ class Desk(unittest.TestCase):
         self.assertNotEqual(Tai(0, 0), Gps(0, 0))
         with self.assertRaises(TypeError):
             correlation(0, Tai(0, 0), 1, 1).date(0, Gps(0, 0))
+        with self.assertRaises(TypeError):
+            goce().date(0, Tai(0, 0))
 
     # Each of these would otherwise be read as something that nobody meant.
     def test_other_kinds_are_no_times(self):
@@ -220,6 +268,8 @@ class Desk(unittest.TestCase):
             (vrk.change, Tai(0, 0), "GPS", LIST),
             (Tai(0, 0).to_utc, None),
             (correlation(0, (0, 0), 1, 1).date, 0, (0, 0)),
+            (goce(offset=0.5).date, 0, Utc(0, 0)),
+            (goce().count_of, (0, 0)),
             (vrk.cuc_write, Gps(0, 0), memoryview(bytearray(6))),
         ]:
             with self.assertRaises(TypeError, msg=str(given)):

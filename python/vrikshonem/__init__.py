@@ -18,19 +18,20 @@ A reader takes bytes of any length. A writer hands its image back; where a bytea
 onto its front, leaves every byte after it, and refuses with 13 where it is too short. A refusal leaves every byte.
 """
 
+from ._correlations import Correlation, GoceCorrelation
 from ._layouts import (
     CryosatFields, CucFields, ProteusFields, SiralFields, cryosat_fields_read, cryosat_fields_write, cryosat_read,
     cryosat_write, cuc_fields_read, cuc_fields_write, cuc_read, cuc_write, goce_read, goce_write, obet_read, obet_write,
     proteus_fields_read, proteus_fields_write, proteus_read, proteus_write, sbt_read, sbt_write, siral_fields_read,
     siral_fields_write, siral_read, siral_write, text_read, text_write,
 )
-from ._times import Correlation, Decimal, Gps, Handed, LeapList, Refused, Tai, Time, Utc, change
+from ._times import Decimal, Gps, Handed, LeapList, Refused, Tai, Time, Utc, change
 
 __version__ = "0.1.0"
 # Written out: a checker of types reads no other form.
 __all__ = [
-    "Correlation", "CryosatFields", "CucFields", "Decimal", "Gps", "Handed", "LeapList", "ProteusFields", "Refused",
-    "SiralFields", "Tai", "Time", "Utc", "change", "cryosat_fields_read", "cryosat_fields_write", "cryosat_read",
+    "Correlation", "CryosatFields", "CucFields", "Decimal", "GoceCorrelation", "Gps", "Handed", "LeapList", "ProteusFields",
+    "Refused", "SiralFields", "Tai", "Time", "Utc", "change", "cryosat_fields_read", "cryosat_fields_write", "cryosat_read",
     "cryosat_write", "cuc_fields_read", "cuc_fields_write", "cuc_read", "cuc_write", "goce_read", "goce_write",
     "obet_read", "obet_write", "proteus_fields_read", "proteus_fields_write", "proteus_read", "proteus_write",
     "sbt_read", "sbt_write", "siral_fields_read", "siral_fields_write", "siral_read", "siral_write", "text_read",

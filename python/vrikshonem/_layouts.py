@@ -80,7 +80,7 @@ def cuc_fields_write(seconds: int, fraction: int, out: Lent = None) -> bytes:
 
 
 def goce_read(data: Bytes) -> int:
-    """GOCE OBT, 6 bytes: a count of 48 bits, without an epoch. Refused: 1."""
+    """GOCE OBT, 6 bytes: a count of 48 bits, without an epoch; a GoceCorrelation dates it. Refused: 1."""
     return _read("vrk_goce_read", data).count
 
 

@@ -40,6 +40,17 @@ class VrkCorrelation(ctypes.Structure):
     ]
 
 
+class VrkGoceCorrelation(ctypes.Structure):
+    _fields_ = [
+        ("obt0", c_uint64),
+        ("utc0", c_uint64),
+        ("offset", c_int64),
+        ("gradient", c_uint64),
+        ("back", c_uint64),
+        ("ahead", c_uint64),
+    ]
+
+
 class VrkProteus(ctypes.Structure):
     _fields_ = [("refusal", c_uint32), ("scale", c_uint32), ("day", c_int64), ("micro", c_uint64), ("h3", c_uint32)]
 
@@ -76,6 +87,8 @@ FUNCTIONS: Dict[str, Tuple[Any, Tuple[Any, ...]]] = {
     "vrk_decimal_write": (VrkDecimal, (VrkHanded,)),
     "vrk_sbt_date": (VrkTime, (c_uint32, VrkCorrelation, c_int64, c_uint64)),
     "vrk_sbt_tick": (VrkCount, (VrkHanded, VrkCorrelation)),
+    "vrk_goce_date": (VrkTime, (c_uint64, VrkGoceCorrelation, c_int64, c_uint64)),
+    "vrk_goce_count": (VrkCount, (VrkHanded, VrkGoceCorrelation)),
     "vrk_list_accepted": (c_uint32, LIST),
     "vrk_change": (VrkTime, (VrkHanded, c_uint32, *LIST)),
     "vrk_cuc_read": (VrkTime, BYTES),

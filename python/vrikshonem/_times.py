@@ -1,11 +1,11 @@
-"""Times of each scale, refusals, the leap list, the correlation, and how each is handed to the library."""
+"""Times of each scale, refusals, the leap list, and how each is handed to the library."""
 
 from __future__ import annotations
 
 import ctypes
 from dataclasses import dataclass, field
 from operator import index
-from typing import Any, ClassVar, Generic, Sequence, Tuple, Type, TypeVar, Union
+from typing import Any, ClassVar, Sequence, Tuple, Type, TypeVar, Union
 
 from . import _sys
 
@@ -61,12 +61,12 @@ def answered(answer: Any) -> Any:
 
 
 def signed(value: int) -> int:
-    """A day: beyond 64 bits it is as far outside every span as the farthest that 64 bits hold."""
+    """A day, an offset of GOCE: beyond 64 bits it is as far outside every span as the farthest that 64 bits hold."""
     return max(-_I64, min(_I64 - 1, index(value)))
 
 
 def unsigned(value: int) -> int:
-    """A microsecond, a period, a count: negative or beyond 64 bits it is over every limit, as 2^64 - 1 is."""
+    """A microsecond, a period, a rate, a count: negative or beyond 64 bits it is over every limit, as 2^64 - 1 is."""
     return index(value) if 0 <= index(value) < _U64 else _U64 - 1
 
 
@@ -250,48 +250,3 @@ def change(time: Handed, scale: Type[T], leap_list: LeapList) -> T:
     of the two. Refused: 4; 5; 7; 9; 10; 11."""
     answer = _sys.library().vrk_change(handed(time), code(scale), *listed(leap_list))
     return scale._of(answer)
-
-
-@dataclass(frozen=True)
-class Correlation(Generic[T]):
-    """One tick, the time it stood for, and how long it may be relied on. One that is not accepted is refused with 6.
-
-    tick       the reference tick
-    reference  the time that it stood for, below microsecond 86,400,000,000; its scale is the correlation's
-    period     picoseconds of a tick, from 3,906,000,000 to 3,906,500,000
-    back       ticks back, to 2^31
-    ahead      ticks ahead, to 2^31 - 1
-    """
-
-    tick: int
-    reference: T
-    period: int
-    back: int
-    ahead: int
-
-    def _given(self) -> _sys.VrkCorrelation:
-        due(self.reference, SCALES, "a Tai, Utc or Gps as reference")
-        # A reference tick that is none cannot be accepted, as a period of 0 cannot.
-        known = 0 <= index(self.tick) < _U32
-        return _sys.VrkCorrelation(
-            self.tick if known else 0,
-            self.reference.CODE,
-            signed(self.reference.day),
-            unsigned(self.reference.micro),
-            unsigned(self.period) if known else 0,
-            unsigned(self.back),
-            unsigned(self.ahead),
-        )
-
-    def date(self, tick: int, receipt: T) -> T:
-        """The time of a tick whose packet was received at `receipt`, rounded down. Refused: 3 where the number is no tick; 6;
-        7 for the receipt; 8 where the tick lies outside the window or the receipt outside the window's times; 11."""
-        scale, correlation = type(self.reference), self._given()
-        due(receipt, scale, f"a receipt in {scale.__name__}")
-        given = narrow(tick), correlation, signed(receipt.day), unsigned(receipt.micro)
-        return scale._of(_sys.library().vrk_sbt_date(*given))
-
-    def tick_of(self, time: Handed) -> int:
-        """The last tick of the window whose time is not later. Refused: 4; 6; 7; 8 outside the window's times, not judged of a
-        time that gets 12; 12 another scale or second 60."""
-        return answered(_sys.library().vrk_sbt_tick(handed(time), self._given())).count

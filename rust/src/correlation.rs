@@ -1,8 +1,8 @@
-//! SBT ticks and their correlation.
+//! SBT ticks, GOCE counts, and the correlation of each.
 
 use crate::error::{answered, Error};
 use crate::sys;
-use crate::time::{at, Handed, Scaled};
+use crate::time::{at, Handed, Scaled, Utc};
 
 /// An SBT tick, a counter of 32 bits. It means nothing without its [`Correlation`].
 #[derive(Clone, Copy, PartialEq, Eq, Hash, Debug)]
@@ -63,5 +63,63 @@ impl<T: Scaled> Correlation<T> {
     pub fn tick_of(&self, time: impl Into<Handed>) -> Result<Tick, Error> {
         let counted = sys::sbt_tick(time.into().given(), self.given());
         answered(counted.refusal, Tick(counted.count as u32))
+    }
+}
+
+/// A correlation of GOCE's clock, always in UTC: one count, the time it stood for, the clock's rate, and how long it may be
+/// relied on. A count is 1/65536 s; its time is Gradient x (OBT - OBT0) + Offset + UTC0 from 1 January 2000, in days of 86,400 s.
+///
+/// Any correlation can be built. One that is not accepted is refused with 6 by each function.
+///
+/// ```
+/// use vrikshonem::{GoceCorrelation, Utc};
+/// // a second before the counter's wrap; UTC0 and Offset together are 17 March 2009, 16:00:00
+/// let launch = GoceCorrelation {
+///     obt0: 0xFFFF_FFFF_0000,
+///     utc0: (3363 * 86_400 + 57_601) * 65_536,
+///     offset: -65_536,
+///     gradient: 1_000_000_021,
+///     back: 0,
+///     ahead: 30 * 86_400 * 65_536,
+/// };
+/// let received = Utc::new(3363, 57_660_000_000);
+/// assert_eq!(launch.date(1, received), Ok(Utc::new(3363, 57_601_000_015)));
+/// assert_eq!(launch.count_of(Utc::new(3363, 57_601_000_015)), Ok(1));
+/// // received in May: the correlation is no longer in force
+/// assert_eq!(launch.date(1, Utc::new(3410, 0)).unwrap_err().number, 8);
+/// ```
+#[derive(Clone, Copy, PartialEq, Eq, Debug)]
+pub struct GoceCorrelation {
+    /// The reference count, below 2^48.
+    pub obt0: u64,
+    /// The time that it stood for, in counts, before the offset is added; below 2^48.
+    pub utc0: u64,
+    /// Counts that are added to it, at most one day (5,662,310,400) either way. The sum lies in the UTC span.
+    pub offset: i64,
+    /// The clock's rate in billionths, from 999,000,000 to 1,001,000,000.
+    pub gradient: u64,
+    /// Counts back, to 2^47.
+    pub back: u64,
+    /// Counts ahead, to 2^47 - 1.
+    pub ahead: u64,
+}
+
+impl GoceCorrelation {
+    fn given(&self) -> sys::VrkGoceCorrelation {
+        let GoceCorrelation { obt0, utc0, offset, gradient, back, ahead } = *self;
+        sys::VrkGoceCorrelation { obt0, utc0, offset, gradient, back, ahead }
+    }
+
+    /// The time of a count whose packet was received at `receipt`, rounded down once. Refused: 3 from 2^48 on; 6; 7 for the
+    /// receipt; 8 where the count lies outside the window or the receipt outside the window's times; 11.
+    pub fn date(&self, obt: u64, receipt: Utc) -> Result<Utc, Error> {
+        at(sys::goce_date(obt, self.given(), receipt.day, receipt.micro))
+    }
+
+    /// The last count of the window whose time is not later. Refused: 4; 6; 7; 8 outside the window's times, not judged of a
+    /// time that gets 12; 12 another scale than UTC, or second 60.
+    pub fn count_of(&self, time: impl Into<Handed>) -> Result<u64, Error> {
+        let counted = sys::goce_count(time.into().given(), self.given());
+        answered(counted.refusal, counted.count)
     }
 }

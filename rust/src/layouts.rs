@@ -46,7 +46,7 @@ pub mod cuc {
     }
 }
 
-/// GOCE OBT, 6 bytes: a count of 48 bits, without an epoch.
+/// GOCE OBT, 6 bytes: a count of 48 bits, without an epoch; a [`GoceCorrelation`](crate::GoceCorrelation) dates it.
 pub mod goce {
     use super::*;
 

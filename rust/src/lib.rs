@@ -37,7 +37,7 @@ mod sys;
 pub mod text;
 mod time;
 
-pub use correlation::{Correlation, Tick};
+pub use correlation::{Correlation, GoceCorrelation, Tick};
 pub use error::Error;
 pub use layouts::{cryosat, cuc, goce, obet, proteus, sbt, siral};
 pub use leap::{change, LeapList};

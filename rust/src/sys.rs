@@ -58,6 +58,17 @@ pub struct VrkCorrelation {
 
 #[repr(C)]
 #[derive(Clone, Copy)]
+pub struct VrkGoceCorrelation {
+    pub obt0: u64,
+    pub utc0: u64,
+    pub offset: i64,
+    pub gradient: u64,
+    pub back: u64,
+    pub ahead: u64,
+}
+
+#[repr(C)]
+#[derive(Clone, Copy)]
 pub struct VrkProteus {
     pub refusal: u32,
     pub scale: u32,
@@ -108,6 +119,8 @@ extern "C" {
     pub fn vrk_decimal_write(time: VrkHanded) -> VrkDecimal;
     pub fn vrk_sbt_date(tick: u32, correlation: VrkCorrelation, receipt_day: i64, receipt_micro: u64) -> VrkTime;
     pub fn vrk_sbt_tick(time: VrkHanded, correlation: VrkCorrelation) -> VrkCount;
+    pub fn vrk_goce_date(obt: u64, correlation: VrkGoceCorrelation, receipt_day: i64, receipt_micro: u64) -> VrkTime;
+    pub fn vrk_goce_count(time: VrkHanded, correlation: VrkGoceCorrelation) -> VrkCount;
     pub fn vrk_list_accepted(days: *const i64, day_count: usize, offsets: *const u64, offset_count: usize, last: i64) -> u32;
     pub fn vrk_change(
         time: VrkHanded, to_scale: u32,
@@ -207,6 +220,14 @@ pub(crate) fn sbt_date(tick: u32, correlation: VrkCorrelation, receipt_day: i64,
 
 pub(crate) fn sbt_tick(time: VrkHanded, correlation: VrkCorrelation) -> VrkCount {
     unsafe { vrk_sbt_tick(time, correlation) }
+}
+
+pub(crate) fn goce_date(obt: u64, correlation: VrkGoceCorrelation, receipt_day: i64, receipt_micro: u64) -> VrkTime {
+    unsafe { vrk_goce_date(obt, correlation, receipt_day, receipt_micro) }
+}
+
+pub(crate) fn goce_count(time: VrkHanded, correlation: VrkGoceCorrelation) -> VrkCount {
+    unsafe { vrk_goce_count(time, correlation) }
 }
 
 pub(crate) fn list_accepted(days: &[i64], offsets: &[u64], last: i64) -> u32 {

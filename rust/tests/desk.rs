@@ -14,6 +14,10 @@ fn correlation<T>(tick: u32, reference: T, back: u64, ahead: u64) -> Correlation
     Correlation { tick: Tick(tick), reference, period: 3_906_250_000, back, ahead }
 }
 
+// GOCE's clock, exactly as fast as UTC, with its widest window.
+const GOCE: GoceCorrelation =
+    GoceCorrelation { obt0: 0, utc0: 0, offset: 0, gradient: 1_000_000_000, back: 1 << 47, ahead: (1 << 47) - 1 };
+
 #[test]
 fn marked_cases() {
     // 1
@@ -146,6 +150,46 @@ fn a_window_has_two_ends() {
         assert_eq!(held.date(Tick(100), Utc::new(0, micro)).is_ok(), good, "{micro}");
     }
     assert_eq!(refused(held.date(Tick(100), Utc::new(0, DAY))), 7);
+}
+
+#[test]
+fn goce_counts_are_dated() {
+    let received = Utc::new(0, 0);
+    assert_eq!(GOCE.date(1, received), Ok(Utc::new(0, 15)));
+    // a count before the reference, past the wrap, is rounded towards the past
+    assert_eq!(GOCE.date((1 << 48) - 1, received), Ok(Utc::new(-1, DAY - 16)));
+    // one rounding: 45.8 and 45.8 are 91
+    assert_eq!(GoceCorrelation { utc0: 3, ..GOCE }.date(3, received), Ok(Utc::new(0, 91)));
+    // the offset has a sign, and the rate is of the difference alone
+    let held = GoceCorrelation { obt0: 65_536, utc0: 7 * 65_536, offset: -65_536, gradient: 1_001_000_000, ..GOCE };
+    assert_eq!(held.date(2 * 65_536, received), Ok(Utc::new(0, 7_001_000)));
+    for count in [0, 1, (1 << 47) - 1, (1 << 48) - 1] {
+        let time = GOCE.date(count, received);
+        assert_eq!(time.and_then(|time| GOCE.count_of(time)), Ok(count), "{count}");
+    }
+    assert_eq!(GOCE.count_of(Utc::new(0, 14)), Ok(0));
+    assert_eq!(GOCE.count_of(Handed::Decimal(-0.5, Scale::Utc)), Ok((1 << 48) - 43_200 * 65_536));
+}
+
+#[test]
+fn goce_refuses() {
+    let received = Utc::new(0, 0);
+    assert_eq!(refused(GOCE.date(1 << 48, Utc::new(0, DAY))), 3);
+    assert_eq!(refused(GoceCorrelation { obt0: 1 << 48, ..GOCE }.date(0, Utc::new(0, DAY))), 6);
+    assert_eq!(refused(GoceCorrelation { offset: -5_662_310_401, ..GOCE }.count_of(received)), 6);
+    assert_eq!(refused(GOCE.date(0, Utc::new(0, DAY))), 7);
+    let narrow = GoceCorrelation { back: 0, ahead: 1, ..GOCE };
+    assert_eq!(narrow.date(1, Utc::new(0, 15)), Ok(Utc::new(0, 15)));
+    assert_eq!(refused(narrow.date(2, received)), 8);
+    assert_eq!(refused(narrow.date(1, Utc::new(0, 16))), 8);
+    assert_eq!(refused(narrow.count_of(Utc::new(0, 16))), 8);
+    // half a wrap is more than 68 years, and UTC begins in 1972
+    assert_eq!(refused(GOCE.date(1 << 47, received)), 11);
+    assert_eq!(refused(GOCE.count_of(Handed::Decimal(f64::NAN, Scale::Utc))), 4);
+    assert_eq!(refused(GOCE.count_of(Utc::new(36525, 0))), 7);
+    // of a time without an image 8 is not judged
+    assert_eq!(refused(narrow.count_of(Utc::new(1, DAY))), 12);
+    assert_eq!(refused(narrow.count_of(Gps::new(1, 0))), 12);
 }
 
 #[test]

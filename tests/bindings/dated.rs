@@ -5,7 +5,7 @@
 mod independent;
 
 use independent::correlation::Correlation;
-use independent::layouts::{cryosat, cuc, number, proteus, sbt, siral};
+use independent::layouts::{cryosat, cuc, goce, number, proteus, sbt, siral};
 use independent::leap::{change, List};
 use independent::time::{Handed, Moment, Scale};
 use independent::{text, Number};
@@ -15,7 +15,7 @@ const JANUARY: [i64; 17] =
     [1972, 1973, 1974, 1975, 1976, 1977, 1978, 1979, 1980, 1988, 1990, 1991, 1996, 1999, 2006, 2009, 2017];
 const JULY: [i64; 11] = [1972, 1981, 1982, 1983, 1985, 1992, 1993, 1994, 1997, 2012, 2015];
 
-const NAMES: [&str; 6] = ["?", "CUC", "Proteus", "CryoSat", "SIRAL", "SBT"];
+const NAMES: [&str; 7] = ["?", "CUC", "Proteus", "CryoSat", "SIRAL", "SBT", "GOCE"];
 
 // Document 01's table.
 const WORDS: [&str; 14] = [
@@ -40,7 +40,7 @@ fn day_of(year: i64, month: u64) -> i64 {
 }
 
 fn dated(layout: u8, time: &[u8], receipt: Moment) -> Result<(Scale, Moment), Number> {
-    let correlation = Correlation {
+    let ticks = Correlation {
         tick: 0xFFFF_F000,
         scale: Scale::Utc,
         reference: Moment { day: 640, micro: 36_000_000_000 },
@@ -48,12 +48,21 @@ fn dated(layout: u8, time: &[u8], receipt: Moment) -> Result<(Scale, Moment), Nu
         back: 86_400 * 256,
         ahead: 30 * 86_400 * 256,
     };
+    let counts = independent::goce::Correlation {
+        obt0: 0xFFFF_FFFF_0000,
+        utc0: (3363 * 86_400 + 57_600) * 65_536,
+        offset: -16_384,
+        gradient: 1_000_000_021,
+        back: 86_400 * 65_536,
+        ahead: 30 * 86_400 * 65_536,
+    };
     match layout {
         1 => Ok((Scale::Gps, cuc::read(time)?)),
         2 => Ok((Scale::Utc, proteus::read(time)?.0)),
         3 => Ok((Scale::Tai, cryosat::read(time)?)),
         4 => Ok((Scale::Tai, siral::read(time)?)),
-        _ => Ok((Scale::Utc, correlation.date(sbt::read(time)? as u32, receipt)?)),
+        5 => Ok((Scale::Utc, ticks.date(sbt::read(time)? as u32, receipt)?)),
+        _ => Ok((Scale::Utc, counts.date(goce::read(time)?, receipt)?)),
     }
 }
 
@@ -65,7 +74,7 @@ fn main() {
     let list = List { days: &days, offsets: &offsets, last: 9131 };
     for (k, packet) in std::fs::read(file).expect("the packets").chunks(24).enumerate() {
         let (layout, count) = (packet[0], packet[1] as usize);
-        if !(1..=5).contains(&layout) || count > 10 {
+        if !(1..=6).contains(&layout) || count > 10 {
             println!("{:2} ?       not a packet", k + 1);
             continue;
         }

@@ -19,7 +19,7 @@ STANDARDS = [("gcc", "c", "c99"), ("gcc", "c", "c11"), ("g++", "cc", "c++98"), (
 FAULTS = [
     ("a function left out", "vrk_count vrk_goce_read(const uint8_t *bytes, size_t count);", "", True),
     ("a function too many", "vrk_written vrk_sbt_write(", "int vrk_more(void);\nvrk_written vrk_sbt_write(", False),
-    ("fields in another order", "uint64_t back;\n    uint64_t ahead;", "uint64_t ahead;\n    uint64_t back;", True),
+    ("fields in another order", "uint64_t obt0;\n    uint64_t utc0;", "uint64_t utc0;\n    uint64_t obt0;", True),
     ("a field of another width", "    uint64_t length;", "    uint32_t length;", True),
     ("a parameter of another type", "vrk_decimal_read(double day, uint32_t", "vrk_decimal_read(double day, uint64_t", True),
     ("parameters in another order", "uint32_t seconds, uint32_t fraction,", "uint32_t fraction, uint32_t seconds,", False),
@@ -27,7 +27,7 @@ FAULTS = [
 ]
 RUST_FAULTS = [
     ("a function left out", "    pub fn vrk_goce_read(bytes: *const u8, count: usize) -> VrkCount;\n", ""),
-    ("fields in another order", "    pub back: u64,\n    pub ahead: u64,\n", "    pub ahead: u64,\n    pub back: u64,\n"),
+    ("fields in another order", "    pub obt0: u64,\n    pub utc0: u64,\n", "    pub utc0: u64,\n    pub obt0: u64,\n"),
     ("a field of another width", "    pub length: u64,", "    pub length: u32,"),
     ("another result", "-> VrkDecimal;", "-> VrkCount;"),
 ]

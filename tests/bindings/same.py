@@ -44,14 +44,19 @@ def in_rust():
         for comment, function in re.findall(r"((?:    /// .*\n)+)    pub fn (\w+)\(", body):
             way, *fields = function.split("_")
             found["_".join([layout, *fields, way])] = listed(comment.replace("///", ""))
+    clocks = re.findall(r"^impl[^\n]* (\w*)Correlation\b[^\n]*\n(.*?)^\}", read("rust/src/correlation.rs"), re.M | re.S)
+    for mission, body in clocks:
+        for comment, function in re.findall(r"((?:    /// .*\n)+)    pub fn (date|tick|count)\w*\(", body):
+            found[f"{mission.lower() or 'sbt'}_{function}"] = listed(comment.replace("///", ""))
     return found
 
 
 def in_python():
     names = [name for name in dir(vrikshonem) if re.search("_read$|_write$|^change$", name)]
     functions = {name: getattr(vrikshonem, name) for name in names}
-    dated = vrikshonem.Correlation
-    functions |= {"sbt_date": dated.date, "sbt_tick": dated.tick_of, "decimal_read": vrikshonem.Tai.from_decimal}
+    sbt, goce = vrikshonem.Correlation, vrikshonem.GoceCorrelation
+    functions |= {"sbt_date": sbt.date, "sbt_tick": sbt.tick_of, "goce_date": goce.date, "goce_count": goce.count_of}
+    functions["decimal_read"] = vrikshonem.Tai.from_decimal
     return {name: listed(function.__doc__) for name, function in functions.items()}
 
 
@@ -69,7 +74,7 @@ def refusals():
         for language, found in ("Rust", rust.get(name)), ("Python", python.get(name)):
             same = found is None or [one for one in found if one != 3] == [one for one in numbers if one != 3]
             tally.expect(f"the words for {language} list the refusals of {name}", same, str(found))
-    tally.expect("the words for Rust and Python are read", len(rust) == 22 and len(python) == 28, f"{len(rust)} {len(python)}")
+    tally.expect("the words for Rust and Python are read", len(rust) == 26 and len(python) == 30, f"{len(rust)} {len(python)}")
 
 
 def version():

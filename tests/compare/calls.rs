@@ -1,12 +1,17 @@
 //! The functions of the interface, how their inputs are made, and what the independent program says of each.
 
+mod clock;
 mod correlation;
 mod decimal;
 mod fields;
+mod goce;
 mod handed;
 mod layouts;
 mod leap;
 mod text;
+
+use crate::independent::time::{Moment, Scale};
+use crate::independent::Number;
 
 /// As in serve.c.
 pub const ANSWER: usize = 6;
@@ -64,6 +69,8 @@ pub const FUNCTIONS: &[Function] = &[
     Function { name: "siral_fields_write", number: 27, make: fields::make_siral_write, model: fields::model_siral_write },
     Function { name: "text_read", number: 28, make: text::make_read, model: text::model_read },
     Function { name: "text_write", number: 29, make: text::make_write, model: text::model_write },
+    Function { name: "goce_date", number: 30, make: goce::make_date, model: goce::model_date },
+    Function { name: "goce_count", number: 31, make: goce::make_count, model: goce::model_count },
 ];
 
 impl Call {
@@ -77,6 +84,22 @@ pub fn answered(call: &Call, words: &[u64]) -> Answer {
     let mut all = words.to_vec();
     all.resize(ANSWER, 0);
     Answer { words: all, lent: call.lent.clone() }
+}
+
+/// A time of the scale, or a refusal.
+pub fn timed(call: &Call, scale: Scale, time: Result<Moment, Number>) -> Answer {
+    match time {
+        Ok(moment) => answered(call, &[0, scale.code(), moment.day as u64, moment.micro]),
+        Err(number) => answered(call, &[number, scale.code()]),
+    }
+}
+
+/// A count, or a refusal.
+pub fn counted(call: &Call, count: Result<u64, Number>) -> Answer {
+    match count {
+        Ok(count) => answered(call, &[0, count]),
+        Err(number) => answered(call, &[number]),
+    }
 }
 
 /// A run of numbers that is the same each time: a failure can be looked at again.

@@ -27,6 +27,7 @@ enum {
     CRYOSAT_READ, CRYOSAT_WRITE, SIRAL_READ, SIRAL_WRITE, SBT_READ, SBT_WRITE,
     CUC_FIELDS_READ, CUC_FIELDS_WRITE, PROTEUS_FIELDS_READ, PROTEUS_FIELDS_WRITE,
     CRYOSAT_FIELDS_READ, CRYOSAT_FIELDS_WRITE, SIRAL_FIELDS_READ, SIRAL_FIELDS_WRITE, TEXT_READ, TEXT_WRITE,
+    GOCE_DATE, GOCE_COUNT,
 };
 
 static uint64_t w[MOST / 8], answer[ANSWER];
@@ -47,6 +48,11 @@ static void decimal_is(vrk_decimal d) { answer[0] = d.refusal, answer[1] = bits_
 
 static vrk_correlation correlation_at(const uint64_t *a) {
     vrk_correlation c = {(uint32_t)a[0], (uint32_t)a[1], (int64_t)a[2], a[3], a[4], a[5], a[6]};
+    return c;
+}
+
+static vrk_goce_correlation goce_correlation_at(const uint64_t *a) {
+    vrk_goce_correlation c = {a[0], a[1], (int64_t)a[2], a[3], a[4], a[5]};
     return c;
 }
 
@@ -103,6 +109,8 @@ static int call(uint32_t function, const unsigned char *in, size_t in_len, unsig
     case SIRAL_FIELDS_WRITE: written_is(vrk_siral_fields_write(W(0), W(1), W(2), W(3), out, out_len)); return 1;
     case TEXT_READ: time_is(vrk_text_read(in, in_len, LIST(w))); return 1;
     case TEXT_WRITE: written_is(vrk_text_write(handed_at(w), LIST(w + 6), W(5), out, out_len)); return 1;
+    case GOCE_DATE: time_is(vrk_goce_date(w[0], goce_correlation_at(w + 1), (int64_t)w[7], w[8])); return 1;
+    case GOCE_COUNT: count_is(vrk_goce_count(handed_at(w), goce_correlation_at(w + 5))); return 1;
     }
     return 0;
 }

@@ -1,6 +1,6 @@
-use super::{answered, handed, Answer, Call, Random};
+use super::{answered, clock, counted, handed, timed, Answer, Call, Random};
 use crate::independent::correlation::Correlation;
-use crate::independent::time::{moment_at, since_day_0, Moment, Scale};
+use crate::independent::time::{since_day_0, Moment, Scale};
 
 /// The seven words of a vrk_correlation: tick, scale, day, micro, period, back, ahead.
 fn words(random: &mut Random) -> Vec<u64> {
@@ -22,19 +22,7 @@ fn words(random: &mut Random) -> Vec<u64> {
         3 => 3_906_250_000,
         _ => 3_906_000_000 + random.below(500_001),
     };
-    vec![tick, scale, day as u64, micro, period, reach(random, 1 << 31), reach(random, (1 << 31) - 1)]
-}
-
-fn reach(random: &mut Random, most: u64) -> u64 {
-    match random.below(12) {
-        0 => 0,
-        1 => 1,
-        2 => most,
-        3 if random.one_in(3) => most + 1,
-        3 if random.one_in(3) => random.next(),
-        4 => random.below(1000),
-        _ => random.below(most + 1),
-    }
+    vec![tick, scale, day as u64, micro, period, clock::reach(random, 1 << 31), clock::reach(random, (1 << 31) - 1)]
 }
 
 fn of(words: &[u64]) -> Option<Correlation> {
@@ -48,72 +36,43 @@ fn of(words: &[u64]) -> Option<Correlation> {
     })
 }
 
-/// A count of the window, at its ends, or just outside.
-fn count(random: &mut Random, words: &[u64]) -> i128 {
-    let (back, ahead) = (i128::from(words[5].min(1 << 32)), i128::from(words[6].min(1 << 32)));
-    match random.below(8) {
-        0 => -back,
-        1 => ahead,
-        2 => -back - 1,
-        3 => ahead + 1,
-        4 => 0,
-        _ => i128::from(random.below((back + ahead + 1) as u64)) - back,
-    }
-}
-
-/// The time at such a count, or a microsecond beside it.
 fn moment(random: &mut Random, words: &[u64]) -> Moment {
     let reference = since_day_0(Moment { day: (words[2] as i64).clamp(-100_000, 100_000), micro: words[3].min(1 << 40) });
-    let beside = random.pick(&[-1, 0, 0, 0, 1, 2000]);
-    let at = if random.one_in(4) { 0 } else { count(random, words) };
-    moment_at(reference + (at * i128::from(words[4].min(1 << 40))).div_euclid(1_000_000) + beside)
+    let period = i128::from(words[4].min(1 << 40));
+    clock::moment(random, &words[5..], |k| reference + (k * period).div_euclid(1_000_000))
 }
 
 pub fn make_date(random: &mut Random) -> Call {
     let correlation = words(random);
-    let tick = if random.one_in(8) { random.next() as u32 } else { (i128::from(correlation[0]) + count(random, &correlation)) as u32 };
-    let receipt = if random.one_in(12) { Moment { day: handed::day(random), micro: handed::micro(random) } } else { moment(random, &correlation) };
+    let at = i128::from(correlation[0]) + clock::count(random, &correlation[5..]);
+    let tick = if random.one_in(8) { random.next() as u32 } else { at as u32 };
+    let moment = moment(random, &correlation);
     let mut all = vec![u64::from(tick)];
     all.extend(correlation);
-    all.extend([receipt.day as u64, receipt.micro]);
+    all.extend(clock::receipt(random, moment));
     Call::of(all)
 }
 
 pub fn model_date(call: &Call) -> Answer {
     let Some(correlation) = of(&call.words[1..8]) else { return answered(call, &[6]) };
-    let scale = correlation.scale.code();
     let receipt = Moment { day: call.words[8] as i64, micro: call.words[9] };
-    match correlation.date(call.words[0] as u32, receipt) {
-        Ok(moment) => answered(call, &[0, scale, moment.day as u64, moment.micro]),
-        Err(number) => answered(call, &[number, scale]),
-    }
+    timed(call, correlation.scale, correlation.date(call.words[0] as u32, receipt))
 }
 
 pub fn make_tick(random: &mut Random) -> Call {
     let correlation = words(random);
-    let mut all = handed::words(random);
-    if !random.one_in(4) {
-        let moment = moment(random, &correlation);
-        all[1] = correlation[1];
-        all[2] = moment.day as u64;
-        all[3] = moment.micro;
-        if !random.one_in(6) {
-            all[4] = (moment.day as f64 + moment.micro as f64 / 86_400_000_000.0).to_bits();
-        }
-    }
+    let moment = moment(random, &correlation);
+    let mut all = clock::handed(random, correlation[1], moment);
     all.extend(correlation);
     Call::of(all)
 }
 
 pub fn model_tick(call: &Call) -> Answer {
-    let number = match (handed::of(&call.words), of(&call.words[5..])) {
+    let tick = match (handed::of(&call.words), of(&call.words[5..])) {
         (None, _) => Err(3),
         // an unknown scale is a correlation that is not accepted
         (Some(handed), None) => handed.finite().and(Err(6)),
         (Some(handed), Some(correlation)) => correlation.tick_of(handed),
     };
-    match number {
-        Ok(tick) => answered(call, &[0, u64::from(tick)]),
-        Err(number) => answered(call, &[number]),
-    }
+    counted(call, tick.map(u64::from))
 }

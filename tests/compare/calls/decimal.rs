@@ -1,4 +1,4 @@
-use super::{answered, handed, Answer, Call, Random};
+use super::{answered, handed, timed, Answer, Call, Random};
 use crate::independent::decimal;
 use crate::independent::time::Scale;
 
@@ -8,10 +8,7 @@ pub fn make_read(random: &mut Random) -> Call {
 
 pub fn model_read(call: &Call) -> Answer {
     let Some(scale) = Scale::coded(call.words[1]) else { return answered(call, &[3]) };
-    match decimal::read(f64::from_bits(call.words[0]), scale) {
-        Ok(moment) => answered(call, &[0, scale.code(), moment.day as u64, moment.micro]),
-        Err(number) => answered(call, &[number, scale.code()]),
-    }
+    timed(call, scale, decimal::read(f64::from_bits(call.words[0]), scale))
 }
 
 pub fn make_write(random: &mut Random) -> Call {

@@ -1,6 +1,6 @@
-use super::{answered, handed, Answer, Call, Random};
+use super::{answered, counted, handed, timed, Answer, Call, Random};
 use crate::independent::layouts::{cryosat, cuc, field, goce, obet, proteus, sbt, siral};
-use crate::independent::time::{Moment, Scale};
+use crate::independent::time::Scale;
 use crate::independent::Number;
 
 // ---- bytes in
@@ -114,20 +114,6 @@ readers! {
 }
 
 // ---- what the readers give
-
-fn timed(call: &Call, scale: Scale, read: Result<Moment, Number>) -> Answer {
-    match read {
-        Ok(moment) => answered(call, &[0, scale.code(), moment.day as u64, moment.micro]),
-        Err(number) => answered(call, &[number, scale.code()]),
-    }
-}
-
-fn counted(call: &Call, read: Result<u64, Number>) -> Answer {
-    match read {
-        Ok(count) => answered(call, &[0, count]),
-        Err(number) => answered(call, &[number]),
-    }
-}
 
 pub fn model_cuc_read(call: &Call) -> Answer {
     timed(call, Scale::Gps, cuc::read(&call.input))

@@ -1,4 +1,4 @@
-use super::{answered, handed, Answer, Call, Random};
+use super::{answered, handed, timed, Answer, Call, Random};
 use crate::independent::calendar::{day_of, Date};
 use crate::independent::leap::{change, List};
 use crate::independent::lines::steps as published;
@@ -144,8 +144,5 @@ pub fn make_change(random: &mut Random) -> Call {
 pub fn model_change(call: &Call) -> Answer {
     let (handed, to) = (handed::of(&call.words), Scale::coded(call.words[5]));
     let (Some(handed), Some(to)) = (handed, to) else { return answered(call, &[3, to.map_or(0, Scale::code)]) };
-    match with(&call.words[6..], |list| change(handed, to, list)) {
-        Ok(moment) => answered(call, &[0, to.code(), moment.day as u64, moment.micro]),
-        Err(number) => answered(call, &[number, to.code()]),
-    }
+    timed(call, to, with(&call.words[6..], |list| change(handed, to, list)))
 }

@@ -1,0 +1,100 @@
+"""The correlations of SBT ticks and GOCE counts."""
+
+from __future__ import annotations
+
+from dataclasses import dataclass
+from operator import index
+from typing import Generic
+
+from . import _sys
+from ._times import SCALES, Handed, T, Utc, answered, due, handed, narrow, signed, unsigned
+
+
+@dataclass(frozen=True)
+class Correlation(Generic[T]):
+    """One tick, the time it stood for, and how long it may be relied on. One that is not accepted is refused with 6.
+
+    tick       the reference tick
+    reference  the time that it stood for, below microsecond 86,400,000,000; its scale is the correlation's
+    period     picoseconds of a tick, from 3,906,000,000 to 3,906,500,000
+    back       ticks back, to 2^31
+    ahead      ticks ahead, to 2^31 - 1
+    """
+
+    tick: int
+    reference: T
+    period: int
+    back: int
+    ahead: int
+
+    def _given(self) -> _sys.VrkCorrelation:
+        due(self.reference, SCALES, "a Tai, Utc or Gps as reference")
+        # A reference tick that is none cannot be accepted, as a period of 0 cannot.
+        known = 0 <= index(self.tick) < 2**32
+        return _sys.VrkCorrelation(
+            self.tick if known else 0,
+            self.reference.CODE,
+            signed(self.reference.day),
+            unsigned(self.reference.micro),
+            unsigned(self.period) if known else 0,
+            unsigned(self.back),
+            unsigned(self.ahead),
+        )
+
+    def date(self, tick: int, receipt: T) -> T:
+        """The time of a tick whose packet was received at `receipt`, rounded down. Refused: 3 where the number is no tick; 6;
+        7 for the receipt; 8 where the tick lies outside the window or the receipt outside the window's times; 11."""
+        scale, correlation = type(self.reference), self._given()
+        due(receipt, scale, f"a receipt in {scale.__name__}")
+        given = narrow(tick), correlation, signed(receipt.day), unsigned(receipt.micro)
+        return scale._of(_sys.library().vrk_sbt_date(*given))
+
+    def tick_of(self, time: Handed) -> int:
+        """The last tick of the window whose time is not later. Refused: 4; 6; 7; 8 outside the window's times, not judged of a
+        time that gets 12; 12 another scale or second 60."""
+        return answered(_sys.library().vrk_sbt_tick(handed(time), self._given())).count
+
+
+@dataclass(frozen=True)
+class GoceCorrelation:
+    """A correlation of GOCE's clock, always in UTC: one count, the time it stood for, the clock's rate, and how long it may be
+    relied on. A count is 1/65536 s; its time is Gradient x (OBT - OBT0) + Offset + UTC0 from 1 January 2000, in days of
+    86,400 s. One that is not accepted is refused with 6.
+
+    obt0      the reference count, below 2^48
+    utc0      the time that it stood for, in counts, before the offset is added; below 2^48
+    offset    counts that are added to it, at most one day (5,662,310,400) either way; the sum lies in the UTC span
+    gradient  the clock's rate in billionths, from 999,000,000 to 1,001,000,000
+    back      counts back, to 2^47
+    ahead     counts ahead, to 2^47 - 1
+    """
+
+    obt0: int
+    utc0: int
+    offset: int
+    gradient: int
+    back: int
+    ahead: int
+
+    def _given(self) -> _sys.VrkGoceCorrelation:
+        return _sys.VrkGoceCorrelation(
+            unsigned(self.obt0),
+            unsigned(self.utc0),
+            signed(self.offset),
+            unsigned(self.gradient),
+            unsigned(self.back),
+            unsigned(self.ahead),
+        )
+
+    def date(self, obt: int, receipt: Utc) -> Utc:
+        """The time of a count whose packet was received at `receipt`, rounded down once. Refused: 3 where the number is no count
+        of 48 bits; 6; 7 for the receipt; 8 where the count lies outside the window or the receipt outside the window's times;
+        11."""
+        due(receipt, Utc, "a receipt in Utc")
+        given = unsigned(obt), self._given(), signed(receipt.day), unsigned(receipt.micro)
+        return Utc._of(_sys.library().vrk_goce_date(*given))
+
+    def count_of(self, time: Handed) -> int:
+        """The last count of the window whose time is not later. Refused: 4; 6; 7; 8 outside the window's times, not judged of a
+        time that gets 12; 12 another scale than UTC, or second 60."""
+        return answered(_sys.library().vrk_goce_count(handed(time), self._given())).count
