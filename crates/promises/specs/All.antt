@@ -5,8 +5,10 @@ use Rattle.decimal_laws.proofs.Trip.{later as decimal-laws-trip-later, trip}
 use Rattle.decimal_laws.proofs.Unique.{nearest-one}
 use Rattle.leap.specs.Published.{published}
 use Rattle.leap_laws.proofs.Changes.{later as leap-laws-changes-later, only, round, the-one}
-use Rattle.correlation_laws.proofs.Answers.{dates, turns}
-use Rattle.correlation_laws.proofs.Trips.{little-earlier, never-later, record-back, same-tick}
+use Rattle.correlation_laws.proofs.Answers.{dates as correlation-laws-answers-dates, exact as correlation-laws-answers-exact, turns as correlation-laws-answers-turns}
+use Rattle.correlation_laws.proofs.Trips.{little-earlier as correlation-laws-trips-little-earlier, never-later as correlation-laws-trips-never-later, record-back as correlation-laws-trips-record-back, same-tick}
+use Rattle.goce_laws.proofs.Answers.{dates as goce-laws-answers-dates, exact as goce-laws-answers-exact, turns as goce-laws-answers-turns}
+use Rattle.goce_laws.proofs.Trips.{little-earlier as goce-laws-trips-little-earlier, never-later as goce-laws-trips-never-later, record-back as goce-laws-trips-record-back, same-count}
 use Rattle.layouts_laws.proofs.Back.{cryosat-again, cuc-again, proteus-again, siral-again}
 use Rattle.layouts_laws.proofs.Fields.{cryosat-exact, cuc-exact, goce-exact, obet-exact, proteus-exact, sbt-exact, siral-exact}
 use Rattle.layouts_laws.proofs.Times.{cryosat-same, cuc-last, proteus-last, siral-same}
@@ -15,8 +17,8 @@ use Rattle.lines_laws.specs.Each.{one-each}
 use Rattle.lines_laws.specs.Run.{any-blocks, block, kept-is}
 use Rattle.marked.proofs.Marked.{marked}
 use Rattle.promises.specs.First.{exactly, first-is, first-then, promised, rows-are, then-first}
-use Rattle.promises.specs.Instances.{change-for-c-instance, cryosat-time-instance, cuc-time-instance, date-for-c-instance, exactly-instance, kept-instance, paper-instance, proteus-time-instance, refusal-instance, siral-time-instance, sixty-instance, text-read-for-c-instance, text-write-for-c-instance, tick-for-c-instance}
-use Rattle.promises.specs.One.{change as promises-one-change, cryosat-fields-read as promises-one-cryosat-fields-read, cryosat-fields-write as promises-one-cryosat-fields-write, cryosat-read as promises-one-cryosat-read, cryosat-write as promises-one-cryosat-write, cuc-fields-read as promises-one-cuc-fields-read, cuc-fields-write as promises-one-cuc-fields-write, cuc-read as promises-one-cuc-read, cuc-write as promises-one-cuc-write, date-of, day-of, decimal-read as promises-one-decimal-read, decimal-write, goce-read as promises-one-goce-read, goce-write, gps-to-tai, gps-to-utc, obet-read as promises-one-obet-read, obet-write, proteus-fields-read as promises-one-proteus-fields-read, proteus-fields-write as promises-one-proteus-fields-write, proteus-read as promises-one-proteus-read, proteus-write as promises-one-proteus-write, record-judged, sbt-date as promises-one-sbt-date, sbt-read as promises-one-sbt-read, sbt-tick as promises-one-sbt-tick, sbt-write, siral-fields-read as promises-one-siral-fields-read, siral-fields-write as promises-one-siral-fields-write, siral-read as promises-one-siral-read, siral-write as promises-one-siral-write, tai-to-gps, tai-to-utc, text-read as promises-one-text-read, text-write as promises-one-text-write, utc-to-gps, utc-to-tai}
-use Rattle.promises.specs.OneForC.{change as promises-one-for-c-change, cryosat-fields-read as promises-one-for-c-cryosat-fields-read, cryosat-fields-write as promises-one-for-c-cryosat-fields-write, cryosat-read as promises-one-for-c-cryosat-read, cryosat-write as promises-one-for-c-cryosat-write, cuc-fields-read as promises-one-for-c-cuc-fields-read, cuc-fields-write as promises-one-for-c-cuc-fields-write, cuc-read as promises-one-for-c-cuc-read, cuc-write as promises-one-for-c-cuc-write, decimal-read as promises-one-for-c-decimal-read, goce-read as promises-one-for-c-goce-read, obet-read as promises-one-for-c-obet-read, proteus-fields-read as promises-one-for-c-proteus-fields-read, proteus-fields-write as promises-one-for-c-proteus-fields-write, proteus-read as promises-one-for-c-proteus-read, proteus-write as promises-one-for-c-proteus-write, sbt-date as promises-one-for-c-sbt-date, sbt-read as promises-one-for-c-sbt-read, sbt-tick as promises-one-for-c-sbt-tick, siral-fields-read as promises-one-for-c-siral-fields-read, siral-fields-write as promises-one-for-c-siral-fields-write, siral-read as promises-one-for-c-siral-read, siral-write as promises-one-for-c-siral-write, text-read as promises-one-for-c-text-read, text-write as promises-one-for-c-text-write}
-use Rattle.promises.specs.Three.{change-for-c, date-for-c, old-dates-stay, text-read-for-c, text-write-for-c, tick-for-c}
+use Rattle.promises.specs.Instances.{change-for-c-instance, cryosat-time-instance, cuc-time-instance, date-for-c-instance, exactly-instance, goce-count-for-c-instance, goce-date-for-c-instance, kept-instance, paper-instance, proteus-time-instance, refusal-instance, siral-time-instance, sixty-instance, text-read-for-c-instance, text-write-for-c-instance, tick-for-c-instance}
+use Rattle.promises.specs.One.{change as promises-one-change, cryosat-fields-read as promises-one-cryosat-fields-read, cryosat-fields-write as promises-one-cryosat-fields-write, cryosat-read as promises-one-cryosat-read, cryosat-write as promises-one-cryosat-write, cuc-fields-read as promises-one-cuc-fields-read, cuc-fields-write as promises-one-cuc-fields-write, cuc-read as promises-one-cuc-read, cuc-write as promises-one-cuc-write, date-of, day-of, decimal-read as promises-one-decimal-read, decimal-write, goce-count as promises-one-goce-count, goce-date as promises-one-goce-date, goce-read as promises-one-goce-read, goce-write, gps-to-tai, gps-to-utc, obet-read as promises-one-obet-read, obet-write, proteus-fields-read as promises-one-proteus-fields-read, proteus-fields-write as promises-one-proteus-fields-write, proteus-read as promises-one-proteus-read, proteus-write as promises-one-proteus-write, record-judged, sbt-date as promises-one-sbt-date, sbt-read as promises-one-sbt-read, sbt-tick as promises-one-sbt-tick, sbt-write, siral-fields-read as promises-one-siral-fields-read, siral-fields-write as promises-one-siral-fields-write, siral-read as promises-one-siral-read, siral-write as promises-one-siral-write, tai-to-gps, tai-to-utc, text-read as promises-one-text-read, text-write as promises-one-text-write, utc-to-gps, utc-to-tai}
+use Rattle.promises.specs.OneForC.{change as promises-one-for-c-change, cryosat-fields-read as promises-one-for-c-cryosat-fields-read, cryosat-fields-write as promises-one-for-c-cryosat-fields-write, cryosat-read as promises-one-for-c-cryosat-read, cryosat-write as promises-one-for-c-cryosat-write, cuc-fields-read as promises-one-for-c-cuc-fields-read, cuc-fields-write as promises-one-for-c-cuc-fields-write, cuc-read as promises-one-for-c-cuc-read, cuc-write as promises-one-for-c-cuc-write, decimal-read as promises-one-for-c-decimal-read, goce-count as promises-one-for-c-goce-count, goce-date as promises-one-for-c-goce-date, goce-read as promises-one-for-c-goce-read, obet-read as promises-one-for-c-obet-read, proteus-fields-read as promises-one-for-c-proteus-fields-read, proteus-fields-write as promises-one-for-c-proteus-fields-write, proteus-read as promises-one-for-c-proteus-read, proteus-write as promises-one-for-c-proteus-write, sbt-date as promises-one-for-c-sbt-date, sbt-read as promises-one-for-c-sbt-read, sbt-tick as promises-one-for-c-sbt-tick, siral-fields-read as promises-one-for-c-siral-fields-read, siral-fields-write as promises-one-for-c-siral-fields-write, siral-read as promises-one-for-c-siral-read, siral-write as promises-one-for-c-siral-write, text-read as promises-one-for-c-text-read, text-write as promises-one-for-c-text-write}
+use Rattle.promises.specs.Three.{change-for-c, date-for-c, goce-count-for-c, goce-date-for-c, old-dates-stay, text-read-for-c, text-write-for-c, tick-for-c}
 use Rattle.promises.specs.Two.{cryosat-time, cuc-time, proteus-time, siral-time}
