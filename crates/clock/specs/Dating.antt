@@ -6,9 +6,9 @@ use Prim.Native.Nat.{ℕ}
 use native.Mathlib.Omega.{arith}
 use lib.IntN.{ℤ}
 use Rattle.axis.specs.Meaning.{microsAt}
-use Rattle.scales.specs.Meaning.{dated, refused, Outcome, outcome, Moment}
+use Rattle.scales.specs.Meaning.{dated, refused, outcome, Moment}
 use Rattle.scales.specs.declared.Scale.{Scale}
-use Rattle.clock.specs.Meaning.{Clock, elapsed, time, inWindow, Cover, cover, momentAfter, resulting, dating}
+use Rattle.clock.specs.Meaning.{Clock, elapsed, time, inWindow, Cover, cover, resulting, dating}
 use Rattle.clock.specs.Places.{timeAt, endsAt, coverOf, withinAt, windowAt, countFrom, within-place, elapsed-place, Based, time-place, cover-place, window-place}
 use Rattle.clock.specs.Stage.{placeIn, judging, resultAt, plain-is, moment-place, no-place, in-day, instant-found}
 use Rattle.clock.specs.declared.inner.Ends.{Ends}
@@ -32,11 +32,11 @@ module _ (s : Scale) (i : Bool) (v : Ends) (m : ℕ) (d : ℤ) (u : ℕ) where
           ∙ rw (plain-is s u, in-day s d u w f, g, instant-found s d u w f, within-place v w, k)
 
 -- ---- a counter's date, by what its crate reckoned: the count, whether it is in the window, the cover's ends and the count's time
-module _ (c : Clock) (r : ℕ) (b : Based c r) (t : ℕ) where
+module _ (accepted : Bool) (a : accepted ≡ true) (c : Clock) (r : ℕ) (b : Based c r) (t : ℕ) where
   date-is : (d : ℤ) (u : ℕ) → let k = countFrom (c .half) t (c .reference) in
       outcome (judging (c .scale) (windowAt (c .half) (c .back) (c .ahead) k)
       (coverOf (endsAt r (c .gain) (c .per) (c .half) (c .back) (c .ahead))) (microsAt (timeAt r (c .gain) (c .per) (c .half) k)) d u)
-      ≡ outcome (dating true c t d u)
+      ≡ outcome (dating accepted c t d u)
   date-is d u =
       let k = countFrom (c .half) t (c .reference) in
       let e = elapsed-place c t (omega (arith, b .runs .ahead-to)) in
@@ -44,10 +44,11 @@ module _ (c : Clock) (r : ℕ) (b : Based c r) (t : ℕ) where
       (ap (inWindow c) e ∙ window-place c (b .runs .back-to) k)
       ∙ ap₂ (λ (v : Cover) (z : ℤ). outcome (judging (c .scale) (windowAt (c .half) (c .back) (c .ahead) k) v z d u))
       (cover-place c r b) (ap (time c) e ∙ time-place c r b k))
+      ∙ ap (λ (x : Bool). outcome (dating x c t d u)) (sym a)
 
   pub date-found : (k : ℕ) → k ≡ countFrom (c .half) t (c .reference) → (i : Bool) → i ≡ windowAt (c .half) (c .back) (c .ahead) k →
       (v : Ends) → v ≡ endsAt r (c .gain) (c .per) (c .half) (c .back) (c .ahead) → (m : ℕ) → m ≡ timeAt r (c .gain) (c .per) (c .half) k →
-      (d e : ℤ) → d ≡ e → (u : ℕ) → outcome (judging (c .scale) i (coverOf v) (microsAt m) d u) ≡ outcome (dating true c t e u)
+      (d e : ℤ) → d ≡ e → (u : ℕ) → outcome (judging (c .scale) i (coverOf v) (microsAt m) d u) ≡ outcome (dating accepted c t e u)
   date-found k f i g v h m l d e q u =
       let s = c .scale in
       ap₂ (λ (x : Bool) (y : Ends). outcome (judging s x (coverOf y) (microsAt m) d u)) g h

@@ -1,19 +1,18 @@
 -- A correlated counter on the places of the axis, as the code reckons: a time in microseconds from day -40000 on, a count with half the
 -- modulus added. Each law says that a meaning is the one computed on the places. Assumes nothing.
-use mathlib.Core.Path.{_≡_, refl, sym, ap, ap₂, _∙_}
-use mathlib.Core.Bool.{Bool, true, false, cond, _&&_}
+use mathlib.Core.Path.{_≡_, sym, ap, ap₂, _∙_}
+use mathlib.Core.Bool.{Bool, true, _&&_}
 use Prim.Native.Nat.{ℕ, suc, _+_, _-_, _*_, _/_, _%_, _≤_, _<_}
 use native.Mathlib.Omega.{arith}
-use native.Mathlib.Nat.{mod-lt}
-use lib.Dec.{leb, ltb}
+use lib.Dec.{leb}
 use lib.IntN.{ℤ, pos, negℤ, subℕ, _+ℤ_, _*ℤ_}
 use lib.Signed.{leZ}
 use borrow.Author.Tests.{leb-true}
 use Rattle.axis.specs.Meaning.{microsAt, floorZ, modZ}
 use Rattle.axis.specs.Diff.{is-pos, neg-pos, sub-eq, sub-add, sub-mul, sub-floor, sub-mod, sub-le-same}
 use Rattle.axis.specs.Shift.{number-add}
-use Rattle.clock.specs.Meaning.{Clock, elapsed, clock, time, inWindow, Cover, cover, within, covers, countAt}
-use Rattle.clock.specs.Clock.{less-one, lastOf}
+use Rattle.clock.specs.Meaning.{Clock, elapsed, clock, time, inWindow, Cover, cover, within, countAt}
+use Rattle.clock.specs.Clock.{less-one}
 use Rattle.clock.specs.Window.{Runs, divided, divided-to}
 use Rattle.clock.specs.declared.inner.Ends.{Ends}
 

@@ -1,9 +1,8 @@
 -- A place or a refusal that a time was turned to is fixed by its outcome. Assumes nothing.
 use mathlib.Core.Path.{_≡_, sym, ap}
 use lib.IntN.{ℤ}
-use Rattle.axis.specs.Meaning.{microsAt}
 use Rattle.axis.specs.Diff.{sub-inj-same}
-use Rattle.scales.specs.Meaning.{Outcome, refused, answer, numberOf}
+use Rattle.scales.specs.Meaning.{answer}
 use Rattle.scales.specs.Order.{no-answer}
 use Rattle.scales.specs.Same.{refusals}
 use Rattle.clock.specs.Stage.{landed}

@@ -1,6 +1,6 @@
 -- The way back by what the code finds on the places: one law for each way out of `inner::turn`, and the count of a time from what a
 -- counter's crate reckoned. Assumes nothing.
-use mathlib.Core.Path.{_≡_, refl, sym, ap, ap₂, _∙_}
+use mathlib.Core.Path.{_≡_, refl, sym, ap, _∙_}
 use mathlib.Core.Bool.{Bool, true, false, cond}
 use Prim.Native.Nat.{ℕ, _+_, _-_, _*_, _/_, _≤_, _<_}
 use native.Mathlib.Omega.{arith}
@@ -9,7 +9,7 @@ use lib.Dec.{leb, ltb}
 use lib.IntN.{ℤ}
 use borrow.Author.Tests.{leb-true}
 use Rattle.axis.specs.Meaning.{microsAt}
-use Rattle.scales.specs.Meaning.{inSpan, sameScale, given, gives, Outcome, refused, answer, outcome, recordAt, timeScale, timeCount, numberOf}
+use Rattle.scales.specs.Meaning.{inSpan, sameScale, Judged, given, gives, refused, answer, outcome, recordAt, timeScale, timeCount}
 use Rattle.scales.specs.Order.{onward, then-is, passed}
 use Rattle.scales.specs.Place.{and-both}
 use Rattle.scales.specs.declared.Scale.{Scale}
@@ -21,7 +21,7 @@ use Rattle.decimal.specs.Meaning.{dayMicros, isFinite, isInSpan}
 use Rattle.decimal.specs.Told.{Told, told-record}
 use Rattle.clock.specs.Meaning.{Clock, Cover, cover, within, covers, lastCount, countAt, instantOf, hasImage, turning}
 use Rattle.clock.specs.Places.{timeAt, lastAt, endsAt, coverOf, withinAt, shownAt, within-place, count-place, Based, divided-place, cover-place, last-few}
-use Rattle.clock.specs.Stage.{placeIn, covering, landed, unacceptedBy, plain-is, no-place, in-day, instant-found}
+use Rattle.clock.specs.Stage.{placeIn, covering, unacceptedBy, plain-is, no-place, in-day, instant-found}
 use Rattle.clock.specs.Window.{last-is}
 use Rattle.clock.specs.declared.inner.Ends.{Ends}
 use Rattle.clock.specs.declared.inner.Place.the-variants as P
@@ -93,42 +93,46 @@ near-at r n d h b a w p l k e =
     high f q = omega (arith, f, mul-le-mul-right d q, div-mul-le-self (r + (h + a) * n - h * n) d)
 
 -- ---- a counter's way back, by what was found and the division
-module _ (c : Clock) (h : Handed) where
-  pub turn-not : (n : ℕ) → refused n ≡ outcome (covering (c .scale) (cover c) h) → refused n ≡ outcome (turning true c h)
-  turn-not n e =
-      ap (onward (λ (z : ℤ). gives (countAt c (lastCount c z)))) e
-      ∙ sym (then-is (covering (c .scale) (cover c) h) (λ (z : ℤ). gives (countAt c (lastCount c z))))
+pub turn-unaccepted : (accepted : Bool) → accepted ≡ false → (c : Clock) (h : Handed) → refused (unacceptedBy h) ≡ outcome (turning accepted c h)
+turn-unaccepted accepted a c h = go (isFinite h) refl
+  where
+    go : (f : Bool) → isFinite h ≡ f → refused (unacceptedBy h) ≡ outcome (turning accepted c h)
+    go true e = rw (e, a)
+    go false e = rw e
 
-  pub turn-unaccepted : refused (unacceptedBy h) ≡ outcome (turning false c h)
-  turn-unaccepted = go (isFinite h) refl
-    where
-      go : (f : Bool) → isFinite h ≡ f → refused (unacceptedBy h) ≡ outcome (turning false c h)
-      go true e = rw e
-      go false e = rw e
+module _ (accepted : Bool) (a : accepted ≡ true) (c : Clock) (r : ℕ) (b : Based c r) (h : Handed) where
+  abbrev ends : Ends
+  ends = endsAt r (c .gain) (c .per) (c .half) (c .back) (c .ahead)
 
-  module _ (r : ℕ) (b : Based c r) (w : ℕ) where
-    abbrev pub ends : Ends
-    ends = endsAt r (c .gain) (c .per) (c .half) (c .back) (c .ahead)
+  abbrev counted : ℤ → Judged ℕ
+  counted z = gives (countAt c (lastCount c z))
 
-    module _ (e : answer (microsAt w) ≡ outcome (covering (c .scale) (coverOf ends) h)) where
-      in-cover : within (coverOf ends) (microsAt w) ≡ true
-      in-cover = turned-in (c .scale) (coverOf ends) h (microsAt w) (sym e)
+  turned : onward counted (outcome (covering (c .scale) (coverOf ends) h)) ≡ outcome (turning accepted c h)
+  turned =
+      ap (λ (v : Cover). onward counted (outcome (covering (c .scale) v h))) (sym (cover-place c r b))
+      ∙ sym (then-is (covering (c .scale) (cover c) h) counted)
+      ∙ ap (λ (x : Bool). outcome (turning x c h)) (sym a)
 
-      pub near : Near r (c .gain) (c .per) (c .half) (c .ahead) w
-      near =
-          near-at r (c .gain) (c .per) (c .half) (c .back) (c .ahead) w (b .runs .whole) (b .runs .back-to) (b .early)
-          (sym (within-place ends w) ∙ in-cover)
+  pub turn-not : (n : ℕ) → refused n ≡ outcome (covering (c .scale) (coverOf ends) h) → refused n ≡ outcome (turning accepted c h)
+  turn-not n e = ap (onward counted) e ∙ turned
 
-      covered : covers c (microsAt w) ≡ true
-      covered = ap (λ (v : Cover). within v (microsAt w)) (cover-place c r b) ∙ in-cover
+  module _ (w : ℕ) (e : answer (microsAt w) ≡ outcome (covering (c .scale) (coverOf ends) h)) where
+    in-cover : within (coverOf ends) (microsAt w) ≡ true
+    in-cover = turned-in (c .scale) (coverOf ends) h (microsAt w) (sym e)
 
-      pub few : lastAt r (c .gain) (c .per) (c .half) w < 2 * c .half
-      few = last-few c r b w covered (near .low)
+    pub near : Near r (c .gain) (c .per) (c .half) (c .ahead) w
+    near =
+        near-at r (c .gain) (c .per) (c .half) (c .back) (c .ahead) w (b .runs .whole) (b .runs .back-to) (b .early)
+        (sym (within-place ends w) ∙ in-cover)
 
-      pub turn-is : answer (shownAt (c .half) (c .reference) (lastAt r (c .gain) (c .per) (c .half) w)) ≡ outcome (turning true c h)
-      turn-is =
-          ap answer (sym (ap (countAt c) (last-is c (b .runs) (microsAt w) covered ∙ divided-place c r b w (near .low))
-          ∙ count-place c (lastAt r (c .gain) (c .per) (c .half) w) (omega (arith, b .runs .ahead-to))))
-          ∙ ap (onward (λ (z : ℤ). gives (countAt c (lastCount c z))))
-          (e ∙ ap (λ (v : Cover). outcome (covering (c .scale) v h)) (sym (cover-place c r b)))
-          ∙ sym (then-is (covering (c .scale) (cover c) h) (λ (z : ℤ). gives (countAt c (lastCount c z))))
+    covered : covers c (microsAt w) ≡ true
+    covered = ap (λ (v : Cover). within v (microsAt w)) (cover-place c r b) ∙ in-cover
+
+    pub few : lastAt r (c .gain) (c .per) (c .half) w < 2 * c .half
+    few = last-few c r b w covered (near .low)
+
+    pub turn-is : answer (shownAt (c .half) (c .reference) (lastAt r (c .gain) (c .per) (c .half) w)) ≡ outcome (turning accepted c h)
+    turn-is =
+        ap answer (sym (ap (countAt c) (last-is c (b .runs) (microsAt w) covered ∙ divided-place c r b w (near .low))
+        ∙ count-place c (lastAt r (c .gain) (c .per) (c .half) w) (omega (arith, b .runs .ahead-to))))
+        ∙ ap (onward counted) e ∙ turned

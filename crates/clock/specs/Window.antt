@@ -8,7 +8,7 @@ use lib.IntN.{ℤ, pos, negℤ, _+ℤ_}
 use lib.Signed.{leZ}
 use Rattle.axis.specs.Diff.{neg-pos, is-pos, sub-eq, sub-add}
 use Rattle.scales.specs.Place.{and-both}
-use Rattle.clock.specs.Meaning.{Clock, time, inWindow, cover, within, covers, lastCount}
+use Rattle.clock.specs.Meaning.{Clock, time, inWindow, within, covers, lastCount}
 use Rattle.clock.specs.Signs.{le-trans}
 use Rattle.clock.specs.Clock as C
 

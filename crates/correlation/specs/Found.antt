@@ -1,21 +1,20 @@
 -- What the code finds, and the meanings by it: one law for each way out of `date` and of `tick_of`. Assumes nothing.
-use mathlib.Core.Path.{_≡_, sym, ap, _∙_}
-use mathlib.Core.Bool.{Bool, true, false}
-use Prim.Native.Nat.{ℕ, _+_, _*_, _≤_, _<_}
+use mathlib.Core.Path.{_≡_, ap, _∙_}
+use mathlib.Core.Bool.{true, false}
+use Prim.Native.Nat.{ℕ, _*_, _≤_, _<_}
 use native.Mathlib.Omega.{arith}
 use native.Mathlib.Nat.{mul-le-mul}
-use lib.IntN.{ℤ, pos, subℕ, _*ℤ_}
+use lib.IntN.{ℤ, pos, _*ℤ_}
 use Rattle.axis.specs.Meaning.{microsAt}
 use Rattle.axis.specs.Diff.{sub-mul}
-use Rattle.scales.specs.Meaning.{dated, refused, answer, Outcome, outcome, Moment}
+use Rattle.scales.specs.Meaning.{dated, refused, answer, outcome}
 use Rattle.scales.specs.declared.Handed.{Handed}
-use Rattle.clock.specs.Meaning as K
 use Rattle.clock.specs.Places as C
 use Rattle.clock.specs.Stage.{spot, covering, unacceptedBy, found, none, instant-place}
 use Rattle.clock.specs.Turning as T
 use Rattle.clock.specs.declared.inner.Place.the-variants as P
 use Rattle.correlation.specs.Meaning.{accepted, clockOf, dateOf, ticked, tickOf}
-use Rattle.correlation.specs.Places.{placeOf, timeAt, endsAt, countFrom, lastAt, tickFrom, Based, Windowed, Near}
+use Rattle.correlation.specs.Places.{placeOf, endsAt, lastAt, tickFrom, Windowed, Near}
 use Rattle.correlation.specs.Accepted.{Sound, sound, runs}
 use Rattle.correlation.specs.declared.Correlation.{Correlation}
 
@@ -28,13 +27,11 @@ date-6 c t d u e = rw (not-accepted c e)
 
 pub tick-unaccepted : (c : Correlation) (h : Handed) → placeOf c ≡ P.Outside → ticked (refused (unacceptedBy h)) ≡ tickOf c h
 unfolding tickOf
-tick-unaccepted c h e =
-    ap ticked (T.turn-unaccepted (clockOf c) h)
-    ∙ ap (λ (x : Bool). ticked (outcome (K.turning x (clockOf c) h))) (sym (not-accepted c e))
+tick-unaccepted c h e = ap ticked (T.turn-unaccepted (accepted c) (not-accepted c e) (clockOf c) h)
 
 -- ---- an accepted correlation with its reference at r
 module _ (c : Correlation) (r : ℕ) (e : placeOf c ≡ P.At r) where
-  is-accepted : accepted c ≡ true
+  pub is-accepted : accepted c ≡ true
   is-accepted = found (accepted c) (spot (c .day) (c .micro)) r e .0
 
   sounds : Sound c
@@ -67,33 +64,23 @@ module _ (c : Correlation) (r : ℕ) (e : placeOf c ≡ P.At r) where
         early = omega (arith, window-of .based .early, window-of .based .slow);
       }
 
-  pub date-at : (t : ℕ) (d : ℤ) (u : ℕ) (o : Outcome Moment) → o ≡ outcome (K.dating true (clockOf c) t d u) → dated (c .scale) o ≡ dateOf c t d u
-  unfolding dateOf
-  date-at t d u o f =
-      ap (dated (c .scale)) f ∙ ap (λ (x : Bool). dated (c .scale) (outcome (K.dating x (clockOf c) t d u))) (sym is-accepted)
-
   -- ---- the way back
   module _ (h : Handed) where
-    ends : outcome (covering (c .scale) (C.coverOf (endsAt r (c .period) (c .back) (c .ahead))) h) ≡ outcome (covering (c .scale) (K.cover (clockOf c)) h)
-    ends = ap (λ (v : K.Cover). outcome (covering (c .scale) v h)) (sym (C.cover-place (clockOf c) (r * 1000000) clock-based))
-
-    turned : (o : Outcome ℕ) → o ≡ outcome (K.turning true (clockOf c) h) → ticked o ≡ tickOf c h
-    unfolding tickOf
-    turned o f = ap ticked f ∙ ap (λ (x : Bool). ticked (outcome (K.turning x (clockOf c) h))) (sym is-accepted)
-
     pub tick-not : (n : ℕ) → refused n ≡ outcome (covering (c .scale) (C.coverOf (endsAt r (c .period) (c .back) (c .ahead))) h) →
         ticked (refused n) ≡ tickOf c h
-    tick-not n f = turned (refused n) (T.turn-not (clockOf c) h n (f ∙ ends))
+    unfolding tickOf
+    tick-not n f = ap ticked (T.turn-not (accepted c) is-accepted (clockOf c) (r * 1000000) clock-based h n f)
 
     module _ (w : ℕ) (f : answer (microsAt w) ≡ outcome (covering (c .scale) (C.coverOf (endsAt r (c .period) (c .back) (c .ahead))) h)) where
       pub near : Near r (c .period) w
       near =
-          let n = T.near (clockOf c) h (r * 1000000) clock-based w f in
+          let n = T.near (accepted c) is-accepted (clockOf c) (r * 1000000) clock-based h w f in
           let p : c .ahead * c .period ≤ 8389144870912000000 = mul-le-mul {n₂ = 2147483648} {m₂ = 3906500000} (omega (arith, window-of .ahead-to)) (sounds .slow) in
           record { based = window-of .based; low = n .low; high = omega (arith, n .high, p) }
 
       pub few : lastAt r (c .period) w < 4294967296
-      few = T.few (clockOf c) h (r * 1000000) clock-based w f
+      few = T.few (accepted c) is-accepted (clockOf c) (r * 1000000) clock-based h w f
 
       pub tick-is : ticked (answer (tickFrom (c .tick .0) (lastAt r (c .period) w))) ≡ tickOf c h
-      tick-is = turned _ (T.turn-is (clockOf c) h (r * 1000000) clock-based w f)
+      unfolding tickOf
+      tick-is = ap ticked (T.turn-is (accepted c) is-accepted (clockOf c) (r * 1000000) clock-based h w f)

@@ -1,6 +1,6 @@
 -- The tests of acceptance, on the places, and what they tell together. Assumes nothing.
 use mathlib.Core.Path.{_≡_, sym, ap, ap₂, _∙_}
-use mathlib.Core.Bool.{Bool, true, false, _&&_}
+use mathlib.Core.Bool.{true, false, _&&_}
 use Prim.Native.Nat.{ℕ, _+_, _≤_, _<_}
 use native.Mathlib.Omega.{arith}
 use lib.Dec.{leb, ltb, lit<, lit≤}
@@ -54,7 +54,12 @@ module _ (c : Correlation) (n : Offset (c .offset)) where
   span-is =
       ap isInUtc reference-place ∙ ap₂ _&&_ (from-first (spot c)) (before-last (spot c)) ∙ rw (le-leb 168583967539200 (spot c) (omega (arith, n .from)))
 
--- ---- the ways out of `reference_of`
+-- ---- the ways out of `in_limits`, its first four tests at once, and of `reference_of`
+pub window-left : (c : Correlation) → c .obt0 < 281474976710656 → c .utc0 < 281474976710656 → 999000000 ≤ c .gradient → c .gradient ≤ 1001000000 →
+    inLimits c ≡ (leb (c .back) 140737488355328 && ltb (c .ahead) 140737488355328)
+window-left c a b f g =
+    rw (lt-ltb (c .obt0) 281474976710656 a, lt-ltb (c .utc0) 281474976710656 b, le-leb 999000000 (c .gradient) f, le-leb (c .gradient) 1001000000 g)
+
 module _ (c : Correlation) where
   pub not-limited : inLimits c ≡ false → P.Outside ≡ placeOf c
   unfolding accepted

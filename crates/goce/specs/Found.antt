@@ -1,10 +1,9 @@
 -- What the code finds, and the meanings by it: one law for each way out of `date` and of `count_of`. Assumes nothing.
-use mathlib.Core.Path.{_≡_, refl, sym, ap, _∙_}
-use mathlib.Core.Bool.{Bool, true, false}
-use Prim.Native.Nat.{ℕ, _+_, _*_, _≤_, _<_}
+use mathlib.Core.Path.{_≡_, ap, _∙_}
+use mathlib.Core.Bool.{true, false}
+use Prim.Native.Nat.{ℕ, _*_, _≤_, _<_}
 use native.Mathlib.Omega.{arith}
 use native.Mathlib.Nat.{mul-le-mul}
-use lib.Dec.{ltb}
 use lib.IntN.{ℤ, pos, _*ℤ_}
 use borrow.Author.Tests.{lt-ltb, le-ltb}
 use Rattle.axis.specs.Meaning.{microsAt, countsAt}
@@ -31,19 +30,21 @@ module _ (c : Correlation) (t : ℕ) (d : ℤ) (u : ℕ) where
   unfolding dateOf
   date-3 l = rw (le-ltb t 281474976710656 l)
 
+  pub date-at : t < 281474976710656 → (o : Outcome Moment) → o ≡ outcome (K.dating (accepted c) (clockOf c) t d u) → dated S.Utc o ≡ dateOf c t d u
+  unfolding dateOf
+  date-at l o e = ap (dated S.Utc) e ∙ rw (lt-ltb t 281474976710656 l)
+
   pub date-6 : t < 281474976710656 → placeOf c ≡ P.Outside → dated S.Utc (refused 6) ≡ dateOf c t d u
   unfolding dateOf
   date-6 l e = rw (lt-ltb t 281474976710656 l, not-accepted c e)
 
 pub count-unaccepted : (c : Correlation) (h : Handed) → placeOf c ≡ P.Outside → valued 0 (refused (unacceptedBy h)) ≡ obtOf c h
 unfolding obtOf
-count-unaccepted c h e =
-    ap (valued 0) (T.turn-unaccepted (clockOf c) h)
-    ∙ ap (λ (x : Bool). valued 0 (outcome (K.turning x (clockOf c) h))) (sym (not-accepted c e))
+count-unaccepted c h e = ap (valued 0) (T.turn-unaccepted (accepted c) (not-accepted c e) (clockOf c) h)
 
 -- ---- an accepted correlation with its reference at s
 module _ (c : Correlation) (s : ℕ) (e : placeOf c ≡ P.At s) where
-  is-accepted : accepted c ≡ true
+  pub is-accepted : accepted c ≡ true
   is-accepted = found (accepted c) (spot c) s e .0
 
   sounds : Sound c
@@ -74,36 +75,23 @@ module _ (c : Correlation) (s : ℕ) (e : placeOf c ≡ P.At s) where
         early = omega (arith, window-of .based .early, window-of .based .fast);
       }
 
-  pub date-at : (t : ℕ) → t < 281474976710656 → (d : ℤ) (u : ℕ) (o : Outcome Moment) → o ≡ outcome (K.dating true (clockOf c) t d u) →
-      dated S.Utc o ≡ dateOf c t d u
-  unfolding dateOf
-  date-at t l d u o f =
-      ap (dated S.Utc) f
-      ∙ ap (λ (x : Bool). dated S.Utc (outcome (K.dating x (clockOf c) t d u))) (sym is-accepted)
-      ∙ rw (lt-ltb t 281474976710656 l)
-
   -- ---- the way back
   module _ (h : Handed) where
-    ends : outcome (covering S.Utc (C.coverOf (endsAt s (c .gradient) (c .back) (c .ahead))) h) ≡ outcome (covering S.Utc (K.cover (clockOf c)) h)
-    ends = ap (λ (v : K.Cover). outcome (covering S.Utc v h)) (sym (C.cover-place (clockOf c) (s * 1000000000) clock-based))
-
-    turned : (o : Outcome ℕ) → o ≡ outcome (K.turning true (clockOf c) h) → valued 0 o ≡ obtOf c h
-    unfolding obtOf
-    turned o f = ap (valued 0) f ∙ ap (λ (x : Bool). valued 0 (outcome (K.turning x (clockOf c) h))) (sym is-accepted)
-
     pub count-not : (n : ℕ) → refused n ≡ outcome (covering S.Utc (C.coverOf (endsAt s (c .gradient) (c .back) (c .ahead))) h) →
         valued 0 (refused n) ≡ obtOf c h
-    count-not n f = turned (refused n) (T.turn-not (clockOf c) h n (f ∙ ends))
+    unfolding obtOf
+    count-not n f = ap (valued 0) (T.turn-not (accepted c) is-accepted (clockOf c) (s * 1000000000) clock-based h n f)
 
     module _ (w : ℕ) (f : answer (microsAt w) ≡ outcome (covering S.Utc (C.coverOf (endsAt s (c .gradient) (c .back) (c .ahead))) h)) where
       pub near : Near s (c .gradient) w
       near =
-          let n = T.near (clockOf c) h (s * 1000000000) clock-based w f in
+          let n = T.near (accepted c) is-accepted (clockOf c) (s * 1000000000) clock-based h w f in
           let p : c .ahead * c .gradient ≤ 140878225843683328000000 = mul-le-mul {n₂ = 140737488355328} {m₂ = 1001000000} (omega (arith, window-of .ahead-to)) (sounds .fast) in
           record { based = window-of .based; low = n .low; high = omega (arith, n .high, p, window-of .based .late) }
 
       pub few : lastAt s (c .gradient) w < 281474976710656
-      few = T.few (clockOf c) h (s * 1000000000) clock-based w f
+      few = T.few (accepted c) is-accepted (clockOf c) (s * 1000000000) clock-based h w f
 
       pub count-is : valued 0 (answer (obtFrom (c .obt0) (lastAt s (c .gradient) w))) ≡ obtOf c h
-      count-is = turned _ (T.turn-is (clockOf c) h (s * 1000000000) clock-based w f)
+      unfolding obtOf
+      count-is = ap (valued 0) (T.turn-is (accepted c) is-accepted (clockOf c) (s * 1000000000) clock-based h w f)

@@ -1,5 +1,5 @@
 -- The night of the letter for GOCE: no receipt outside the cover is dated, and no wrap of the counter is ever mistaken. Assumes nothing.
-use mathlib.Core.Path.{_≡_, _∙_}
+use mathlib.Core.Path.{_≡_}
 use mathlib.Core.Bool.{true}
 use Prim.Native.Nat.{ℕ, _%_, _<_}
 use lib.IntN.{ℤ}

@@ -13,7 +13,7 @@ use Rattle.leap_laws.proofs.Promises.{Fresh, fresh}
 use Rattle.correlation.specs.Meaning as Correlation
 use Rattle.correlation.specs.declared.Correlation.{Correlation}
 use Rattle.correlation_laws.proofs.Wider.{widened, date-kept, tick-kept}
-use Rattle.fields.specs.Meaning.{Valued, valued}
+use Rattle.fields.specs.Meaning.{valued}
 use Rattle.goce.specs.Meaning as Goce
 use Rattle.goce.specs.declared.Correlation as GoceDeclared
 use Rattle.goce_laws.proofs.Wider as GoceWider

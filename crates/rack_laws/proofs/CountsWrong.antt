@@ -1,5 +1,5 @@
 -- Wrong covers for C of GOCE's counts, each shut out by an input at which its answer is not the meaning's. Assumes nothing.
-use mathlib.Core.Path.{_≡_, refl}
+use mathlib.Core.Path.{refl}
 use Prim.Native.Nat.{ℕ, _%_, _^_}
 use native.Mathlib.Omega.{arith}
 use lib.IntN.{ℤ, pos}

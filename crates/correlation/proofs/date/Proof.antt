@@ -1,13 +1,14 @@
 -- `correlation::date` meets its contract. Assumes nothing.
-use mathlib.Core.Path.{_≡_, sym, _∙_}
+use mathlib.Core.Path.{_≡_, sym, ap, _∙_}
 use Prim.Native.Nat.{ℕ, _*_}
 use native.Mathlib.Omega.{arith}
 use mir.Facts.{toZ-ofZ}
+use Rattle.scales.specs.Meaning.{dated}
 use Rattle.clock.specs.Dating.{date-found}
 use Rattle.clock.specs.declared.inner.Place.the-variants as P
-use Rattle.correlation.specs.Meaning.{clockOf}
+use Rattle.correlation.specs.Meaning.{accepted, clockOf, dateOf}
 use Rattle.correlation.specs.Places.{placeOf, Windowed}
-use Rattle.correlation.specs.Found.{window-of, clock-based, date-6, date-at}
+use Rattle.correlation.specs.Found.{is-accepted, window-of, clock-based, date-6}
 use borrow.Author.Needs.{needs}
 use Rattle.correlation.proofs.date.Statement.{statement}
 use Rattle.correlation.proofs.date.Tie as tie
@@ -41,6 +42,7 @@ time-at-requires : tie.Need-time-at-requires
 time-at-requires c κs = let n = c .before .before in (windowed (n .before) .based, omega (arith, n .count .ensures))
 
 returns-2 : tie.Need-returns-2
+unfolding dateOf
 returns-2 c =
     let t = c .before in
     let v = t .before in
@@ -50,8 +52,8 @@ returns-2 c =
     let z = entry k in
     let a = z .args in
     c .date .ensures
-    ∙ date-at (a .c) (place k) (known-r k) (a .tick .0) (a .receipt-day) (a .receipt-micro) _
-    (date-found (clockOf (a .c)) (place k * 1000000) (clock-based (a .c) (place k) (known-r k)) (a .tick .0)
+    ∙ ap (dated (a .c .scale))
+    (date-found (accepted (a .c)) (is-accepted (a .c) (place k) (known-r k)) (clockOf (a .c)) (place k * 1000000) (clock-based (a .c) (place k) (known-r k)) (a .tick .0)
     (n .count .result) (n .count .ensures) (i .in-window .result) (i .in-window .ensures) (v .ends-of .result) (v .ends-of .ensures)
     (t .time-at .result) (t .time-at .ensures) _ (a .receipt-day) (toZ-ofZ (z .fits .receipt-day)) (a .receipt-micro))
 

@@ -5,9 +5,9 @@ use native.Mathlib.Omega.{arith}
 use mir.Facts.{toZ-ofZ}
 use Rattle.clock.specs.Dating.{date-found}
 use Rattle.clock.specs.declared.inner.Place.the-variants as P
-use Rattle.goce.specs.Meaning.{clockOf}
+use Rattle.goce.specs.Meaning.{accepted, clockOf}
 use Rattle.goce.specs.Places.{placeOf, Windowed}
-use Rattle.goce.specs.Found.{counter, window-of, clock-based, date-3, date-6, date-at}
+use Rattle.goce.specs.Found.{is-accepted, counter, window-of, clock-based, date-3, date-6, date-at}
 use borrow.Author.Needs.{needs}
 use Rattle.goce.proofs.date.Statement.{statement}
 use Rattle.goce.proofs.date.Tie as tie
@@ -57,8 +57,8 @@ returns-3 c =
     let z = fits k .before in
     let a = z .args in
     c .date .ensures
-    ∙ date-at (a .c) (place k) (known-s k) (a .obt) (fits k .if1 .left) (a .receipt-day) (a .receipt-micro) _
-    (date-found (clockOf (a .c)) (place k * 1000000000) (clock-based (a .c) (place k) (known-s k)) (a .obt)
+    ∙ date-at (a .c) (a .obt) (a .receipt-day) (a .receipt-micro) (fits k .if1 .left) _
+    (date-found (accepted (a .c)) (is-accepted (a .c) (place k) (known-s k)) (clockOf (a .c)) (place k * 1000000000) (clock-based (a .c) (place k) (known-s k)) (a .obt)
     (n .count .result) (n .count .ensures) (i .in-window .result) (i .in-window .ensures) (v .ends-of .result) (v .ends-of .ensures)
     (t .time-at .result) (t .time-at .ensures) _ (a .receipt-day) (toZ-ofZ (z .fits .receipt-day)) (a .receipt-micro))
 

@@ -1,7 +1,7 @@
 -- `goce::reference_of` meets its contract. Assumes nothing.
-use mathlib.Core.Path.{_≡_, ap, sym, subst, _∙_}
+use mathlib.Core.Path.{_≡_, ap, sym, _∙_}
 use mathlib.Core.Bool.{true}
-use Prim.Native.Nat.{ℕ, _+_, _≤_, _<_}
+use Prim.Native.Nat.{ℕ, _+_, _≤_}
 use native.Mathlib.Omega.{arith}
 use mir.Syntax.{w64}
 use mir.Facts.{toZ-ofZ}

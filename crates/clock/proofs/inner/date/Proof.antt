@@ -3,7 +3,6 @@ use mathlib.Core.Path.{_≡_, ap, sym, _∙_}
 use lib.IntN.{ℤ}
 use mir.Facts.{toZ-ofZ}
 use borrow.Author.Tests.{not-true, not-false}
-use Rattle.clock.specs.Places.{withinAt}
 use Rattle.clock.specs.Stage.{placeIn}
 use Rattle.clock.specs.Dating.{date-7, date-out, date-8, date-at}
 use Rattle.clock.specs.declared.inner.Place.the-variants as P
