@@ -6,18 +6,19 @@ use Prim.Native.Nat.{ℕ}
 use lib.Dec.{lit<, lit≤}
 use lib.IntN.{ℤ, pos, negsuc, _+ℤ_}
 use lib.Signed.{leZ}
-use lib.Ieee.{nan}
+use lib.Ieee.{fin, nan}
 use Rattle.scales.specs.Meaning.{Moment, Outcome, answer, refused, outcome, recordOf}
 use Rattle.scales.specs.declared.Scale.the-variants as S
 use Rattle.scales.specs.declared.Handed.{Handed}
 use Rattle.scales.specs.declared.Handed.the-variants as H
 use Rattle.scales.specs.Order.{no-answer}
 use Rattle.decimal.specs.Meaning.{since}
-use Rattle.clock.specs.Meaning.{clock, time, inWindow, within, elapsed, latest}
+use Rattle.clock.specs.Meaning.{clock, time, inWindow, within, covers, elapsed, latest}
 use Rattle.correlation.specs.Meaning.{accepted, clockOf, dating, turning}
 use Rattle.correlation.specs.declared.Correlation.{Correlation}
 use Rattle.correlation_laws.proofs.Counts.{elapsed-one}
-use Rattle.correlation_laws.proofs.Trips.{same-tick, record-back, never-later, little-earlier}
+use Rattle.correlation_laws.proofs.Answers.{dates, exact, turns}
+use Rattle.correlation_laws.proofs.Trips.{comes-back, same-tick, record-back, never-later, little-earlier}
 use Rattle.correlation_laws.proofs.Wider.{widened, date-kept, tick-kept}
 use Rattle.correlation_laws.proofs.Night.{received-before, received-after, no-wrap}
 
@@ -90,6 +91,16 @@ wide : accepted (widened (marked 10) 11 12) ≡ true
 unfolding accepted
 wide = refl
 
+-- an answer is time(k); its receipt was covered, and a time that was turned back lay in the cover
+pub exactly-time : since (negsuc 0) 86399996093 ≡ time (clockOf (marked 10)) (elapsed (clockOf (marked 10)) 4294967294)
+exactly-time = exact (marked 10) 4294967294 (pos 0) 0 (at (negsuc 0) 86399996093) (either-side .1)
+
+pub receipt-covered : covers (clockOf (marked 10)) (since (pos 0) 0) ≡ true
+receipt-covered = dates (marked 10) 4294967294 (pos 0) 0 (at (negsuc 0) 86399996093) (either-side .1) .cover
+
+pub time-covered : covers (clockOf (marked 10)) (since (negsuc 0) 86399996093) ≡ true
+time-covered = turns (marked 10) (tai (negsuc 0) 86399996093) 4294967294 (either-side .3) .cover
+
 -- a tick to a time and back, by the record and by a time that stands for it
 pub trip : outcome (turning (marked 10) (tai (negsuc 0) 86399996093)) ≡ answer 4294967294
 trip = record-back (marked 10) 4294967294 (pos 0) 0 (at (negsuc 0) 86399996093) (either-side .1) (lit< tt)
@@ -98,6 +109,16 @@ pub trip-same : (n : ℕ) → outcome (turning (marked 10) (tai (negsuc 0) 86399
 trip-same =
     same-tick (marked 10) 4294967294 (pos 0) 0 (at (negsuc 0) 86399996093) (either-side .1) (tai (negsuc 0) 86399996093)
     (record { scale = refl; day = refl; micro = refl }) (lit< tt)
+
+-- and by a decimal day: half a day before day 0, 43,200 x 256 ticks before the reference
+half-day : outcome (dating (marked 11059200) 4283908095 (pos 0) 0) ≡ answer (at (negsuc 0) 43200000000)
+unfolding accepted clock inWindow within
+half-day = refl
+
+pub trip-decimal : outcome (turning (marked 11059200) (H.Decimal (fin true 1 (negsuc 0)) S.Tai)) ≡ answer 4283908095
+trip-decimal =
+    comes-back (marked 11059200) 4283908095 (pos 0) 0 (at (negsuc 0) 43200000000) half-day (H.Decimal (fin true 1 (negsuc 0)) S.Tai)
+    (record { scale = refl; day = refl; micro = refl }) (lit< tt) refl refl
 
 -- a time to a tick and back: 3,905 microseconds after the reference, the reference
 turned : outcome (turning (marked 10) (tai (pos 0) 3905)) ≡ answer 4294967295

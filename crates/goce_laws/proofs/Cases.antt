@@ -6,7 +6,7 @@ use Prim.Native.Nat.{ℕ, _<_}
 use lib.Dec.{lit≤}
 use lib.IntN.{ℤ, pos, negsuc, _+ℤ_, _*ℤ_}
 use lib.Signed.{leZ}
-use lib.Ieee.{nan}
+use lib.Ieee.{fin, nan}
 use Rattle.axis.specs.Meaning.{floorZ}
 use Rattle.scales.specs.Meaning.{Moment, Outcome, answer, refused, outcome, recordOf}
 use Rattle.scales.specs.declared.Scale.the-variants as S
@@ -14,12 +14,12 @@ use Rattle.scales.specs.declared.Handed.{Handed}
 use Rattle.scales.specs.declared.Handed.the-variants as H
 use Rattle.scales.specs.Order.{no-answer}
 use Rattle.decimal.specs.Meaning.{since}
-use Rattle.clock.specs.Meaning.{clock, time, inWindow, within, elapsed, latest}
+use Rattle.clock.specs.Meaning.{clock, time, inWindow, within, covers, elapsed, latest}
 use Rattle.goce.specs.Meaning.{accepted, clockOf, dating, turning}
 use Rattle.goce.specs.declared.Correlation.{Correlation}
 use Rattle.goce_laws.proofs.Counts.{elapsed-one}
-use Rattle.goce_laws.proofs.Answers.{exact}
-use Rattle.goce_laws.proofs.Trips.{same-count, record-back, never-later, little-earlier}
+use Rattle.goce_laws.proofs.Answers.{dates, exact, turns}
+use Rattle.goce_laws.proofs.Trips.{comes-back, same-count, record-back, never-later, little-earlier}
 use Rattle.goce_laws.proofs.Wider.{widened, date-kept, count-kept}
 use Rattle.goce_laws.proofs.Night.{received-before, received-after, no-wrap}
 
@@ -97,6 +97,13 @@ wide = refl
 pub sum : since (pos 0) 91 ≡ floorZ (pos 3 *ℤ pos 1000000000 +ℤ pos 3 *ℤ pos 1000000000) 65536000
 sum = exact (moved 0 3 (pos 0) 10) 3 (pos 0) 91 (at (pos 0) 91) (either-side .0)
 
+-- an answer's receipt was covered, and a time that was turned back lay in the cover
+pub receipt-covered : covers (clockOf (zero 10)) (since (pos 0) 0) ≡ true
+receipt-covered = dates (zero 10) 281474976710655 (pos 0) 0 (at (negsuc 0) 86399999984) (either-side .1) .cover
+
+pub time-covered : covers (clockOf (zero 10)) (since (negsuc 0) 86399999984) ≡ true
+time-covered = turns (zero 10) (utc (negsuc 0) 86399999984) 281474976710655 (either-side .3) .cover
+
 -- a count to a time and back, by the record and by a time that stands for it
 pub trip : outcome (turning (zero 10) (utc (negsuc 0) 86399999984)) ≡ answer 281474976710655
 trip = record-back (zero 10) 281474976710655 (pos 0) 0 (at (negsuc 0) 86399999984) (either-side .1)
@@ -105,6 +112,16 @@ pub trip-same : (n : ℕ) → outcome (turning (zero 10) (utc (negsuc 0) 8639999
 trip-same =
     same-count (zero 10) 281474976710655 (pos 0) 0 (at (negsuc 0) 86399999984) (either-side .1) (utc (negsuc 0) 86399999984)
     (record { scale = refl; day = refl; micro = refl })
+
+-- and by a decimal day: half a day before day 0, 43,200 x 65,536 counts before OBT0
+half-day : outcome (dating (zero 2831155200) 281472145555456 (pos 0) 0) ≡ answer (at (negsuc 0) 43200000000)
+unfolding accepted clock inWindow within
+half-day = refl
+
+pub trip-decimal : outcome (turning (zero 2831155200) (H.Decimal (fin true 1 (negsuc 0)) S.Utc)) ≡ answer 281472145555456
+trip-decimal =
+    comes-back (zero 2831155200) 281472145555456 (pos 0) 0 (at (negsuc 0) 43200000000) half-day (H.Decimal (fin true 1 (negsuc 0)) S.Utc)
+    (record { scale = refl; day = refl; micro = refl }) refl refl
 
 -- a time to a count and back: 14 microseconds after the reference, the reference
 turned : outcome (turning (zero 10) (utc (pos 0) 14)) ≡ answer 0
