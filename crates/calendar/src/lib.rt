@@ -134,10 +134,10 @@ pub fn date_of(day: i64) -> DateAnswer
 {
     let place = axis::place_of_day(day);
     if place < 29773 {
-        return DateAnswer::Refused(Refusal::Span);
+        return DateAnswer::Refused(Refusal::OutsideSpan);
     }
     if 76524 < place {
-        return DateAnswer::Refused(Refusal::Span);
+        return DateAnswer::Refused(Refusal::OutsideSpan);
     }
     let t = table::table();
     DateAnswer::Date(date_at(&t, place - 29773))
@@ -148,14 +148,14 @@ pub fn day_of(date: Date) -> DayAnswer
     ensures { λ r. ⌜ daySlip r ≡ dayOfDate date ⌝ }
 {
     if !is_date(date) {
-        return DayAnswer::Refused(Refusal::Field);
+        return DayAnswer::Refused(Refusal::FieldOver);
     }
     let y = date.year;
     if y < 1972 {
-        return DayAnswer::Refused(Refusal::Span);
+        return DayAnswer::Refused(Refusal::OutsideSpan);
     }
     if 2099 < y {
-        return DayAnswer::Refused(Refusal::Span);
+        return DayAnswer::Refused(Refusal::OutsideSpan);
     }
     let k = (y - 1972) * 12 + (date.month - 1);
     let t = table::table();

@@ -88,7 +88,7 @@ pub record ByList (s : Scale) (n : ℕ) (ds : List ℤ) (os : List ℕ) (e : ℤ
 
 -- the last day is e; a callee reads it from its bits, as z
 module _ {s : Scale} {n : ℕ} {ds : List ℤ} {os : List ℕ} {z e : ℤ} (q : z ≡ e) where
-  pub list-lacks : accepted ds os z ≡ false → ByList s n ds os e (DT.Refused R.List)
+  pub list-lacks : accepted ds os z ≡ false → ByList s n ds os e (DT.Refused R.ListNotAccepted)
   list-lacks h = record { left = record { is = sym (rw (← q, h)); held = omega arith } }
 
   pub list-there : {r : DatedTai} → accepted ds os z ≡ true → Left (ofCount s n (fromScale s ds os z)) r → ByList s n ds os e r
@@ -117,13 +117,13 @@ module _ {s : Scale} {n : ℕ} {ds : List ℤ} {os : List ℕ} {z : ℤ} {r : Da
 
 -- ---- to the TAI count: 7 of each scale
 module _ (s : Scale) (n : ℕ) (f : Bool → Moment → Judged ℤ) (seven : refused 7 ≡ outcome (f false (momentAt s n))) where
-  left-out : inSpan s (momentAt s n .day) (momentAt s n .micro) ≡ false → Left (ofCount s n f) (DT.Refused R.Span)
+  left-out : inSpan s (momentAt s n .day) (momentAt s n .micro) ≡ false → Left (ofCount s n f) (DT.Refused R.OutsideSpan)
   left-out e = record { is = seven ∙ ap (λ (b : Bool). outcome (f b (momentAt s n))) (sym e); held = omega arith }
 
-  pub left-early : n / bound s < firstAt s → Left (ofCount s n f) (DT.Refused R.Span)
+  pub left-early : n / bound s < firstAt s → Left (ofCount s n f) (DT.Refused R.OutsideSpan)
   left-early h = left-out (span-early s (n / bound s) (n % bound s) h)
 
-  pub left-late : 76524 < n / bound s → Left (ofCount s n f) (DT.Refused R.Span)
+  pub left-late : 76524 < n / bound s → Left (ofCount s n f) (DT.Refused R.OutsideSpan)
   left-late h = left-out (span-late s (n / bound s) (n % bound s) h)
 
 module _ (n : ℕ) where
@@ -165,10 +165,10 @@ module _ (ds : List ℤ) (os : List ℕ) (e : ℤ) (w : accepted ds os e ≡ tru
     inside : inSpan S.Utc (dayAt day) micro ≡ true
     inside = span-in S.Utc day micro h k (omega arith)
 
-    pub left-expired : placeOfDay e < day → Left (ofCount S.Utc n (fromUtc ds os e)) (DT.Refused R.Expired)
+    pub left-expired : placeOfDay e < day → Left (ofCount S.Utc n (fromUtc ds os e)) (DT.Refused R.ListExpired)
     left-expired l = record { is = sym (rw (inside, after, lt-ltb (placeOfDay e) day l)); held = omega arith }
 
-    pub left-second : day ≤ placeOfDay e → hasMicro ds (dayAt day) micro ≡ false → Left (ofCount S.Utc n (fromUtc ds os e)) (DT.Refused R.Second)
+    pub left-second : day ≤ placeOfDay e → hasMicro ds (dayAt day) micro ≡ false → Left (ofCount S.Utc n (fromUtc ds os e)) (DT.Refused R.SecondLacking)
     left-second l m = record { is = sym (rw (inside, after, le-ltb (placeOfDay e) day l, m)); held = omega arith }
 
     pub left-utc : day ≤ placeOfDay e → hasMicro ds (dayAt day) micro ≡ true → (t : Tai) → t .0 ≡ day * dayMicros + micro + offsetOn ds os (dayAt day) * 1000000

@@ -35,10 +35,10 @@ pub fn from_tai(t: Tai) -> DatedTai
 {
     let day = t.0 / Tai::BOUND;
     if day < FIRST {
-        return DatedTai::Refused(Refusal::Span);
+        return DatedTai::Refused(Refusal::OutsideSpan);
     }
     if LAST < day {
-        return DatedTai::Refused(Refusal::Span);
+        return DatedTai::Refused(Refusal::OutsideSpan);
     }
     DatedTai::At(t)
 }
@@ -49,10 +49,10 @@ pub fn from_gps(t: Gps) -> DatedTai
     let n = t.0;
     let day = n / Gps::BOUND;
     if day < GPS_FIRST {
-        return DatedTai::Refused(Refusal::Span);
+        return DatedTai::Refused(Refusal::OutsideSpan);
     }
     if LAST < day {
-        return DatedTai::Refused(Refusal::Span);
+        return DatedTai::Refused(Refusal::OutsideSpan);
     }
     DatedTai::At(Tai(n + 19 * SECOND))
 }
@@ -75,16 +75,16 @@ fn from_utc(t: Utc, days: &[i64], offsets: &[u64], last: i64) -> DatedTai
     let day = t.0 / Utc::BOUND;
     let micro = t.0 % Utc::BOUND;
     if day < FIRST {
-        return DatedTai::Refused(Refusal::Span);
+        return DatedTai::Refused(Refusal::OutsideSpan);
     }
     if LAST < day {
-        return DatedTai::Refused(Refusal::Span);
+        return DatedTai::Refused(Refusal::OutsideSpan);
     }
     if axis::place_of_day(last) < day {
-        return DatedTai::Refused(Refusal::Expired);
+        return DatedTai::Refused(Refusal::ListExpired);
     }
     if !has_micro(days, day, micro) {
-        return DatedTai::Refused(Refusal::Second);
+        return DatedTai::Refused(Refusal::SecondLacking);
     }
     let offset = leap::inner::offset_on(days, offsets, day);
     DatedTai::At(Tai(day * Tai::BOUND + micro + offset * SECOND))
@@ -97,7 +97,7 @@ pub fn to_tai(c: Tai) -> DatedTai
     ensures { λ r. ⌜ slipTai r ≡ dated Scale.Tai (outcome (toTai (microsAt (c .0)))) ⌝ }
 {
     if LAST < c.0 / Tai::BOUND {
-        return DatedTai::Refused(Refusal::Result);
+        return DatedTai::Refused(Refusal::ResultOutside);
     }
     DatedTai::At(c)
 }
@@ -109,10 +109,10 @@ pub fn to_gps(c: Tai) -> DatedGps
     let n = c.0 - 19 * SECOND;
     let day = n / Gps::BOUND;
     if day < GPS_FIRST {
-        return DatedGps::Refused(Refusal::Result);
+        return DatedGps::Refused(Refusal::ResultOutside);
     }
     if LAST < day {
-        return DatedGps::Refused(Refusal::Result);
+        return DatedGps::Refused(Refusal::ResultOutside);
     }
     DatedGps::At(Gps(n))
 }
@@ -126,10 +126,10 @@ pub fn to_utc(c: Tai, days: &[i64], offsets: &[u64], last: i64) -> DatedUtc
     let next = axis::place_of_day(last) + 1;
     let offset = leap::inner::offset_on(days, offsets, next);
     if next * Tai::BOUND + offset * SECOND <= n {
-        return DatedUtc::Refused(Refusal::Expired);
+        return DatedUtc::Refused(Refusal::ListExpired);
     }
     if n < FIRST * Tai::BOUND + 10 * SECOND {
-        return DatedUtc::Refused(Refusal::Result);
+        return DatedUtc::Refused(Refusal::ResultOutside);
     }
     DatedUtc::At(leap::inner::utc_at(days, offsets, c))
 }

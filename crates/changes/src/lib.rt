@@ -43,7 +43,7 @@ fn by_list(t: Time, days: &[i64], offsets: &[u64], last: i64) -> DatedTai
     ensures { λ r. ⌜ ByList (timeScale t) (timeCount t) (now (days .entry)) (now (offsets .entry)) last r ⌝ }
 {
     if !leap::is_accepted(days, offsets, last) {
-        return DatedTai::Refused(Refusal::List);
+        return DatedTai::Refused(Refusal::ListNotAccepted);
     }
     inner::from_time(t, days, offsets, last)
 }
@@ -99,16 +99,16 @@ pub fn change(h: Handed, to: Scale, days: &[i64], offsets: &[u64], last: i64) ->
     ensures { λ r. ⌜ slip r ≡ changeOf h to (now (days .entry)) (now (offsets .entry)) last ⌝ }
 {
     match decimal::take(h) {
-        Taken::NotFinite(_) => Dated::Refused(Refusal::NotFinite, to),
+        Taken::NotFinite(_) => Dated::Refused(Refusal::DecimalNotFinite, to),
         Taken::Outside(s) => {
             if lacks_list(s, to, days, offsets, last) {
-                return Dated::Refused(Refusal::List, to);
+                return Dated::Refused(Refusal::ListNotAccepted, to);
             }
-            Dated::Refused(Refusal::Span, to)
+            Dated::Refused(Refusal::OutsideSpan, to)
         }
         Taken::At(t) => {
             if lacks_list(t.scale(), to, days, offsets, last) {
-                return Dated::Refused(Refusal::List, to);
+                return Dated::Refused(Refusal::ListNotAccepted, to);
             }
             inner::change(t, to, days, offsets, last)
         }

@@ -77,7 +77,7 @@ fn record_in(scale: Scale, place: u64) -> Dated
     let r = Record::new(scale, day, place % 86_400_000_000);
     match r.to_time() {
         Timed::At(_) => Dated::At(r),
-        Timed::Refused(_, _) => Dated::Refused(Refusal::Result, scale),
+        Timed::Refused(_, _) => Dated::Refused(Refusal::ResultOutside, scale),
     }
 }
 
@@ -93,13 +93,13 @@ pub fn date(
     ensures { λ r. ⌜ slip r ≡ dated scale (outcome (judging scale inside (coverOf v) (microsAt at) «receipt_day» «receipt_micro»)) ⌝ }
 {
     let Place::At(w) = place_in(scale, receipt_day, receipt_micro) else {
-        return Dated::Refused(Refusal::Span, scale);
+        return Dated::Refused(Refusal::OutsideSpan, scale);
     };
     if !inside {
-        return Dated::Refused(Refusal::Force, scale);
+        return Dated::Refused(Refusal::NotInForce, scale);
     }
     if !covers(v, w) {
-        return Dated::Refused(Refusal::Force, scale);
+        return Dated::Refused(Refusal::NotInForce, scale);
     }
     record_in(scale, at)
 }
@@ -130,13 +130,13 @@ fn turn_time(due: Scale, v: Ends, t: Time) -> Turned
     ensures { λ r. ⌜ landed r ≡ outcome (covering due (coverOf v) (Handed.Record (recordAt (timeScale t) (timeCount t)))) ⌝ }
 {
     if t.scale().code() != due.code() {
-        return Turned::Refused(Refusal::Image);
+        return Turned::Refused(Refusal::NoImage);
     }
     let Place::At(w) = place_at(t) else {
-        return Turned::Refused(Refusal::Image);
+        return Turned::Refused(Refusal::NoImage);
     };
     if !covers(v, w) {
-        return Turned::Refused(Refusal::Force);
+        return Turned::Refused(Refusal::NotInForce);
     }
     Turned::At(w)
 }
@@ -146,8 +146,8 @@ pub fn turn(due: Scale, v: Ends, h: Handed) -> Turned
     ensures { λ r. ⌜ landed r ≡ outcome (covering due (coverOf v) h) ⌝ }
 {
     match decimal::take(h) {
-        Taken::NotFinite(_) => Turned::Refused(Refusal::NotFinite),
-        Taken::Outside(_) => Turned::Refused(Refusal::Span),
+        Taken::NotFinite(_) => Turned::Refused(Refusal::DecimalNotFinite),
+        Taken::Outside(_) => Turned::Refused(Refusal::OutsideSpan),
         Taken::At(t) => turn_time(due, v, t),
     }
 }
@@ -157,8 +157,8 @@ pub fn unaccepted(h: Handed) -> Refusal
     ensures { λ r. ⌜ numberOf r ≡ unacceptedBy h ⌝ }
 {
     match decimal::take(h) {
-        Taken::NotFinite(_) => Refusal::NotFinite,
-        Taken::Outside(_) => Refusal::Correlation,
-        Taken::At(_) => Refusal::Correlation,
+        Taken::NotFinite(_) => Refusal::DecimalNotFinite,
+        Taken::Outside(_) => Refusal::CorrelationNotAccepted,
+        Taken::At(_) => Refusal::CorrelationNotAccepted,
     }
 }

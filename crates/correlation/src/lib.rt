@@ -84,7 +84,7 @@ pub fn date(c: Correlation, tick: Tick, receipt_day: i64, receipt_micro: u64) ->
 {
     let scale = c.scale;
     let Place::At(r) = reference_of(c) else {
-        return Dated::Refused(Refusal::Correlation, scale);
+        return Dated::Refused(Refusal::CorrelationNotAccepted, scale);
     };
     let k = count(tick.0, c.tick.0);
     let inside = clock::inner::in_window(2_147_483_648, c.back, c.ahead, k);

@@ -33,7 +33,7 @@ since-at p u =
     ∙ sub-add (p * dayMicros) (40000 * dayMicros) u 0
 
 -- ---- second 60, and the rest of the day
-pub image-no : (d : ℤ) (u : ℕ) → dayMicros ≤ u → Allowed (outcome (imaging d u)) (decimalSlip (D.Refused R.Image))
+pub image-no : (d : ℤ) (u : ℕ) → dayMicros ≤ u → Allowed (outcome (imaging d u)) (decimalSlip (D.Refused R.NoImage))
 image-no d u h = rw (le-ltb u dayMicros h) ((refl, refl))
 
 pub image-at : (p u : ℕ) (x : Float) → u < dayMicros → DayOf (microsAt (p * dayMicros + u)) x → Allowed (outcome (imaging (dayAt p) u)) (decimalSlip (D.Day x))
@@ -41,10 +41,10 @@ image-at p u x h k = rw (lt-ltb u dayMicros h) ((refl, subst (λ (z : ℤ). DayO
 
 -- ---- from what `take` told
 module _ (h : Handed) where
-  pub wrote-nothing : isFinite h ≡ false → WroteDay h (D.Refused R.NotFinite)
+  pub wrote-nothing : isFinite h ≡ false → WroteDay h (D.Refused R.DecimalNotFinite)
   wrote-nothing e = rw e ((refl, refl))
 
-  pub wrote-outside : isFinite h ≡ true → isInSpan h ≡ false → WroteDay h (D.Refused R.Span)
+  pub wrote-outside : isFinite h ≡ true → isInSpan h ≡ false → WroteDay h (D.Refused R.OutsideSpan)
   wrote-outside e f = rw (e, f) ((refl, refl))
 
   module _ (t : Time) (w : Told h t) where

@@ -178,8 +178,8 @@ pub fn read(day: f64, scale: Scale) -> Dated
     ensures { λ r. ⌜ slip r ≡ readOf day scale ⌝ }
 {
     match take(Handed::Decimal(day, scale)) {
-        Taken::NotFinite(s) => Dated::Refused(Refusal::NotFinite, s),
-        Taken::Outside(s) => Dated::Refused(Refusal::Span, s),
+        Taken::NotFinite(s) => Dated::Refused(Refusal::DecimalNotFinite, s),
+        Taken::Outside(s) => Dated::Refused(Refusal::OutsideSpan, s),
         Taken::At(t) => Dated::At(t.to_record()),
     }
 }
@@ -221,7 +221,7 @@ fn write_count(bound: u64, count: u64) -> Decimal
 {
     let micro = count % bound;
     if 86_400_000_000 <= micro {
-        return Decimal::Refused(Refusal::Image);
+        return Decimal::Refused(Refusal::NoImage);
     }
     Decimal::Day(day_of(count / bound * 86_400_000_000 + micro))
 }
@@ -242,8 +242,8 @@ pub fn write(h: Handed) -> Decimal
     ensures { λ r. ⌜ WroteDay h r ⌝ }
 {
     match take(h) {
-        Taken::NotFinite(_) => Decimal::Refused(Refusal::NotFinite),
-        Taken::Outside(_) => Decimal::Refused(Refusal::Span),
+        Taken::NotFinite(_) => Decimal::Refused(Refusal::DecimalNotFinite),
+        Taken::Outside(_) => Decimal::Refused(Refusal::OutsideSpan),
         Taken::At(t) => write_time(t),
     }
 }

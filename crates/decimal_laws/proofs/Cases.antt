@@ -122,14 +122,14 @@ pub decimal-written : WroteDay (H.Decimal (fin false 1 (negsuc 39)) S.Tai) (D.Da
 decimal-written = (refl, refl)
 
 -- 4 before 7 before 12, and with each the number's plus zero
-pub infinite-unwritten : WroteDay (H.Decimal (ofBits binary64 0x7ff0_0000_0000_0000) S.Utc) (D.Refused R.NotFinite)
+pub infinite-unwritten : WroteDay (H.Decimal (ofBits binary64 0x7ff0_0000_0000_0000) S.Utc) (D.Refused R.DecimalNotFinite)
 unfolding ofBits
 infinite-unwritten = (refl, refl)
 
-pub outside-unwritten : WroteDay (H.Record (recordOf S.Utc (pos 36525) 86400000000)) (D.Refused R.Span)
+pub outside-unwritten : WroteDay (H.Record (recordOf S.Utc (pos 36525) 86400000000)) (D.Refused R.OutsideSpan)
 outside-unwritten = (refl, refl)
 
-pub sixty-unwritten : WroteDay (H.Record (recordOf S.Utc (pos 6209) 86400000000)) (D.Refused R.Image)
+pub sixty-unwritten : WroteDay (H.Record (recordOf S.Utc (pos 6209) 86400000000)) (D.Refused R.NoImage)
 sixty-unwritten = (refl, refl)
 
 -- ---- the theorems at these inputs

@@ -184,7 +184,7 @@ carried h = D.Day (over64 h dayMicros)
 abbrev sixty : Handed
 sixty = H.Record (recordOf S.Utc (pos 6209) 86400000000)
 
-pub write-carried : ShutWrite sixty (D.Refused R.Image) (carried sixty) (D.Day (fin false 3105 (pos 1)))
+pub write-carried : ShutWrite sixty (D.Refused R.NoImage) (carried sixty) (D.Day (fin false 3105 (pos 1)))
 unfolding div ofInt
 write-carried =
-    ((refl, refl), refl, forbidden sixty (D.Refused R.Image) (D.Day (fin false 3105 (pos 1))) (refl, refl) (byDayNumber (λ e. omega arith)))
+    ((refl, refl), refl, forbidden sixty (D.Refused R.NoImage) (D.Day (fin false 3105 (pos 1))) (refl, refl) (byDayNumber (λ e. omega arith)))

@@ -17,7 +17,7 @@ module _ (n m x y : ℕ) (s : List ℕ) where
   two-length : length (field n x ++ field m y) ≡ n + m
   two-length = length-append (field n x) (field m y) ∙ ap₂ _+_ (length-field n x) (length-field m y)
 
-  pub two-none : length s < n + m → wrote (W.Refused R.Room) s ≡ written s (outcome (placing (field n x ++ field m y) s))
+  pub two-none : length s < n + m → wrote (W.Refused R.OutputShorter) s ≡ written s (outcome (placing (field n x ++ field m y) s))
   two-none h = rw (two-length, lt-leb (n + m) (length s) h)
 
   -- what the two calls left, in the checker's forms

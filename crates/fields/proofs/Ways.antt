@@ -26,15 +26,15 @@ module _ {A : Type 0} (z : A) (j : Judged A) where
 
 -- ---- CryoSat's fields as its reader answers them, and what SIRAL's learns of them
 module _ (s : List ℕ) where
-  pub front-is : (t : Bool) → slip (cond t (P.Fields (fieldsOf s)) (P.Refused R.Field)) ≡ valued empty (outcome (given t 3 (gives (fieldsOf s))))
+  pub front-is : (t : Bool) → slip (cond t (P.Fields (fieldsOf s)) (P.Refused R.FieldOver)) ≡ valued empty (outcome (given t 3 (gives (fieldsOf s))))
   front-is true = refl
   front-is false = refl
 
-  pub front-some : (t : Bool) (f : Fields) → P.Fields f ≡ cond t (P.Fields (fieldsOf s)) (P.Refused R.Field) → (t ≡ true) × (f ≡ fieldsOf s)
+  pub front-some : (t : Bool) (f : Fields) → P.Fields f ≡ cond t (P.Fields (fieldsOf s)) (P.Refused R.FieldOver) → (t ≡ true) × (f ≡ fieldsOf s)
   front-some true f e = (refl, cc)
   front-some false f e = absurd (let z : _≡_ {A = ℕ} 0 1 = cc in omega arith)
 
-  pub front-no : (t : Bool) (f : Refusal) → P.Refused f ≡ cond t (P.Fields (fieldsOf s)) (P.Refused R.Field) → (t ≡ false) × (f ≡ R.Field)
+  pub front-no : (t : Bool) (f : Refusal) → P.Refused f ≡ cond t (P.Fields (fieldsOf s)) (P.Refused R.FieldOver) → (t ≡ false) × (f ≡ R.FieldOver)
   front-no true f e = absurd (let z : _≡_ {A = ℕ} 0 1 = cc in omega arith)
   front-no false f e = (refl, cc)
 

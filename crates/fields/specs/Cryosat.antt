@@ -36,7 +36,7 @@ writing f out =
 
 -- the fields that bytes begin with, or 3: SIRAL's begin so too
 abbrev pub frontOf : List ℕ → Parted
-frontOf s = cond (inLimits (part s 2 4) (part s 6 2)) (P.Fields (fieldsOf s)) (P.Refused R.Field)
+frontOf s = cond (inLimits (part s 2 4) (part s 6 2)) (P.Fields (fieldsOf s)) (P.Refused R.FieldOver)
 
 -- ---- what is handed back
 abbrev pub empty : Fields

@@ -37,7 +37,7 @@ pub(crate) fn front(b: &[u8]) -> Parted
     let millisecond = crate::part(b, 2, 4) as u32;
     let microsecond = crate::part(b, 6, 2) as u16;
     if !in_limits(millisecond, microsecond) {
-        return Parted::Refused(Refusal::Field);
+        return Parted::Refused(Refusal::FieldOver);
     }
     Parted::Fields(Fields {
         day: crate::part(b, 0, 2) as u16,
@@ -50,7 +50,7 @@ pub fn read(b: &[u8]) -> Parted
     ensures { λ r. ⌜ slip r ≡ read (now (b .entry)) ⌝ }
 {
     if b.len() != 8 {
-        return Parted::Refused(Refusal::Length);
+        return Parted::Refused(Refusal::LengthIsNone);
     }
     front(b)
 }
@@ -59,7 +59,7 @@ pub fn write(f: Fields, out: &mut [u8]) -> Written
     ensures { λ r. ⌜ wrote r (now (out .exit)) ≡ write f (now (out .entry)) ⌝ }
 {
     if !in_limits(f.millisecond, f.microsecond) {
-        return Written::Refused(Refusal::Field);
+        return Written::Refused(Refusal::FieldOver);
     }
     crate::place_two(
         f.day as u64,

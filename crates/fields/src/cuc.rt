@@ -19,7 +19,7 @@ pub fn read(b: &[u8]) -> Parted
     ensures { λ r. ⌜ slip r ≡ read (now (b .entry)) ⌝ }
 {
     if b.len() != 6 {
-        return Parted::Refused(Refusal::Length);
+        return Parted::Refused(Refusal::LengthIsNone);
     }
     Parted::Fields(Fields {
         seconds: crate::part(b, 0, 4) as u32,

@@ -11,7 +11,7 @@ pub fn read(b: &[u8]) -> Counting
     ensures { λ r. ⌜ countSlip r ≡ read (now (b .entry)) ⌝ }
 {
     if b.len() != 6 {
-        return Counting::Refused(Refusal::Length);
+        return Counting::Refused(Refusal::LengthIsNone);
     }
     Counting::Count(crate::part(b, 0, 6))
 }
@@ -21,7 +21,7 @@ pub fn write(count: u64, out: &mut [u8]) -> Written
 {
     // 2^48
     if 281_474_976_710_656 <= count {
-        return Written::Refused(Refusal::Field);
+        return Written::Refused(Refusal::FieldOver);
     }
     crate::place(count, 6, out)
 }

@@ -39,7 +39,7 @@ fn place_two(x: u64, n: usize, y: u64, m: usize, out: &mut [u8]) -> Written
 {
     let end = n + m;
     if out.len() < end {
-        return Written::Refused(Refusal::Room);
+        return Written::Refused(Refusal::OutputShorter);
     }
     octets::lay(x, &mut out[0..n]);
     octets::lay(y, &mut out[n..end]);

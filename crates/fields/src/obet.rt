@@ -11,10 +11,10 @@ pub fn read(b: &[u8]) -> Counting
     ensures { λ r. ⌜ countSlip r ≡ read (now (b .entry)) ⌝ }
 {
     if b.len() != 8 {
-        return Counting::Refused(Refusal::Length);
+        return Counting::Refused(Refusal::LengthIsNone);
     }
     if crate::part(b, 0, 1) != 0x66 {
-        return Counting::Refused(Refusal::Marker);
+        return Counting::Refused(Refusal::MarkerWrong);
     }
     Counting::Count(crate::part(b, 1, 7))
 }
@@ -24,7 +24,7 @@ pub fn write(count: u64, out: &mut [u8]) -> Written
 {
     // 2^56
     if 72_057_594_037_927_936 <= count {
-        return Written::Refused(Refusal::Field);
+        return Written::Refused(Refusal::FieldOver);
     }
     crate::place_two(0x66, 1, count, 7, out)
 }

@@ -22,15 +22,15 @@ pub fn read(b: &[u8]) -> Parted
     ensures { λ r. ⌜ slip r ≡ read (now (b .entry)) ⌝ }
 {
     if b.len() != 8 {
-        return Parted::Refused(Refusal::Length);
+        return Parted::Refused(Refusal::LengthIsNone);
     }
     let head = crate::part(b, 0, 2);
     if head / 2 % 8 != 0 {
-        return Parted::Refused(Refusal::Marker);
+        return Parted::Refused(Refusal::MarkerWrong);
     }
     let second = crate::part(b, 2, 4);
     if 604_799 < second {
-        return Parted::Refused(Refusal::Field);
+        return Parted::Refused(Refusal::FieldOver);
     }
     let fraction = crate::part(b, 6, 2);
     Parted::Fields(Fields {
@@ -55,10 +55,10 @@ pub fn write(f: Fields, out: &mut [u8]) -> Written
     let week = f.week as u64;
     let second = f.second as u64;
     if 4096 <= week {
-        return Written::Refused(Refusal::Field);
+        return Written::Refused(Refusal::FieldOver);
     }
     if 604_799 < second {
-        return Written::Refused(Refusal::Field);
+        return Written::Refused(Refusal::FieldOver);
     }
     crate::place_two(
         head(week, f.h3),

@@ -11,7 +11,7 @@ pub fn read(b: &[u8]) -> Ticked
     ensures { λ r. ⌜ slip r ≡ read (now (b .entry)) ⌝ }
 {
     if b.len() != 4 {
-        return Ticked::Refused(Refusal::Length);
+        return Ticked::Refused(Refusal::LengthIsNone);
     }
     Ticked::Tick(Tick(crate::part(b, 0, 4) as u32))
 }

@@ -22,7 +22,7 @@ pub fn read(b: &[u8]) -> Parted
     ensures { λ r. ⌜ slip r ≡ read (now (b .entry)) ⌝ }
 {
     if b.len() != 10 {
-        return Parted::Refused(Refusal::Length);
+        return Parted::Refused(Refusal::LengthIsNone);
     }
     match crate::cryosat::front(b) {
         Front::Fields(f) => Parted::Fields(Fields {
@@ -39,7 +39,7 @@ pub fn write(f: Fields, out: &mut [u8]) -> Written
     ensures { λ r. ⌜ wrote r (now (out .exit)) ≡ write f (now (out .entry)) ⌝ }
 {
     if !crate::cryosat::in_limits(f.millisecond, f.microsecond) {
-        return Written::Refused(Refusal::Field);
+        return Written::Refused(Refusal::FieldOver);
     }
     let front = (f.day as u64) * 4_294_967_296 + (f.millisecond as u64);
     let back = (f.microsecond as u64) * 65536 + (f.extra as u64);

@@ -104,10 +104,10 @@ pub fn date(c: Correlation, obt: u64, receipt_day: i64, receipt_micro: u64) -> D
     ensures { λ r. ⌜ slip r ≡ dateOf c obt «receipt_day» «receipt_micro» ⌝ }
 {
     if 281_474_976_710_656 <= obt {
-        return Dated::Refused(Refusal::Field, Scale::Utc);
+        return Dated::Refused(Refusal::FieldOver, Scale::Utc);
     }
     let Place::At(s) = reference_of(c) else {
-        return Dated::Refused(Refusal::Correlation, Scale::Utc);
+        return Dated::Refused(Refusal::CorrelationNotAccepted, Scale::Utc);
     };
     let k = count(obt, c.obt0);
     let inside = clock::inner::in_window(140_737_488_355_328, c.back, c.ahead, k);

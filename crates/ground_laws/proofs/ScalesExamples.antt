@@ -80,12 +80,12 @@ spans-meet = (
 
 pub counts-meet :
     (momentAt S.Gps 3456000000000005 ≡ record { day = pos 0; micro = 5 }) × (3456000000000005 ≡ countOf S.Gps (pos 0) 5)
-    × (R.Span ≡ R.Span) × (timeAt S.Gps 3456000000000005 ≡ timeAt S.Gps (countOf S.Gps (pos 0) 5))
+    × (R.OutsideSpan ≡ R.OutsideSpan) × (timeAt S.Gps 3456000000000005 ≡ timeAt S.Gps (countOf S.Gps (pos 0) 5))
 unfolding spanned
 counts-meet = (
   moment-of S.Gps (pos 0) 5 day-zero,
   typed-at S.Gps (pos 0) 5 3456000000000005 refl .1,
-  typed-no S.Gps (pos 36525) 5 R.Span refl .1,
+  typed-no S.Gps (pos 36525) 5 R.OutsideSpan refl .1,
   timed-at S.Gps (pos 0) 5 (timeAt S.Gps 3456000000000005) refl .1,
 )
 

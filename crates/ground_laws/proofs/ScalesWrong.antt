@@ -37,14 +37,14 @@ code-exchanged = (refl, refl, λ e. omega arith)
 abbrev fromRowZero : Refusal → ℕ
 fromRowZero f = numberOf f - 1
 
-pub number-from-zero : ShutOut (numberOf R.Span) 7 (fromRowZero R.Span) 6
+pub number-from-zero : ShutOut (numberOf R.OutsideSpan) 7 (fromRowZero R.OutsideSpan) 6
 number-from-zero = (refl, refl, λ e. omega arith)
 
 -- 9 and 10 in each other's place
 abbrev swapped : Refusal → ℕ
 swapped f = cond (eqb (numberOf f) 9) 10 (cond (eqb (numberOf f) 10) 9 (numberOf f))
 
-pub number-swapped : ShutOut (numberOf R.Expired) 9 (swapped R.Expired) 10
+pub number-swapped : ShutOut (numberOf R.ListExpired) 9 (swapped R.ListExpired) 10
 number-swapped = (refl, refl, λ e. omega arith)
 
 -- ---- the constructors, and `judged` and `to_time` of a record: a desk with another test in the place of the span's

@@ -55,16 +55,16 @@ module _ (h : Handed) where
     tests : inWeeks ≡ leb 32700 (n / 86401000000) && (leb (n / 86401000000) 61371 && ltb (n % 86401000000) 86400000000)
     tests = rw (day-from 32700 (dayOf h) (lit< tt) (lit≤ tt), day-to 61371 (dayOf h) (lit< tt), day-of, micro-of)
 
-    none : inWeeks ≡ false → slipOf 0 (no R.Image) ≡ valued 0 (outcome (since1980 h))
+    none : inWeeks ≡ false → slipOf 0 (no R.NoImage) ≡ valued 0 (outcome (since1980 h))
     none e = now-no S.Utc h (microsFrom Proteus.epoch (dayOf h) (microOf h)) inWeeks d e
 
-    pub proteus-early : n / 86401000000 < 32700 → slipOf 0 (no R.Image) ≡ valued 0 (outcome (since1980 h))
+    pub proteus-early : n / 86401000000 < 32700 → slipOf 0 (no R.NoImage) ≡ valued 0 (outcome (since1980 h))
     proteus-early k = none (tests ∙ rw (lt-leb 32700 (n / 86401000000) k))
 
-    pub proteus-late : 61371 < n / 86401000000 → slipOf 0 (no R.Image) ≡ valued 0 (outcome (since1980 h))
+    pub proteus-late : 61371 < n / 86401000000 → slipOf 0 (no R.NoImage) ≡ valued 0 (outcome (since1980 h))
     proteus-late k = none (tests ∙ rw (lt-leb (n / 86401000000) 61371 k) (and-false (leb 32700 (n / 86401000000))))
 
-    pub proteus-sixty : 86400000000 ≤ n % 86401000000 → slipOf 0 (no R.Image) ≡ valued 0 (outcome (since1980 h))
+    pub proteus-sixty : 86400000000 ≤ n % 86401000000 → slipOf 0 (no R.NoImage) ≡ valued 0 (outcome (since1980 h))
     proteus-sixty k =
         none (tests ∙ rw (le-ltb (n % 86401000000) 86400000000 k, and-false (leb (n / 86401000000) 61371), and-false (leb 32700 (n / 86401000000))))
 
@@ -95,7 +95,7 @@ module _ (h : Handed) where
   day-test = day-from 40000 (dayOf h) (lit< tt) (lit≤ tt)
 
   module _ (n : ℕ) (d : HeldIn S.Tai h n) where
-    pub cryosat-early : n < 3456000000000000 → slipOf 0 (no R.Image) ≡ valued 0 (outcome (since2000 h))
+    pub cryosat-early : n < 3456000000000000 → slipOf 0 (no R.NoImage) ≡ valued 0 (outcome (since2000 h))
     cryosat-early k =
         now-no S.Tai h (microsFrom Cryosat.epoch (dayOf h) (microOf h)) (leZ Cryosat.epoch (dayOf h)) d
         (day-test ∙ lt-leb 40000 (placeOfDay (dayOf h)) (omega (arith, d .is)))

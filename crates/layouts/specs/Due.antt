@@ -44,14 +44,14 @@ since1980 h = taking h (Proteus.hasImage (scaleOf h) (dayOf h) (microOf h)) (mic
 -- ---- from what `take` answers
 module _ (s : Scale) (h : Handed) where
   module _ (t : Taken) (w : Took h t) (x : Scale) where
-    pub due-nothing : t ≡ K.NotFinite x → slipOf 0 (no R.NotFinite) ≡ valued 0 (outcome (dueIn s h))
+    pub due-nothing : t ≡ K.NotFinite x → slipOf 0 (no R.DecimalNotFinite) ≡ valued 0 (outcome (dueIn s h))
     due-nothing e = rw (told-nothing h t w x e .0)
 
-    pub due-outside : t ≡ K.Outside x → slipOf 0 (no R.Span) ≡ valued 0 (outcome (dueIn s h))
+    pub due-outside : t ≡ K.Outside x → slipOf 0 (no R.OutsideSpan) ≡ valued 0 (outcome (dueIn s h))
     due-outside e = let o = told-outside h t w x e in rw (o .0, o .1)
 
   module _ (t : Time) (w : Told h t) where
-    pub due-other : (codeOf (timeScale t) ≡ codeOf s → ⊥) → slipOf 0 (no R.Image) ≡ valued 0 (outcome (dueIn s h))
+    pub due-other : (codeOf (timeScale t) ≡ codeOf s → ⊥) → slipOf 0 (no R.NoImage) ≡ valued 0 (outcome (dueIn s h))
     due-other n =
         rw (w .finite, w .inside, ne-eqb (codeOf s) (codeOf (scaleOf h)) (λ e. n (ap codeOf (told-scale h t w) ∙ sym e)))
 
@@ -101,7 +101,7 @@ module _ (s : Scale) (h : Handed) where
           ∙ both (sameScale s (scaleOf h)) b (countOf s (dayOf h) (microOf h)))
 
       module _ {n : ℕ} (d : HeldIn n) where
-        pub now-no : b ≡ false → slipOf 0 (no R.Image) ≡ valued 0 (outcome (taking h (sameScale s (scaleOf h) && b) m))
+        pub now-no : b ≡ false → slipOf 0 (no R.NoImage) ≡ valued 0 (outcome (taking h (sameScale s (scaleOf h) && b) m))
         now-no e = rw (d .finite, d .inside, d .image, e)
 
         pub now-at : b ≡ true → {k : ℕ} → k ≡ m → slipOf 0 (some k) ≡ valued 0 (outcome (taking h (sameScale s (scaleOf h) && b) m))

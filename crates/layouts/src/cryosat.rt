@@ -43,7 +43,7 @@ pub(crate) fn since_2000(h: Handed) -> Counting
         Counting::Count(n) => {
             // 40,000 days: from day -40000 to day 0
             if n < 3_456_000_000_000_000 {
-                return Counting::Refused(Refusal::Image);
+                return Counting::Refused(Refusal::NoImage);
             }
             Counting::Count(n - 3_456_000_000_000_000)
         }

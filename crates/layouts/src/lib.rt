@@ -60,13 +60,13 @@ fn due(h: Handed, scale: Scale) -> Counting
     ensures { λ r. ⌜ countSlip r ≡ valued 0 (outcome (dueIn scale h)) ⌝ }
 {
     match decimal::take(h) {
-        Taken::NotFinite(_) => Counting::Refused(Refusal::NotFinite),
-        Taken::Outside(_) => Counting::Refused(Refusal::Span),
+        Taken::NotFinite(_) => Counting::Refused(Refusal::DecimalNotFinite),
+        Taken::Outside(_) => Counting::Refused(Refusal::OutsideSpan),
         Taken::At(t) => {
             if t.scale().code() == scale.code() {
                 return Counting::Count(count(t));
             }
-            Counting::Refused(Refusal::Image)
+            Counting::Refused(Refusal::NoImage)
         }
     }
 }

@@ -50,13 +50,13 @@ fn since_1980(h: Handed) -> Counting
             let day = n / Utc::BOUND;
             let micro = n % Utc::BOUND;
             if day < 32700 {
-                return Counting::Refused(Refusal::Image);
+                return Counting::Refused(Refusal::NoImage);
             }
             if 61371 < day {
-                return Counting::Refused(Refusal::Image);
+                return Counting::Refused(Refusal::NoImage);
             }
             if 86_400_000_000 <= micro {
-                return Counting::Refused(Refusal::Image);
+                return Counting::Refused(Refusal::NoImage);
             }
             Counting::Count((day - 32700) * 86_400_000_000 + micro)
         }

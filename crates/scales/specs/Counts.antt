@@ -67,7 +67,7 @@ module _ (s : Scale) (d : ℤ) (u : ℕ) where
       let k = counted-at n e in
       ap (λ (m : Moment). dated s (answer m)) (ap (momentAt s) (k .1) ∙ moment-of s d u (k .0)) ∙ sym (spanned-in s d u (k .0))
 
-  pub count-out : counted s d u ≡ C.Outside → slipOf s (no R.Span) ≡ spanned s d u
+  pub count-out : counted s d u ≡ C.Outside → slipOf s (no R.OutsideSpan) ≡ spanned s d u
   count-out e = sym (spanned-out s d u (counted-out e))
 
   -- ---- from the slip of a constructor: the test and the count, or the test and the refusal
@@ -80,11 +80,11 @@ module _ (s : Scale) (d : ℤ) (u : ℕ) where
   pub typed-at : (n : ℕ) → slipOf s (at n) ≡ spanned s d u → (inSpan s d u ≡ true) × (n ≡ countOf s d u)
   typed-at n e = typed-by (inSpan s d u) refl n e
 
-  no-by : (t : Bool) → inSpan s d u ≡ t → (f : Refusal) → slipOf s (no f) ≡ spanned s d u → (inSpan s d u ≡ false) × (f ≡ R.Span)
+  no-by : (t : Bool) → inSpan s d u ≡ t → (f : Refusal) → slipOf s (no f) ≡ spanned s d u → (inSpan s d u ≡ false) × (f ≡ R.OutsideSpan)
   no-by true e f g = absurd (some f (λ i. (g ∙ spanned-in s d u e) i .number))
-  no-by false e f g = (e, refusals f R.Span (λ i. (g ∙ spanned-out s d u e) i .number))
+  no-by false e f g = (e, refusals f R.OutsideSpan (λ i. (g ∙ spanned-out s d u e) i .number))
 
-  pub typed-no : (f : Refusal) → slipOf s (no f) ≡ spanned s d u → (inSpan s d u ≡ false) × (f ≡ R.Span)
+  pub typed-no : (f : Refusal) → slipOf s (no f) ≡ spanned s d u → (inSpan s d u ≡ false) × (f ≡ R.OutsideSpan)
   typed-no f e = no-by (inSpan s d u) refl f e
 
 -- ---- the same of a time whose scale is a value
@@ -102,7 +102,7 @@ module _ (s : Scale) (d : ℤ) (u : ℕ) where
       let q = typed-at s d u (timeCount t) (ap (λ (x : Scale). slipOf x (at (timeCount t))) (sym k) ∙ e) in
       (q .0, sym (time-is t) ∙ ap₂ timeAt k (q .1))
 
-  pub timed-no : (f : Refusal) (r : Scale) → slipTimed (TD.Refused f r) ≡ spanned s d u → (inSpan s d u ≡ false) × ((f ≡ R.Span) × (r ≡ s))
+  pub timed-no : (f : Refusal) (r : Scale) → slipTimed (TD.Refused f r) ≡ spanned s d u → (inSpan s d u ≡ false) × ((f ≡ R.OutsideSpan) × (r ≡ s))
   timed-no f r e =
       let k : r ≡ s = (λ i. e i .scale) ∙ spanned-scale (inSpan s d u) refl in
       let q = typed-no s d u f (ap (λ (x : Scale). slipOf x (no f)) (sym k) ∙ e) in

@@ -122,19 +122,19 @@ written out (answer image) = record { number = 0; length = length image; bytes =
 
 -- ---- this paper's number and values for each case of an answer
 abbrev pub numberOf : Refusal → ℕ
-numberOf R.Length = 1
-numberOf R.Marker = 2
-numberOf R.Field = 3
-numberOf R.NotFinite = 4
-numberOf R.List = 5
-numberOf R.Correlation = 6
-numberOf R.Span = 7
-numberOf R.Force = 8
-numberOf R.Expired = 9
-numberOf R.Second = 10
-numberOf R.Result = 11
-numberOf R.Image = 12
-numberOf R.Room = 13
+numberOf R.LengthIsNone = 1
+numberOf R.MarkerWrong = 2
+numberOf R.FieldOver = 3
+numberOf R.DecimalNotFinite = 4
+numberOf R.ListNotAccepted = 5
+numberOf R.CorrelationNotAccepted = 6
+numberOf R.OutsideSpan = 7
+numberOf R.NotInForce = 8
+numberOf R.ListExpired = 9
+numberOf R.SecondLacking = 10
+numberOf R.ResultOutside = 11
+numberOf R.NoImage = 12
+numberOf R.OutputShorter = 13
 
 abbrev pub slip : Dated → Slip
 slip (D.At r) = dated (r .scale) (answer (record { day = r .day; micro = r .micro }))

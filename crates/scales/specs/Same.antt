@@ -43,24 +43,24 @@ same-scale s t e = scales-same s t (eqb-true (codeOf s) (codeOf t) e)
 abbrev of : ℕ → Refusal
 of n =
     getD
-    (R.Room ∷ R.Length ∷ R.Marker ∷ R.Field ∷ R.NotFinite ∷ R.List ∷ R.Correlation ∷ R.Span ∷ R.Force ∷ R.Expired ∷ R.Second
-    ∷ R.Result ∷ R.Image ∷ [])
-    n R.Room
+    (R.OutputShorter ∷ R.LengthIsNone ∷ R.MarkerWrong ∷ R.FieldOver ∷ R.DecimalNotFinite ∷ R.ListNotAccepted ∷ R.CorrelationNotAccepted ∷ R.OutsideSpan ∷ R.NotInForce ∷ R.ListExpired ∷ R.SecondLacking
+    ∷ R.ResultOutside ∷ R.NoImage ∷ [])
+    n R.OutputShorter
 
 of-number : (r : Refusal) → of (numberOf r) ≡ r
-of-number R.Length = refl
-of-number R.Marker = refl
-of-number R.Field = refl
-of-number R.NotFinite = refl
-of-number R.List = refl
-of-number R.Correlation = refl
-of-number R.Span = refl
-of-number R.Force = refl
-of-number R.Expired = refl
-of-number R.Second = refl
-of-number R.Result = refl
-of-number R.Image = refl
-of-number R.Room = refl
+of-number R.LengthIsNone = refl
+of-number R.MarkerWrong = refl
+of-number R.FieldOver = refl
+of-number R.DecimalNotFinite = refl
+of-number R.ListNotAccepted = refl
+of-number R.CorrelationNotAccepted = refl
+of-number R.OutsideSpan = refl
+of-number R.NotInForce = refl
+of-number R.ListExpired = refl
+of-number R.SecondLacking = refl
+of-number R.ResultOutside = refl
+of-number R.NoImage = refl
+of-number R.OutputShorter = refl
 
 pub refusals : (a b : Refusal) → numberOf a ≡ numberOf b → a ≡ b
 refusals a b e = sym (of-number a) ∙ ap of e ∙ of-number b
@@ -68,7 +68,7 @@ refusals a b e = sym (of-number a) ∙ ap of e ∙ of-number b
 -- 0 is no refusal's number
 pub some : (r : Refusal) → numberOf r ≡ 0 → ⊥
 some r e =
-    let q : r ≡ R.Room = sym (of-number r) ∙ ap of e in
+    let q : r ≡ R.OutputShorter = sym (of-number r) ∙ ap of e in
     let n : numberOf r ≡ 13 = ap numberOf q in
     omega arith
 

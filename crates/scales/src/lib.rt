@@ -59,21 +59,21 @@ pub enum Handed {
     Decimal(f64, Scale),
 }
 
-// The rows of the refusal slip, 1 to 13.
+// The rows of the refusal slip, as refusals.txt lists them.
 pub enum Refusal {
-    Length,
-    Marker,
-    Field,
-    NotFinite,
-    List,
-    Correlation,
-    Span,
-    Force,
-    Expired,
-    Second,
-    Result,
-    Image,
-    Room,
+    LengthIsNone,
+    MarkerWrong,
+    FieldOver,
+    DecimalNotFinite,
+    ListNotAccepted,
+    CorrelationNotAccepted,
+    OutsideSpan,
+    NotInForce,
+    ListExpired,
+    SecondLacking,
+    ResultOutside,
+    NoImage,
+    OutputShorter,
 }
 
 impl Refusal {
@@ -81,19 +81,19 @@ impl Refusal {
         ensures { λ n. ⌜ n ≡ numberOf self ⌝ }
     {
         match self {
-            Refusal::Length => 1,
-            Refusal::Marker => 2,
-            Refusal::Field => 3,
-            Refusal::NotFinite => 4,
-            Refusal::List => 5,
-            Refusal::Correlation => 6,
-            Refusal::Span => 7,
-            Refusal::Force => 8,
-            Refusal::Expired => 9,
-            Refusal::Second => 10,
-            Refusal::Result => 11,
-            Refusal::Image => 12,
-            Refusal::Room => 13,
+            Refusal::LengthIsNone => 1,
+            Refusal::MarkerWrong => 2,
+            Refusal::FieldOver => 3,
+            Refusal::DecimalNotFinite => 4,
+            Refusal::ListNotAccepted => 5,
+            Refusal::CorrelationNotAccepted => 6,
+            Refusal::OutsideSpan => 7,
+            Refusal::NotInForce => 8,
+            Refusal::ListExpired => 9,
+            Refusal::SecondLacking => 10,
+            Refusal::ResultOutside => 11,
+            Refusal::NoImage => 12,
+            Refusal::OutputShorter => 13,
         }
     }
 }
@@ -175,7 +175,7 @@ impl Record {
         let scale = self.scale;
         match count_of(scale, self.day, self.micro) {
             Counted::At(n) => Timed::At(time_at(scale, n)),
-            Counted::Outside => Timed::Refused(Refusal::Span, scale),
+            Counted::Outside => Timed::Refused(Refusal::OutsideSpan, scale),
         }
     }
 
@@ -186,7 +186,7 @@ impl Record {
         let scale = self.scale;
         match count_of(scale, self.day, self.micro) {
             Counted::At(_) => Dated::At(self),
-            Counted::Outside => Dated::Refused(Refusal::Span, scale),
+            Counted::Outside => Dated::Refused(Refusal::OutsideSpan, scale),
         }
     }
 }
@@ -203,7 +203,7 @@ impl Tai {
     {
         match count_of(Scale::Tai, day, micro) {
             Counted::At(n) => DatedTai::At(Tai(n)),
-            Counted::Outside => DatedTai::Refused(Refusal::Span),
+            Counted::Outside => DatedTai::Refused(Refusal::OutsideSpan),
         }
     }
 
@@ -226,7 +226,7 @@ impl Utc {
     {
         match count_of(Scale::Utc, day, micro) {
             Counted::At(n) => DatedUtc::At(Utc(n)),
-            Counted::Outside => DatedUtc::Refused(Refusal::Span),
+            Counted::Outside => DatedUtc::Refused(Refusal::OutsideSpan),
         }
     }
 
@@ -249,7 +249,7 @@ impl Gps {
     {
         match count_of(Scale::Gps, day, micro) {
             Counted::At(n) => DatedGps::At(Gps(n)),
-            Counted::Outside => DatedGps::Refused(Refusal::Span),
+            Counted::Outside => DatedGps::Refused(Refusal::OutsideSpan),
         }
     }
 

@@ -88,21 +88,21 @@ has t q = go (isDate t) refl (leb 1972 (t .year) && leb (t .year) 2099) (dayAfte
 
 -- ---- the text without its prefix
 module _ (z : Scale) (s : List ℕ) where
-  body-lacks : isBody z s ≡ false → ParsesBody z s (P.Refused R.Field)
+  body-lacks : isBody z s ≡ false → ParsesBody z s (P.Refused R.FieldOver)
   body-lacks w = record { is = λ ds os e. sym (rw w) }
 
-  pub body-marks : hasMarks s ≡ false → ParsesBody z s (P.Refused R.Field)
+  pub body-marks : hasMarks s ≡ false → ParsesBody z s (P.Refused R.FieldOver)
   unfolding isBody
   body-marks w = body-lacks (rw w)
 
-  pub body-limits : inLimits z (stampIn s) ≡ false → ParsesBody z s (P.Refused R.Field)
+  pub body-limits : inLimits z (stampIn s) ≡ false → ParsesBody z s (P.Refused R.FieldOver)
   unfolding isBody
   body-limits w = body-lacks (rw w (and-false (hasMarks s)))
 
   abbrev date : Date
   date = stampIn s .date
 
-  pub body-date : dayOfDate date .number ≡ 3 → ParsesBody z s (P.Refused R.Field)
+  pub body-date : dayOfDate date .number ≡ 3 → ParsesBody z s (P.Refused R.FieldOver)
   unfolding isBody
   body-date q = body-lacks (rw (lacks date q, and-false (inLimits z (stampIn s))) (and-false (hasMarks s)))
 
@@ -132,7 +132,7 @@ carried z y i j p q (P.Refused f) w = λ ds os e. w ds os e ∙ q ds os e
 carried z y i j p q (P.Time t) w = (w .0 ∙ p, λ ds os e. w .1 ds os e ∙ q ds os e)
 
 module _ (s : List ℕ) where
-  pub text-length : isPrefixed s ≡ false → isPlain s ≡ false → ParsesText s (P.Refused R.Length)
+  pub text-length : isPrefixed s ≡ false → isPlain s ≡ false → ParsesText s (P.Refused R.LengthIsNone)
   text-length a b = record { is = λ ds os e. sym (rw (a, b)) }
 
   pub text-plain : isPrefixed s ≡ false → isPlain s ≡ true → (r : Parsed) → ParsesBody S.Utc s r → ParsesText s r
@@ -140,7 +140,7 @@ module _ (s : List ℕ) where
   text-plain a b r w = record { is = carried S.Utc _ (bodyChain S.Utc s) (reading s) (sym (rw a)) (λ ds os e. sym (rw (a, b))) r (w .is) }
 
   module _ (a : isPrefixed s ≡ true) where
-    pub text-prefix : hasPrefix (prefixScale s) s ≡ false → ParsesText s (P.Refused R.Field)
+    pub text-prefix : hasPrefix (prefixScale s) s ≡ false → ParsesText s (P.Refused R.FieldOver)
     unfolding scaleIn bodyIn isPrefixRight
     text-prefix w = record { is = λ ds os e. sym (rw (a, w)) }
 

@@ -92,11 +92,11 @@ fn parse_body(z: Scale, s: &[u8]) -> Parsed
     ensures { λ r. ⌜ ParsesBody z (now (s .entry)) r ⌝ }
 {
     if !columns::has_marks(s) {
-        return Parsed::Refused(Refusal::Field);
+        return Parsed::Refused(Refusal::FieldOver);
     }
     let t = columns::stamp_in(s);
     if !columns::in_limits(z, t) {
-        return Parsed::Refused(Refusal::Field);
+        return Parsed::Refused(Refusal::FieldOver);
     }
     let date = t.date;
     match calendar::day_of(date) {
@@ -106,7 +106,7 @@ fn parse_body(z: Scale, s: &[u8]) -> Parsed
         }
         DayAnswer::Refused(f) => {
             if f.number() == 3 {
-                return Parsed::Refused(Refusal::Field);
+                return Parsed::Refused(Refusal::FieldOver);
             }
             Parsed::Time(Taken::Outside(z))
         }
@@ -120,14 +120,14 @@ pub(crate) fn parse(text: &[u8]) -> Parsed
     if columns::is_either(n, 24, 31) {
         let z = columns::prefix_scale(text);
         if !columns::has_prefix(z, text) {
-            return Parsed::Refused(Refusal::Field);
+            return Parsed::Refused(Refusal::FieldOver);
         }
         return parse_body(z, &text[4..]);
     }
     if columns::is_either(n, 20, 27) {
         return parse_body(Scale::Utc, text);
     }
-    Parsed::Refused(Refusal::Length)
+    Parsed::Refused(Refusal::LengthIsNone)
 }
 
 // ---- what both ways judge of a time
@@ -149,8 +149,8 @@ pub fn judge(t: Taken, days: &[i64], offsets: &[u64], last: i64) -> Dated
     ensures { λ r. ⌜ slip r ≡ dated (takenScale t) (outcome (taking t (now (days .entry)) (now (offsets .entry)) last)) ⌝ }
 {
     match t {
-        Taken::NotFinite(z) => Dated::Refused(Refusal::NotFinite, z),
-        Taken::Outside(z) => Dated::Refused(Refusal::Span, z),
+        Taken::NotFinite(z) => Dated::Refused(Refusal::DecimalNotFinite, z),
+        Taken::Outside(z) => Dated::Refused(Refusal::OutsideSpan, z),
         Taken::At(n) => changes::inner::change(n, n.scale(), days, offsets, last),
     }
 }
@@ -185,8 +185,8 @@ fn time_in(t: Taken, to: Scale, days: &[i64], offsets: &[u64], last: i64) -> Dat
     ensures { λ r. ⌜ slip r ≡ dated to (outcome (timeIn to (now (days .entry)) (now (offsets .entry)) last t)) ⌝ }
 {
     match t {
-        Taken::NotFinite(_) => Dated::Refused(Refusal::NotFinite, to),
-        Taken::Outside(_) => Dated::Refused(Refusal::Span, to),
+        Taken::NotFinite(_) => Dated::Refused(Refusal::DecimalNotFinite, to),
+        Taken::Outside(_) => Dated::Refused(Refusal::OutsideSpan, to),
         Taken::At(n) => changes::inner::change(n, to, days, offsets, last),
     }
 }

@@ -34,7 +34,7 @@ pub fn read(text: &[u8], days: &[i64], offsets: &[u64], last: i64) -> Dated
         Parsed::Refused(f) => Dated::Refused(f, Scale::Tai),
         Parsed::Time(t) => {
             if inner::lacks_list(t, days, offsets, last) {
-                return Dated::Refused(Refusal::List, Scale::Tai);
+                return Dated::Refused(Refusal::ListNotAccepted, Scale::Tai);
             }
             inner::read_time(t, days, offsets, last)
         }

@@ -26,7 +26,7 @@ module _ (image out : List ℕ) where
   unfolding putting onto
   put-done e = rw e
 
-  pub put-none : hasRoom image out ≡ false → wrote (W.Refused R.Room) (onto image out) ≡ putting image out
+  pub put-none : hasRoom image out ≡ false → wrote (W.Refused R.OutputShorter) (onto image out) ≡ putting image out
   unfolding putting onto
   put-none e = rw e
 
@@ -45,7 +45,7 @@ module _ (image out : List ℕ) where
 
   pub record Kept (f : Refusal) (left : List ℕ) : Type 0 where
     pub room : hasRoom image out ≡ false
-    pub why : f ≡ R.Room
+    pub why : f ≡ R.OutputShorter
     pub bytes : left ≡ onto image out
 
   pub put-refused : (f : Refusal) (left : List ℕ) → wrote (W.Refused f) left ≡ putting image out → Kept f left
@@ -53,7 +53,7 @@ module _ (image out : List ℕ) where
     where
       go : (b : Bool) → hasRoom image out ≡ b → Kept f left
       go true e = absurd (let p = q ∙ sym (put-done e) in some f (λ i. p i .number))
-      go false e = let p = q ∙ sym (put-none e) in record { room = e; why = refusals f R.Room (λ i. p i .number); bytes = λ i. p i .bytes }
+      go false e = let p = q ∙ sym (put-none e) in record { room = e; why = refusals f R.OutputShorter (λ i. p i .number); bytes = λ i. p i .bytes }
 
 -- ---- a prefix of four bytes
 pub prefix-length : (z : Scale) → length (prefixOf z) ≡ 4
@@ -66,12 +66,12 @@ module _ (z : Scale) (body out : List ℕ) where
   size : length (prefixOf z ++ body) ≡ 4 + length body
   size = length-append (prefixOf z) body ∙ ap (λ (n : ℕ). n + length body) (prefix-length z)
 
-  none : length out < 4 + length body → wrote (W.Refused R.Room) out ≡ putting (prefixOf z ++ body) out
+  none : length out < 4 + length body → wrote (W.Refused R.OutputShorter) out ≡ putting (prefixOf z ++ body) out
   none h =
       let l : length out < length (prefixOf z ++ body) = omega (arith, size) in
-      ap (wrote (W.Refused R.Room)) (sym (onto-none (prefixOf z ++ body) out l)) ∙ put-none (prefixOf z ++ body) out (lt-leb _ _ l)
+      ap (wrote (W.Refused R.OutputShorter)) (sym (onto-none (prefixOf z ++ body) out l)) ∙ put-none (prefixOf z ++ body) out (lt-leb _ _ l)
 
-  pub prefix-short : length out < 4 → wrote (W.Refused R.Room) out ≡ putting (prefixOf z ++ body) out
+  pub prefix-short : length out < 4 → wrote (W.Refused R.OutputShorter) out ≡ putting (prefixOf z ++ body) out
   prefix-short h = none (omega arith)
 
   module _ (h : 4 ≤ length out) (left : List ℕ) where

@@ -37,7 +37,7 @@ use Rattle.text_write.specs.declared.Form.{Form}
 
 -- ---- the image of a time in its span
 module _ (f : Form) (z : Scale) (m : Moment) (out : List ℕ) where
-  pub image-lacks : hasImage f z (m .micro) ≡ false → wrote (W.Refused R.Image) out ≡ imaged f z m out
+  pub image-lacks : hasImage f z (m .micro) ≡ false → wrote (W.Refused R.NoImage) out ≡ imaged f z m out
   unfolding imaged
   image-lacks e = sym (rw e)
 
@@ -113,7 +113,7 @@ module _ (t : Taken) (f : Form) (ds : List ℤ) (os : List ℕ) (e : ℤ) (out :
             let m = momentAt z (timeCount s) in
             counted z m n (not (isUtc z) || accepted ds os e) (inSpan z (m .day) (m .micro)) (not (isUtc z) || not (isExpiredDay e (m .day))) (not (isUtc z) || hasMicro ds (m .day) (m .micro)) refl g
 
-  pub write-lacks : (usesIn t && not (accepted ds os e)) ≡ true → wrote (W.Refused R.List) out ≡ writtenOf t f ds os e out
+  pub write-lacks : (usesIn t && not (accepted ds os e)) ≡ true → wrote (W.Refused R.ListNotAccepted) out ≡ writtenOf t f ds os e out
   write-lacks l =
       let x = lacking (usesIn t) (accepted ds os e) l in
       sym (written-is ∙ ap (λ (o : Outcome Moment). written out (onward next o)) (list-lacks ds os e t (x .0) (x .1)))

@@ -99,7 +99,7 @@ fn put(image: &[u8], out: &mut [u8]) -> Written
     if octets::put(image, out) {
         return Written::Bytes(image.len());
     }
-    Written::Refused(Refusal::Room)
+    Written::Refused(Refusal::OutputShorter)
 }
 
 // The text without its prefix.
@@ -120,7 +120,7 @@ fn fill_prefixed(z: Scale, t: Stamp, micros: bool, out: &mut [u8]) -> Written
     ensures { λ r. ⌜ wrote r (now (out .exit)) ≡ putting (prefixOf z ++ bodyOf micros t) (now (out .entry)) ⌝ }
 {
     if out.len() < 4 {
-        return Written::Refused(Refusal::Room);
+        return Written::Refused(Refusal::OutputShorter);
     }
     match fill(t, micros, &mut out[4..]) {
         Written::Refused(f) => Written::Refused(f),

@@ -47,7 +47,7 @@ pub fn write_record(r: Record, form: Form, out: &mut [u8]) -> Written
     let z = r.scale;
     let micro = r.micro;
     if !has_image(form, z, micro) {
-        return Written::Refused(Refusal::Image);
+        return Written::Refused(Refusal::NoImage);
     }
     match calendar::date_of(r.day) {
         DateAnswer::Date(date) => image::put_text(form, z, image::stamp_of(date, micro), out),

@@ -30,7 +30,7 @@ pub fn write(
 {
     let t = decimal::take(h);
     if text_read::inner::lacks_list(t, days, offsets, last) {
-        return Written::Refused(Refusal::List);
+        return Written::Refused(Refusal::ListNotAccepted);
     }
     inner::write_time(t, form, days, offsets, last, out)
 }

@@ -15,7 +15,7 @@ returns : tie.Need-returns
 unfolding write
 returns c =
     let a = c .before .before .before .args in
-    keeps (now (a .out)) (writing (a .f) (now (a .out))) R.Field (here (sym (c .before .in-limits .ensures) ∙ not-true _ (c .if1 .taken)))
+    keeps (now (a .out)) (writing (a .f) (now (a .out))) R.FieldOver (here (sym (c .before .in-limits .ensures) ∙ not-true _ (c .if1 .taken)))
 
 returns-2 : tie.Need-returns-2
 unfolding write

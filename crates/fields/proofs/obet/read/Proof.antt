@@ -13,14 +13,14 @@ use Rattle.fields.proofs.obet.read.Tie as tie
 
 returns : tie.Need-returns
 unfolding read
-returns c = refuses 0 (reading (now (c .before .before .args .b))) R.Length (here (ne-eqb _ 8 (c .if1 .taken)))
+returns c = refuses 0 (reading (now (c .before .before .args .b))) R.LengthIsNone (here (ne-eqb _ 8 (c .if1 .taken)))
 
 returns-2 : tie.Need-returns-2
 unfolding read
 returns-2 c =
     let l = c .before .before in
     let s = now (l .before .before .args .b) in
-    refuses 0 (reading s) R.Marker (later (eq-eqb _ 8 (l .if1 .left)) (here (ne-eqb (part s 0 1) marker (λ e. c .if2 .taken (c .before .part .ensures .0 ∙ e)))))
+    refuses 0 (reading s) R.MarkerWrong (later (eq-eqb _ 8 (l .if1 .left)) (here (ne-eqb (part s 0 1) marker (λ e. c .if2 .taken (c .before .part .ensures .0 ∙ e)))))
 
 returns-3 : tie.Need-returns-3
 unfolding read

@@ -17,7 +17,7 @@ use Rattle.fields.proofs.obet.write.Tie as tie
 
 returns : tie.Need-returns
 unfolding write
-returns c = let a = c .before .before .args in keeps (now (a .out)) (writing (a .count) (now (a .out))) R.Field (here (le-ltb (a .count) (2 ^ 56) (c .if1 .taken)))
+returns c = let a = c .before .before .args in keeps (now (a .out)) (writing (a .count) (now (a .out))) R.FieldOver (here (le-ltb (a .count) (2 ^ 56) (c .if1 .taken)))
 
 returns-2 : tie.Need-returns-2
 unfolding write

@@ -14,14 +14,14 @@ use Rattle.fields.proofs.proteus.read.Tie as tie
 
 returns : tie.Need-returns
 unfolding read
-returns c = refuses empty (reading (now (c .before .before .args .b))) R.Length (here (ne-eqb _ 8 (c .if1 .taken)))
+returns c = refuses empty (reading (now (c .before .before .args .b))) R.LengthIsNone (here (ne-eqb _ 8 (c .if1 .taken)))
 
 returns-2 : tie.Need-returns-2
 unfolding read
 returns-2 c =
     let l = c .before .before in
     let s = now (l .before .before .args .b) in
-    refuses empty (reading s) R.Marker
+    refuses empty (reading s) R.MarkerWrong
     (later (eq-eqb _ 8 (l .if1 .left)) (here (ne-eqb (zerosIn (part s 0 2)) 0 (λ e. c .if2 .taken (ap zerosIn (c .before .part .ensures .0) ∙ e)))))
 
 returns-3 : tie.Need-returns-3
@@ -31,7 +31,7 @@ returns-3 c =
     let l = e .before .before in
     let s = now (l .before .before .args .b) in
     let q = c .before .part2 .ensures .0 in
-    refuses empty (reading s) R.Field
+    refuses empty (reading s) R.FieldOver
     (later (eq-eqb _ 8 (l .if1 .left))
     (later (eq-eqb (zerosIn (part s 0 2)) 0 (ap zerosIn (sym (e .before .part .ensures .0)) ∙ e .if2 .left))
     (here (lt-leb (part s 2 4) 604799 (omega arith)))))

@@ -14,14 +14,14 @@ returns : tie.Need-returns
 unfolding write
 returns c =
     let a = c .before .before .before .before .args in
-    keeps (now (a .out)) (writing (a .f) (now (a .out))) R.Field (here (over-first _ _ (le-ltb (a .f .week) 4096 (c .if1 .taken))))
+    keeps (now (a .out)) (writing (a .f) (now (a .out))) R.FieldOver (here (over-first _ _ (le-ltb (a .f .week) 4096 (c .if1 .taken))))
 
 returns-2 : tie.Need-returns-2
 unfolding write
 returns-2 c =
     let l = c .before in
     let a = l .before .before .before .before .args in
-    keeps (now (a .out)) (writing (a .f) (now (a .out))) R.Field
+    keeps (now (a .out)) (writing (a .f) (now (a .out))) R.FieldOver
     (here (over-second _ _ (lt-ltb (a .f .week) 4096 (l .if1 .left)) (lt-leb (a .f .second) 604799 (c .if2 .taken))))
 
 returns-3 : tie.Need-returns-3

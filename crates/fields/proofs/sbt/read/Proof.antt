@@ -11,7 +11,7 @@ use Rattle.fields.proofs.sbt.read.Tie as tie
 
 returns : tie.Need-returns
 unfolding read
-returns c = refuses empty (reading (now (c .before .before .args .b))) R.Length (here (ne-eqb _ 4 (c .if1 .taken)))
+returns c = refuses empty (reading (now (c .before .before .args .b))) R.LengthIsNone (here (ne-eqb _ 4 (c .if1 .taken)))
 
 returns-2 : tie.Need-returns-2
 unfolding read

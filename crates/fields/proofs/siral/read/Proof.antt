@@ -14,7 +14,7 @@ use Rattle.fields.proofs.siral.read.Tie as tie
 
 returns : tie.Need-returns
 unfolding read
-returns c = refuses empty (reading (now (c .before .before .args .b))) R.Length (here (ne-eqb _ 10 (c .if1 .taken)))
+returns c = refuses empty (reading (now (c .before .before .args .b))) R.LengthIsNone (here (ne-eqb _ 10 (c .if1 .taken)))
 
 returns-2 : tie.Need-returns-2
 unfolding read
@@ -32,7 +32,7 @@ returns-3 c =
     let b = k .before .before in
     let s = now (b .before .before .before .args .b) in
     let e = front-no s (inLimits (part s 2 4) (part s 6 2)) (k .r .given .0 .0) (sym (k .r .given .1) ∙ b .front .ensures) in
-    rw (e .1) (refuses empty (reading s) R.Field (later (eq-eqb _ 10 (b .before .if1 .left)) (here (e .0))))
+    rw (e .1) (refuses empty (reading s) R.FieldOver (later (eq-eqb _ 10 (b .before .if1 .left)) (here (e .0))))
 
 pub read-spec : {M : Type 1} → statement M
 read-spec =

@@ -20,7 +20,7 @@ returns-2 : tie.Need-returns-2
 returns-2 c =
     let p = c .before .before .before in
     let x = p .before .before .before .before .args in
-    ap (wrote (W.Refused R.Room)) (p .put .ensures .1) ∙ put-none (now (x .image)) (now (x .out)) (sym (p .put .ensures .0) ∙ c .if1 .left)
+    ap (wrote (W.Refused R.OutputShorter)) (p .put .ensures .1) ∙ put-none (now (x .image)) (now (x .out)) (sym (p .put .ensures .0) ∙ c .if1 .left)
 
 pub put-spec : {M : Type 1} → statement M
 put-spec = tie.close (tie.spec (λ c κs. search needs) (λ c. search needs) returns (λ c. search needs) returns-2)
