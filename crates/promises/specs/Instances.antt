@@ -2,12 +2,13 @@
 use mathlib.Core.Path.{_≡_, refl, sym, ap, _∙_}
 use mathlib.Core.Bool.{true}
 use mathlib.Core.List.{[], _∷_}
+use lib.ListN.{drop}
 use Prim.Native.Nat.{ℕ}
 use native.Mathlib.Omega.{arith}
 use lib.Dec.{lit≤}
 use lib.IntN.{ℤ, pos, negsuc}
 use Rattle.octets.specs.Meaning.{number}
-use Rattle.scales.specs.Meaning.{Outcome, answer, Moment, dated, recordOf}
+use Rattle.scales.specs.Meaning.{Outcome, answer, Moment, dated, order, recordOf}
 use Rattle.scales.specs.declared.Scale.the-variants as S
 use Rattle.scales.specs.declared.Handed.the-variants as H
 use Rattle.decimal.specs.Meaning.{since, plusZero}
@@ -47,7 +48,7 @@ refusal-instance = cuc-read [] .empty (λ q. omega arith)
 
 pub exactly-instance : lengthIsNone (Cuc.reading []) ≡ true
 unfolding Cuc.read
-exactly-instance = exactly (cuc-read []) [] (2 ∷ 3 ∷ 4 ∷ 5 ∷ 6 ∷ 7 ∷ 8 ∷ 9 ∷ 10 ∷ 11 ∷ 12 ∷ 13 ∷ []) 1 refl .0 refl .1
+exactly-instance = exactly (cuc-read []) [] (drop 1 order) 1 refl .0 refl .1
 
 pub kept-instance : Cuc.write (H.Record (recordOf S.Tai (pos 0) 0)) (9 ∷ []) ≡ record { number = 12; length = 0; bytes = 9 ∷ [] }
 unfolding Cuc.write
