@@ -2,7 +2,7 @@
 #ifndef CALLS_H
 #define CALLS_H
 
-#include "plain.h"
+#include "vrikshonem.h"
 
 enum { INPUTS = 4096, LENT = 32, MOST = 64 };
 
@@ -31,17 +31,19 @@ struct input {
     uint32_t count; /* bytes given or lent */
 };
 
+/* What many functions take of the i-th input x. */
+#define GIVEN x->bytes, x->count
+#define ROOM lent[i], x->count
+#define LIST x->list->days, x->list->day_count, x->list->offsets, x->list->offset_count, x->list->last
+
 /* Makes the i-th input; `steps` is the length of its leap list, 0 for the published one. Of sixteen inputs the last is one that
  * is refused, but for the functions that cannot refuse it and for the growth with the number of steps. */
 typedef void making(struct input *x, size_t i, size_t steps);
 
-making make_decimal_read, make_decimal_write, make_sbt_date, make_sbt_tick, make_goce_date, make_goce_count, make_list, make_change,
-    make_utc_tai, make_tai_utc, make_tai_gps, make_young, make_any, make_cuc_read, make_cuc_write, make_goce_read, make_goce_write,
-    make_obet_read, make_obet_write, make_proteus_read, make_proteus_write, make_cryosat_read, make_cryosat_write, make_siral_read,
-    make_siral_write, make_sbt_read, make_sbt_write, make_cuc_parts, make_proteus_parts, make_cryosat_parts, make_siral_parts,
-    make_text_read, make_text_read_utc, make_text_read_tai, make_text_write, make_text_write_utc, make_text_write_tai;
-
-/* Makes n inputs of one kind, the same at every time. */
-void make_inputs(struct input *x, size_t n, making *make, size_t steps);
+/* Rows stand beside what makes their inputs, in an inputs_*.c. The twin of a function, plain_NAME, is in a plain_*.c; one that has
+ * none is measured alone.
+ *
+ *    FUNCTION(name, maker, type of its answer, arguments..)
+ *    USE(words, maker, function, contenders that do less..)      the same function with other inputs */
 
 #endif

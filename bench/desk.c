@@ -11,10 +11,10 @@ enum { BLOCK = 65536, LINE = 32 };
 
 /* TAI minus UTC of a UTC time in seconds, or a refusal below zero. */
 static int offset_of(int day, int64_t micro) {
-    if (day > LISTED) return -EXPIRED;
+    if (day > LISTED) return -VRK_LIST_EXPIRED;
     int i = PUBLISHED - 1;
     while (published_days[i] > day) i--;
-    if (micro >= DAY && (i + 1 == PUBLISHED || published_days[i + 1] != day + 1)) return -LACKING;
+    if (micro >= DAY && (i + 1 == PUBLISHED || published_days[i + 1] != day + 1)) return -VRK_SECOND_LACKING;
     return FIRST_OFFSET + i;
 }
 
@@ -25,13 +25,13 @@ static int dated(const unsigned char *s, size_t n, int *tai_day, int64_t *tai_mi
     int64_t micro;
     uint32_t refusal = text_refusal(s, n, &scale, &d, &micro);
     if (refusal) return (int)refusal;
-    if (d.year < 1972 || d.year > 2099) return SPAN;
+    if (d.year < 1972 || d.year > 2099) return VRK_OUTSIDE_SPAN;
     int day = day_of(d), offset = scale == VRK_GPS ? GPS_OFFSET : 0;
-    if (scale == VRK_GPS && day < FIRST_GPS_DAY) return SPAN;
+    if (scale == VRK_GPS && day < FIRST_GPS_DAY) return VRK_OUTSIDE_SPAN;
     if (scale == VRK_UTC && (offset = offset_of(day, micro)) < 0) return -offset;
     micro += offset * SECOND;
     if (micro >= DAY) micro -= DAY, day++;
-    if (day > LAST_DAY) return RESULT;
+    if (day > LAST_DAY) return VRK_RESULT_OUTSIDE;
     *tai_day = day, *tai_micro = micro;
     return 0;
 }

@@ -9,7 +9,7 @@ static void put(uint8_t *b, size_t n, uint64_t value) {
 
 static void wrong_length(struct input *x, size_t bad) { x->count = bad % 2 ? x->count - 1 : x->count + 1; }
 
-void make_cuc_read(struct input *x, size_t i, size_t steps) {
+static void make_cuc_read(struct input *x, size_t i, size_t steps) {
     (void)steps;
     size_t bad = refused(i);
     x->count = 6;
@@ -18,14 +18,14 @@ void make_cuc_read(struct input *x, size_t i, size_t steps) {
     if (bad && bad % 2 == 0) wrong_length(x, bad / 2);
 }
 
-void make_goce_read(struct input *x, size_t i, size_t steps) {
+static void make_goce_read(struct input *x, size_t i, size_t steps) {
     (void)steps;
     x->count = 6;
     put(x->bytes, 6, below(UINT64_C(1) << 48));
     if (refused(i)) wrong_length(x, refused(i));
 }
 
-void make_obet_read(struct input *x, size_t i, size_t steps) {
+static void make_obet_read(struct input *x, size_t i, size_t steps) {
     (void)steps;
     size_t bad = refused(i);
     x->count = 8;
@@ -34,7 +34,7 @@ void make_obet_read(struct input *x, size_t i, size_t steps) {
     if (bad && bad % 2 == 0) wrong_length(x, bad / 2);
 }
 
-void make_proteus_read(struct input *x, size_t i, size_t steps) {
+static void make_proteus_read(struct input *x, size_t i, size_t steps) {
     (void)steps;
     size_t bad = refused(i);
     x->count = 8;
@@ -51,20 +51,20 @@ static void day_bytes(struct input *x, size_t bad) {
     if (bad && bad % 4 == 0) wrong_length(x, bad / 4);
 }
 
-void make_cryosat_read(struct input *x, size_t i, size_t steps) {
+static void make_cryosat_read(struct input *x, size_t i, size_t steps) {
     (void)steps;
     x->count = 8;
     day_bytes(x, refused(i));
 }
 
-void make_siral_read(struct input *x, size_t i, size_t steps) {
+static void make_siral_read(struct input *x, size_t i, size_t steps) {
     (void)steps;
     x->count = 10;
     put(x->bytes + 8, 2, below(65536));
     day_bytes(x, refused(i));
 }
 
-void make_sbt_read(struct input *x, size_t i, size_t steps) {
+static void make_sbt_read(struct input *x, size_t i, size_t steps) {
     (void)steps;
     x->count = 4;
     put(x->bytes, 4, below(UINT64_C(1) << 32));
@@ -93,11 +93,11 @@ static void write_time(struct input *x, size_t i, uint32_t scale, int64_t first,
     }
 }
 
-void make_cuc_write(struct input *x, size_t i, size_t steps) { (void)steps, write_time(x, i, VRK_GPS, FIRST_GPS_DAY, 6); }
-void make_cryosat_write(struct input *x, size_t i, size_t steps) { (void)steps, write_time(x, i, VRK_TAI, 0, 8); }
-void make_siral_write(struct input *x, size_t i, size_t steps) { (void)steps, write_time(x, i, VRK_TAI, 0, 10); }
+static void make_cuc_write(struct input *x, size_t i, size_t steps) { (void)steps, write_time(x, i, VRK_GPS, FIRST_GPS_DAY, 6); }
+static void make_cryosat_write(struct input *x, size_t i, size_t steps) { (void)steps, write_time(x, i, VRK_TAI, 0, 8); }
+static void make_siral_write(struct input *x, size_t i, size_t steps) { (void)steps, write_time(x, i, VRK_TAI, 0, 10); }
 
-void make_proteus_write(struct input *x, size_t i, size_t steps) {
+static void make_proteus_write(struct input *x, size_t i, size_t steps) {
     (void)steps;
     write_time(x, i, VRK_UTC, FIRST_GPS_DAY, 8);
     x->code = refused(i) % 5 == 4 ? 2 : (uint32_t)below(2);
@@ -111,23 +111,23 @@ static void write_count(struct input *x, size_t i, unsigned bits, uint32_t lengt
     x->count = bad && bad % 2 == 0 ? length - 1 : room(length);
 }
 
-void make_goce_write(struct input *x, size_t i, size_t steps) { (void)steps, write_count(x, i, 48, 6); }
-void make_obet_write(struct input *x, size_t i, size_t steps) { (void)steps, write_count(x, i, 56, 8); }
+static void make_goce_write(struct input *x, size_t i, size_t steps) { (void)steps, write_count(x, i, 48, 6); }
+static void make_obet_write(struct input *x, size_t i, size_t steps) { (void)steps, write_count(x, i, 56, 8); }
 
-void make_sbt_write(struct input *x, size_t i, size_t steps) {
+static void make_sbt_write(struct input *x, size_t i, size_t steps) {
     (void)steps;
     x->code = (uint32_t)below(UINT64_C(1) << 32);
     x->count = refused(i) ? (uint32_t)below(4) : room(4);
 }
 
-void make_cuc_parts(struct input *x, size_t i, size_t steps) {
+static void make_cuc_parts(struct input *x, size_t i, size_t steps) {
     (void)steps;
     size_t bad = refused(i);
     x->part[0] = (uint32_t)below(UINT64_C(1) << 32), x->part[1] = (uint32_t)below(65536) + (bad % 2 ? 65536 : 0);
     x->count = bad && bad % 2 == 0 ? 5 : room(6);
 }
 
-void make_proteus_parts(struct input *x, size_t i, size_t steps) {
+static void make_proteus_parts(struct input *x, size_t i, size_t steps) {
     (void)steps;
     size_t bad = refused(i);
     x->part[0] = (uint32_t)below(4096) + (bad % 5 == 1 ? 4096 : 0);
@@ -145,5 +145,29 @@ static void day_parts(struct input *x, size_t bad, uint32_t length) {
     x->count = bad && bad % 5 == 0 ? length - 1 : room(length);
 }
 
-void make_cryosat_parts(struct input *x, size_t i, size_t steps) { (void)steps, day_parts(x, refused(i), 8); }
-void make_siral_parts(struct input *x, size_t i, size_t steps) { (void)steps, day_parts(x, refused(i), 10); }
+static void make_cryosat_parts(struct input *x, size_t i, size_t steps) { (void)steps, day_parts(x, refused(i), 8); }
+static void make_siral_parts(struct input *x, size_t i, size_t steps) { (void)steps, day_parts(x, refused(i), 10); }
+
+#define ROWS_OF_BYTES(FUNCTION, USE)                                                                                      \
+    FUNCTION(cuc_read, make_cuc_read, vrk_time, GIVEN)                                                                    \
+    FUNCTION(cuc_write, make_cuc_write, vrk_written, x->time, ROOM)                                                       \
+    FUNCTION(goce_read, make_goce_read, vrk_count, GIVEN)                                                                 \
+    FUNCTION(goce_write, make_goce_write, vrk_written, x->value, ROOM)                                                    \
+    FUNCTION(obet_read, make_obet_read, vrk_count, GIVEN)                                                                 \
+    FUNCTION(obet_write, make_obet_write, vrk_written, x->value, ROOM)                                                    \
+    FUNCTION(proteus_read, make_proteus_read, vrk_proteus, GIVEN)                                                         \
+    FUNCTION(proteus_write, make_proteus_write, vrk_written, x->time, x->code, ROOM)                                      \
+    FUNCTION(cryosat_read, make_cryosat_read, vrk_time, GIVEN)                                                            \
+    FUNCTION(cryosat_write, make_cryosat_write, vrk_written, x->time, ROOM)                                               \
+    FUNCTION(siral_read, make_siral_read, vrk_time, GIVEN)                                                                \
+    FUNCTION(siral_write, make_siral_write, vrk_written, x->time, ROOM)                                                   \
+    FUNCTION(sbt_read, make_sbt_read, vrk_count, GIVEN)                                                                   \
+    FUNCTION(sbt_write, make_sbt_write, vrk_written, x->code, ROOM)                                                       \
+    FUNCTION(cuc_fields_read, make_cuc_read, vrk_cuc_fields, GIVEN)                                                       \
+    FUNCTION(cuc_fields_write, make_cuc_parts, vrk_written, x->part[0], x->part[1], ROOM)                                 \
+    FUNCTION(proteus_fields_read, make_proteus_read, vrk_proteus_fields, GIVEN)                                           \
+    FUNCTION(proteus_fields_write, make_proteus_parts, vrk_written, x->part[0], x->part[1], x->part[2], x->part[3], ROOM) \
+    FUNCTION(cryosat_fields_read, make_cryosat_read, vrk_cryosat_fields, GIVEN)                                           \
+    FUNCTION(cryosat_fields_write, make_cryosat_parts, vrk_written, x->part[0], x->part[1], x->part[2], ROOM)             \
+    FUNCTION(siral_fields_read, make_siral_read, vrk_siral_fields, GIVEN)                                                 \
+    FUNCTION(siral_fields_write, make_siral_parts, vrk_written, x->part[0], x->part[1], x->part[2], x->part[3], ROOM)

@@ -4,14 +4,15 @@
 static uint64_t state;
 
 /* A step of splitmix64: any generator does that is the same at every time. */
-uint64_t below(uint64_t n) {
+static uint64_t below(uint64_t n) {
     uint64_t z = state += UINT64_C(0x9E3779B97F4A7C15);
     z = (z ^ z >> 30) * UINT64_C(0xBF58476D1CE4E5B9);
     z = (z ^ z >> 27) * UINT64_C(0x94D049BB133111EB);
     return (z ^ z >> 31) % n;
 }
 
-void make_inputs(struct input *x, size_t n, making *make, size_t steps) {
+/* Makes n inputs of one kind, the same at every time. */
+static void make_inputs(struct input *x, size_t n, making *make, size_t steps) {
     state = 1;
     for (size_t i = 0; i < n; i++) {
         x[i] = (struct input){0};
@@ -19,12 +20,12 @@ void make_inputs(struct input *x, size_t n, making *make, size_t steps) {
     }
 }
 
-vrk_handed any_record(uint32_t scale, int64_t first) {
+static vrk_handed any_record(uint32_t scale, int64_t first) {
     int64_t from = first > FIRST_GPS_DAY || scale != VRK_GPS ? first : FIRST_GPS_DAY;
     return (vrk_handed){VRK_RECORD, scale, from + (int64_t)below((uint64_t)(LISTED - from + 1)), below(DAY), 0};
 }
 
-vrk_handed any_time(uint32_t scale, int64_t first) {
+static vrk_handed any_time(uint32_t scale, int64_t first) {
     vrk_handed h = any_record(scale, first);
     if (below(8) != 0) return h;
     h.kind = VRK_DECIMAL;
@@ -33,7 +34,7 @@ vrk_handed any_time(uint32_t scale, int64_t first) {
     return h;
 }
 
-vrk_handed bad_time(size_t which) {
+static vrk_handed bad_time(size_t which) {
     vrk_handed h = {VRK_RECORD, VRK_TAI, 0, 0, 0};
     switch (which % BAD_TIMES) {
     case 0: h.kind = 2; break;
@@ -55,12 +56,12 @@ static int64_t yearly_days[MOST + 1], wrong_days[4][PUBLISHED];
 static uint64_t offsets[MOST + 1], wrong_offsets[2][PUBLISHED];
 static struct leap_list good, bad[BAD_LISTS];
 
-vrk_handed second_60(void) {
+static vrk_handed second_60(void) {
     return (vrk_handed){VRK_RECORD, VRK_UTC, published_days[1 + below(PUBLISHED - 1)] - 1, DAY + below(SECOND), 0};
 }
 
 /* The published list, or one with a step on each 1 January from 1972 on that speaks of all days. */
-const struct leap_list *listed(size_t steps) {
+static const struct leap_list *listed(size_t steps) {
     for (size_t k = 0; k <= MOST; k++) {
         struct date d = {1972 + (unsigned)k, 1, 1};
         yearly_days[k] = day_of(d), offsets[k] = 10 + k;
@@ -71,7 +72,7 @@ const struct leap_list *listed(size_t steps) {
 }
 
 /* The published list with one thing wrong, and a list that is too long. */
-const struct leap_list *bad_list(size_t which) {
+static const struct leap_list *bad_list(size_t which) {
     enum { END = PUBLISHED - 1, MIDDLE = PUBLISHED / 2 };
     for (size_t k = 0; k < BAD_LISTS; k++) bad[k] = *listed(0);
     for (size_t k = 0; k < PUBLISHED; k++) {

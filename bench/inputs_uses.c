@@ -1,7 +1,7 @@
-/* The inputs of functions of times: decimal days, ticks, counts, lists, changes, texts. */
+/* The inputs of functions of times: decimal days, ticks, counts, lists, changes. */
 #include "inputs.h"
 
-void make_decimal_read(struct input *x, size_t i, size_t steps) {
+static void make_decimal_read(struct input *x, size_t i, size_t steps) {
     (void)steps;
     size_t bad = refused(i);
     x->time = any_record((uint32_t)(i % 3), FIRST_DAY);
@@ -11,7 +11,7 @@ void make_decimal_read(struct input *x, size_t i, size_t steps) {
     x->time.decimal = bad % 4 == 1 ? __builtin_nan("") : bad % 4 == 2 ? 36525.0 : -10227.5;
 }
 
-void make_decimal_write(struct input *x, size_t i, size_t steps) {
+static void make_decimal_write(struct input *x, size_t i, size_t steps) {
     (void)steps;
     size_t bad = refused(i);
     x->time = !bad ? any_time((uint32_t)(i % 3), FIRST_DAY) : bad % 8 == 0 ? second_60() : bad_time(bad);
@@ -56,7 +56,7 @@ static void make_unaccepted(vrk_correlation *c, size_t which) {
     }
 }
 
-void make_sbt_date(struct input *x, size_t i, size_t steps) {
+static void make_sbt_date(struct input *x, size_t i, size_t steps) {
     (void)steps;
     x->correlation = any_correlation((uint32_t)(i % 3));
     x->time = near_tick(&x->correlation);
@@ -75,7 +75,7 @@ void make_sbt_date(struct input *x, size_t i, size_t steps) {
     }
 }
 
-void make_sbt_tick(struct input *x, size_t i, size_t steps) {
+static void make_sbt_tick(struct input *x, size_t i, size_t steps) {
     (void)steps;
     x->correlation = any_correlation((uint32_t)(i % 3));
     x->time = or_decimal(i, near_tick(&x->correlation));
@@ -118,7 +118,7 @@ static void make_unaccepted_goce(vrk_goce_correlation *c, size_t which) {
     }
 }
 
-void make_goce_date(struct input *x, size_t i, size_t steps) {
+static void make_goce_date(struct input *x, size_t i, size_t steps) {
     (void)steps;
     x->goce = any_goce();
     x->time = near_count(&x->goce);
@@ -147,7 +147,7 @@ void make_goce_date(struct input *x, size_t i, size_t steps) {
     }
 }
 
-void make_goce_count(struct input *x, size_t i, size_t steps) {
+static void make_goce_count(struct input *x, size_t i, size_t steps) {
     (void)steps;
     x->goce = any_goce();
     x->time = or_decimal(i, near_count(&x->goce));
@@ -165,7 +165,7 @@ void make_goce_count(struct input *x, size_t i, size_t steps) {
 
 /* ---- lists and changes */
 
-void make_list(struct input *x, size_t i, size_t steps) {
+static void make_list(struct input *x, size_t i, size_t steps) {
     x->list = refused(i) && steps == 0 ? bad_list(refused(i)) : listed(steps);
 }
 
@@ -185,7 +185,7 @@ static void change(struct input *x, size_t i, uint32_t from, uint32_t to) {
     }
 }
 
-void make_change(struct input *x, size_t i, size_t steps) {
+static void make_change(struct input *x, size_t i, size_t steps) {
     (void)steps;
     uint32_t from = (uint32_t)(i % 3), to = (from + 1 + (uint32_t)(i / 3 % 2)) % 3;
     change(x, i, from, to);
@@ -194,78 +194,36 @@ void make_change(struct input *x, size_t i, size_t steps) {
     if (bad % 5 == 3) x->list = bad_list(bad / 5);
 }
 
-void make_utc_tai(struct input *x, size_t i, size_t steps) { (void)steps, change(x, i, VRK_UTC, VRK_TAI); }
-void make_tai_utc(struct input *x, size_t i, size_t steps) { (void)steps, change(x, i, VRK_TAI, VRK_UTC); }
-void make_tai_gps(struct input *x, size_t i, size_t steps) {
+static void make_utc_tai(struct input *x, size_t i, size_t steps) { (void)steps, change(x, i, VRK_UTC, VRK_TAI); }
+static void make_tai_utc(struct input *x, size_t i, size_t steps) { (void)steps, change(x, i, VRK_TAI, VRK_UTC); }
+static void make_tai_gps(struct input *x, size_t i, size_t steps) {
     (void)steps;
     change(x, i, VRK_TAI, VRK_GPS);
     if (x->time.scale == VRK_UTC) x->time.scale = VRK_TAI;
 }
 
 /* UTC to TAI, all answered: times after the last of 64 yearly steps, and times of the whole span. */
-void make_young(struct input *x, size_t i, size_t steps) {
+static void make_young(struct input *x, size_t i, size_t steps) {
     (void)i;
     *x = (struct input){.time = {VRK_RECORD, VRK_UTC, 13149 + (int64_t)below(23000), below(DAY), 0}, .code = VRK_TAI};
     x->list = listed(steps);
 }
 
-void make_any(struct input *x, size_t i, size_t steps) {
+static void make_any(struct input *x, size_t i, size_t steps) {
     (void)i;
     *x = (struct input){.time = {VRK_RECORD, VRK_UTC, FIRST_DAY + (int64_t)below(46000), below(DAY), 0}, .code = VRK_TAI};
     x->list = listed(steps);
 }
 
-/* ---- texts: half UTC, a quarter TAI, a quarter GPS; without a prefix UTC */
-
-static const uint32_t forms[4] = {20, 24, 27, 31};
-
-static void text_write(struct input *x, size_t i, uint32_t scale, uint32_t form) {
-    size_t bad = refused(i);
-    x->list = listed(0);
-    x->code = form;
-    x->count = form + (uint32_t)below(2) * (LENT - form);
-    x->time = scale == VRK_UTC && below(16) == 0 ? second_60() : any_record(scale, FIRST_DAY);
-    if (form < 27) x->time.micro -= x->time.micro % SECOND;
-    else if (x->time.micro < (uint64_t)DAY && below(8) == 0) x->time = any_time(scale, FIRST_DAY);
-    switch (bad ? bad % 8 : 8) {
-    case 0: x->time = bad_time(bad / 8); break;
-    case 1: x->code = 21; break;
-    case 2: x->list = bad_list(bad / 8); break;
-    case 3: x->time.day = LISTED + 1; break;
-    case 4: x->time = (vrk_handed){VRK_RECORD, VRK_UTC, 1, DAY, 0}; break;
-    case 5: x->code = 20, x->time.scale = VRK_GPS, x->time.day = 0; break;
-    case 6: x->code = 24, x->time.kind = VRK_RECORD, x->time.micro = 1; break;
-    case 7: x->count = form - 1; break;
-    }
-}
-
-/* The text that plain C writes, and what is wrong with it then. */
-static void text_read(struct input *x, size_t i, uint32_t scale, uint32_t form) {
-    text_write(x, i - i % 16, scale, form);
-    const struct leap_list *l = x->list;
-    plain_text_write(x->time, l->days, l->day_count, l->offsets, l->offset_count, l->last, form, x->bytes, LENT);
-    x->count = form;
-    uint8_t *body = x->bytes + (form == 24 || form == 31 ? 4 : 0);
-    size_t bad = refused(i);
-    switch (bad ? bad % 7 : 7) {
-    case 0: x->count = 19; break;
-    case 1: body[below(20)] = '*'; break;
-    case 2: body[0] = '3', body[1] = '2'; break;
-    case 3: x->list = bad_list(bad / 7); break;
-    case 4: body[7] = '3'; break;
-    case 5: __builtin_memcpy(body + 7, "2025", 4); break;
-    case 6: __builtin_memcpy(body, "02-JAN-2000 23:59:60", 20); break;
-    }
-}
-
-/* Moved on by one at each refused input, so that every scale and form has refused ones. */
-static size_t turn(size_t i) { return i + i / 16; }
-static uint32_t scale_of(size_t i) { return turn(i) % 4 < 2 ? VRK_UTC : turn(i) % 4 == 2 ? VRK_TAI : VRK_GPS; }
-static uint32_t form_of(size_t i) { return scale_of(i) == VRK_UTC ? forms[turn(i) / 4 % 4] : forms[turn(i) / 4 % 2 * 2 + 1]; }
-
-void make_text_read(struct input *x, size_t i, size_t steps) { (void)steps, text_read(x, i, scale_of(i), form_of(i)); }
-void make_text_read_utc(struct input *x, size_t i, size_t steps) { (void)steps, text_read(x, i, VRK_UTC, 31); }
-void make_text_read_tai(struct input *x, size_t i, size_t steps) { (void)steps, text_read(x, i, VRK_TAI, 31); }
-void make_text_write(struct input *x, size_t i, size_t steps) { (void)steps, text_write(x, i, scale_of(i), form_of(i)); }
-void make_text_write_utc(struct input *x, size_t i, size_t steps) { (void)steps, text_write(x, i, VRK_UTC, 31); }
-void make_text_write_tai(struct input *x, size_t i, size_t steps) { (void)steps, text_write(x, i, VRK_TAI, 31); }
+#define ROWS_OF_USES(FUNCTION, USE)                                                                                \
+    FUNCTION(decimal_read, make_decimal_read, vrk_time, x->time.decimal, x->time.scale)                            \
+    FUNCTION(decimal_write, make_decimal_write, vrk_decimal, x->time)                                              \
+    FUNCTION(sbt_date, make_sbt_date, vrk_time, x->code, x->correlation, x->time.day, x->time.micro)               \
+    FUNCTION(sbt_tick, make_sbt_tick, vrk_count, x->time, x->correlation)                                          \
+    FUNCTION(goce_date, make_goce_date, vrk_time, x->obt, x->goce, x->time.day, x->time.micro)                     \
+    FUNCTION(goce_count, make_goce_count, vrk_count, x->time, x->goce)                                             \
+    FUNCTION(list_accepted, make_list, uint32_t, LIST)                                                             \
+    FUNCTION(change, make_change, vrk_time, x->time, x->code, LIST)                                                \
+    USE("change UTC TAI", make_utc_tai, change, [LISTED_ONLY] = run_plain_change_listed, [ERFA] = run_erfa_change) \
+    USE("change TAI UTC", make_tai_utc, change, [LISTED_ONLY] = run_plain_change_listed, [ERFA] = run_erfa_change) \
+    USE("change TAI GPS", make_tai_gps, change)

@@ -44,24 +44,24 @@ static inline size_t step_on(const struct list *l, int64_t day) {
 
 /* What a UTC time is refused with by the list, or 0 and TAI minus UTC in seconds. */
 static inline uint32_t utc_refusal(const struct list *l, vrk_time t, int64_t *offset) {
-    if (t.day > l->last) return EXPIRED;
+    if (t.day > l->last) return VRK_LIST_EXPIRED;
     size_t i = step_on(l, t.day);
-    if (in_second_60(t) && (i + 1 == l->count || l->days[i + 1] != t.day + 1)) return LACKING;
+    if (in_second_60(t) && (i + 1 == l->count || l->days[i + 1] != t.day + 1)) return VRK_SECOND_LACKING;
     *offset = (int64_t)l->offsets[i];
     return 0;
 }
 
 /* The one UTC record whose TAI is t. */
 static inline vrk_time utc_of(const struct list *l, int64_t t) {
-    if (t >= (l->last + 1) * DAY + (int64_t)l->offsets[l->count - 1] * SECOND) return no_time(EXPIRED, VRK_UTC);
+    if (t >= (l->last + 1) * DAY + (int64_t)l->offsets[l->count - 1] * SECOND) return no_time(VRK_LIST_EXPIRED, VRK_UTC);
     size_t i = l->count;
     while (i > 0 && t < l->days[i - 1] * DAY + (int64_t)l->offsets[i - 1] * SECOND) i--;
-    if (i == 0) return no_time(RESULT, VRK_UTC);
+    if (i == 0) return no_time(VRK_RESULT_OUTSIDE, VRK_UTC);
     int64_t utc = t - (int64_t)l->offsets[i - 1] * SECOND;
     /* What is left before the next step is the second 60 of the day before it. */
     if (i < l->count && utc >= l->days[i] * DAY)
         return a_time(VRK_UTC, l->days[i] - 1, DAY + utc - l->days[i] * DAY);
-    return time_at(VRK_UTC, utc, RESULT);
+    return time_at(VRK_UTC, utc, VRK_RESULT_OUTSIDE);
 }
 
 static inline vrk_time changed(vrk_time t, uint32_t to, const struct list *l) {
@@ -73,7 +73,7 @@ static inline vrk_time changed(vrk_time t, uint32_t to, const struct list *l) {
     if (t.scale == to) return t;
     int64_t tai = micros_of(t) + offset * SECOND;
     if (to == VRK_UTC) return utc_of(l, tai);
-    return time_at(to, to == VRK_GPS ? tai - GPS_OFFSET * SECOND : tai, RESULT);
+    return time_at(to, to == VRK_GPS ? tai - GPS_OFFSET * SECOND : tai, VRK_RESULT_OUTSIDE);
 }
 
 uint32_t plain_list_accepted(const int64_t *days, size_t day_count, const uint64_t *offsets, size_t offset_count, int64_t last) {
@@ -82,11 +82,11 @@ uint32_t plain_list_accepted(const int64_t *days, size_t day_count, const uint64
 
 vrk_time plain_change(vrk_handed time, uint32_t to_scale, const int64_t *days, size_t day_count, const uint64_t *offsets,
                       size_t offset_count, int64_t last) {
-    if (to_scale > VRK_GPS) return no_time(FIELD, 0);
+    if (to_scale > VRK_GPS) return no_time(VRK_FIELD_OVER, 0);
     vrk_time t = taken(time);
-    if (t.refusal && t.refusal <= NOT_FINITE) return no_time(t.refusal, to_scale);
+    if (t.refusal && t.refusal <= VRK_DECIMAL_NOT_FINITE) return no_time(t.refusal, to_scale);
     if ((time.scale == VRK_UTC || to_scale == VRK_UTC) && !is_accepted(days, day_count, offsets, offset_count, last))
-        return no_time(LIST, to_scale);
+        return no_time(VRK_LIST_NOT_ACCEPTED, to_scale);
     if (t.refusal) return no_time(t.refusal, to_scale);
     struct list l = {days, offsets, day_count, last};
     return changed(t, to_scale, &l);
@@ -95,7 +95,7 @@ vrk_time plain_change(vrk_handed time, uint32_t to_scale, const int64_t *days, s
 vrk_time plain_change_listed(vrk_handed time, uint32_t to_scale, const int64_t *days, size_t day_count, const uint64_t *offsets,
                              size_t offset_count, int64_t last) {
     (void)offset_count;
-    if (to_scale > VRK_GPS) return no_time(FIELD, 0);
+    if (to_scale > VRK_GPS) return no_time(VRK_FIELD_OVER, 0);
     vrk_time t = taken(time);
     if (t.refusal) return no_time(t.refusal, to_scale);
     struct list l = {days, offsets, day_count, last};

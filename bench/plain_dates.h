@@ -1,13 +1,11 @@
-/* What plain C has of the papers in all its programs: the numbers of the slip, the spans, the published list and the calendar. */
+/* What plain C has of the papers in all its programs: the refusals, the spans, the published list and the calendar. */
 #ifndef PLAIN_DATES_H
 #define PLAIN_DATES_H
 
 #include <stdint.h>
 
-enum {
-    LENGTH = 1, MARKER = 2, FIELD = 3, NOT_FINITE = 4, LIST = 5, CORRELATION = 6, SPAN = 7, NOT_IN_FORCE = 8, EXPIRED = 9,
-    LACKING = 10, RESULT = 11, NO_IMAGE = 12, ROOM = 13,
-};
+#include "vrikshonem_refusals.h"
+
 enum { FIRST_DAY = -10227, FIRST_GPS_DAY = -7300, LAST_DAY = 36524 };
 /* TAI minus UTC is 10 from the first step on, and one more from each further one; TAI minus GPS is 19. */
 enum { FIRST_OFFSET = 10, GPS_OFFSET = 19 };

@@ -13,24 +13,25 @@ static inline int64_t time_of_tick(const vrk_correlation *c, int64_t k) {
 }
 
 vrk_time plain_sbt_date(uint32_t tick, vrk_correlation c, int64_t receipt_day, uint64_t receipt_micro) {
-    if (!is_correlation(&c)) return no_time(CORRELATION, c.scale <= VRK_GPS ? c.scale : 0);
-    if (!spans_plainly(c.scale, receipt_day, receipt_micro)) return no_time(SPAN, c.scale);
+    if (!is_correlation(&c)) return no_time(VRK_CORRELATION_NOT_ACCEPTED, c.scale <= VRK_GPS ? c.scale : 0);
+    if (!spans_plainly(c.scale, receipt_day, receipt_micro)) return no_time(VRK_OUTSIDE_SPAN, c.scale);
     int64_t k = (int32_t)(tick - c.tick), back = -(int64_t)c.back, ahead = (int64_t)c.ahead;
     int64_t receipt = receipt_day * DAY + (int64_t)receipt_micro;
     if (k < back || k > ahead || receipt < time_of_tick(&c, back) || receipt > time_of_tick(&c, ahead))
-        return no_time(NOT_IN_FORCE, c.scale);
-    return time_at(c.scale, time_of_tick(&c, k), RESULT);
+        return no_time(VRK_NOT_IN_FORCE, c.scale);
+    return time_at(c.scale, time_of_tick(&c, k), VRK_RESULT_OUTSIDE);
 }
 
 /* The last k with k * P < (t + 1) * 10^6, t being counted from the reference. */
 vrk_count plain_sbt_tick(vrk_handed time, vrk_correlation c) {
     vrk_time taken_time = taken(time);
-    if (taken_time.refusal && taken_time.refusal <= NOT_FINITE) return (vrk_count){taken_time.refusal, 0};
-    if (!is_correlation(&c)) return (vrk_count){CORRELATION, 0};
+    if (taken_time.refusal && taken_time.refusal <= VRK_DECIMAL_NOT_FINITE) return (vrk_count){taken_time.refusal, 0};
+    if (!is_correlation(&c)) return (vrk_count){VRK_CORRELATION_NOT_ACCEPTED, 0};
     if (taken_time.refusal) return (vrk_count){taken_time.refusal, 0};
-    if (taken_time.scale != c.scale || in_second_60(taken_time)) return (vrk_count){NO_IMAGE, 0};
+    if (taken_time.scale != c.scale || in_second_60(taken_time)) return (vrk_count){VRK_NO_IMAGE, 0};
     int64_t at = micros_of(taken_time);
-    if (at < time_of_tick(&c, -(int64_t)c.back) || at > time_of_tick(&c, (int64_t)c.ahead)) return (vrk_count){NOT_IN_FORCE, 0};
+    if (at < time_of_tick(&c, -(int64_t)c.back) || at > time_of_tick(&c, (int64_t)c.ahead))
+        return (vrk_count){VRK_NOT_IN_FORCE, 0};
     int64_t k = floored((at - time_of_tick(&c, 0) + 1) * 1000000 - 1, (int64_t)c.period);
     if (k > (int64_t)c.ahead) k = (int64_t)c.ahead;
     return (vrk_count){0, (uint32_t)(c.tick + (uint32_t)k)};

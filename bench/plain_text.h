@@ -46,34 +46,34 @@ static inline int is_form(size_t n) { return n == 20 || n == 24 || n == 27 || n 
 /* 0 and the scale that a prefix names, or its refusal. */
 static inline uint32_t prefix_refusal(const uint8_t *s, uint32_t *scale) {
     unsigned letters = LETTERS(s[0], s[1], s[2]);
-    if (s[3] != '=') return FIELD;
+    if (s[3] != '=') return VRK_FIELD_OVER;
     if (letters == LETTERS('T', 'A', 'I')) *scale = VRK_TAI;
     else if (letters == LETTERS('G', 'P', 'S')) *scale = VRK_GPS;
     else if (letters == LETTERS('U', 'T', 'C')) *scale = VRK_UTC;
-    else return FIELD;
+    else return VRK_FIELD_OVER;
     return 0;
 }
 
 /* The refusal of a text by itself, or 0 and its scale, date and time of day. */
 static inline uint32_t text_refusal(const uint8_t *s, size_t n, uint32_t *scale, struct date *d, int64_t *micro) {
-    if (!is_form(n)) return LENGTH;
+    if (!is_form(n)) return VRK_LENGTH_IS_NONE;
     *scale = VRK_UTC;
     if (has_prefix(n)) {
-        if (prefix_refusal(s, scale)) return FIELD;
+        if (prefix_refusal(s, scale)) return VRK_FIELD_OVER;
         s += 4;
     }
-    if (s[2] != '-' || s[6] != '-' || s[11] != ' ' || s[14] != ':' || s[17] != ':') return FIELD;
+    if (s[2] != '-' || s[6] != '-' || s[11] != ' ' || s[14] != ':' || s[17] != ':') return VRK_FIELD_OVER;
     *d = (struct date){two(s + 7) * 100 + two(s + 9), month_of(s + 3), two(s)};
     unsigned hour = two(s + 12), minute = two(s + 15), second = two(s + 18), part = 0;
     if (has_micros(n)) {
-        if (s[20] != '.') return FIELD;
+        if (s[20] != '.') return VRK_FIELD_OVER;
         unsigned a = two(s + 21), b = two(s + 23), c = two(s + 25);
-        if (a > 99 || b > 99 || c > 99) return FIELD;
+        if (a > 99 || b > 99 || c > 99) return VRK_FIELD_OVER;
         part = (a * 100 + b) * 100 + c;
     }
-    if (hour > 23 || minute > 59 || second > 60 || d->year > 9999) return FIELD;
-    if (second == 60 && (*scale != VRK_UTC || hour != 23 || minute != 59)) return FIELD;
-    if (!is_date(*d)) return FIELD;
+    if (hour > 23 || minute > 59 || second > 60 || d->year > 9999) return VRK_FIELD_OVER;
+    if (second == 60 && (*scale != VRK_UTC || hour != 23 || minute != 59)) return VRK_FIELD_OVER;
+    if (!is_date(*d)) return VRK_FIELD_OVER;
     *micro = ((hour * 60 + minute) * 60 + second) * SECOND + part;
     return 0;
 }

@@ -44,16 +44,16 @@ static inline int64_t nearest_micro(double x) {
 }
 
 static vrk_time decimal_time(double x, uint32_t scale) {
-    if (!(x - x == 0)) return no_time(NOT_FINITE, scale);
-    if (!(x >= (double)first_day(scale) && x < LAST_DAY + 1)) return no_time(SPAN, scale);
-    return time_at(scale, nearest_micro(x), SPAN);
+    if (!(x - x == 0)) return no_time(VRK_DECIMAL_NOT_FINITE, scale);
+    if (!(x >= (double)first_day(scale) && x < LAST_DAY + 1)) return no_time(VRK_OUTSIDE_SPAN, scale);
+    return time_at(scale, nearest_micro(x), VRK_OUTSIDE_SPAN);
 }
 
 /* A time handed in, as a record: refused 3, 4 or 7. Callers judge 5 and 6 between 4 and 7. */
 static inline vrk_time taken(vrk_handed h) {
-    if (h.kind > VRK_DECIMAL || h.scale > VRK_GPS) return no_time(FIELD, VRK_TAI);
+    if (h.kind > VRK_DECIMAL || h.scale > VRK_GPS) return no_time(VRK_FIELD_OVER, VRK_TAI);
     if (h.kind == VRK_DECIMAL) return decimal_time(h.decimal, h.scale);
-    if (!spans(h.scale, h.day, h.micro)) return no_time(SPAN, h.scale);
+    if (!spans(h.scale, h.day, h.micro)) return no_time(VRK_OUTSIDE_SPAN, h.scale);
     return a_time(h.scale, h.day, (int64_t)h.micro);
 }
 
@@ -62,13 +62,13 @@ static inline int64_t micros_of(vrk_time t) { return t.day * DAY + (int64_t)t.mi
 static inline int in_second_60(vrk_time t) { return t.micro >= (uint64_t)DAY; }
 
 vrk_time plain_decimal_read(double day, uint32_t scale) {
-    return scale > VRK_GPS ? no_time(FIELD, 0) : decimal_time(day, scale);
+    return scale > VRK_GPS ? no_time(VRK_FIELD_OVER, 0) : decimal_time(day, scale);
 }
 
 /* Both numbers are whole and below 2^53, so the one division is rounded once. */
 vrk_decimal plain_decimal_write(vrk_handed time) {
     vrk_time t = taken(time);
     if (t.refusal) return (vrk_decimal){t.refusal, 0};
-    if (in_second_60(t)) return (vrk_decimal){NO_IMAGE, 0};
+    if (in_second_60(t)) return (vrk_decimal){VRK_NO_IMAGE, 0};
     return (vrk_decimal){0, (double)micros_of(t) / (double)DAY};
 }

@@ -1,11 +1,11 @@
 #!/usr/bin/env python3
-"""Measures every function of the library beside the same work in plain C and, where they are installed, ERFA and Howard Hinnant's
-date library; then desk, the program of text lines. It builds what it needs.
+"""Measures every function of the library beside its twin, the same work in plain C, and, where they are installed, ERFA and
+Howard Hinnant's date library; then desk, the program of text lines. It builds what it needs. A function without a twin is
+measured alone, and one without a row is not; both are told by name.
 
     bench/run.py [REPEATS]     15 unless said otherwise, at each of four places of the code; the best time counts"""
 
 import os
-import re
 import shutil
 import subprocess
 import sys
@@ -14,8 +14,11 @@ sys.dont_write_bytecode = True
 import desk
 from programs import EMULATED, LEVEL, PLACE, ROOM, ROOT, RUN, call, can_count, compile_c, instructions, wanted
 
+sys.path.append(os.path.join(ROOT, "tools"))
+from interface import rattle
+from refusals import refusals
+
 ARCHIVE = os.path.join(ROOT, "target/dist/lib/libvrikshonem.a")
-PARTS = ["plain", "inputs_times", "inputs_uses", "inputs_bytes"]
 COUNTED = 256  # calls whose instructions are counted
 REPEATS = 15
 GAPS = [0, 1072, 2144, 3216]  # each moves all code by a quarter of a page, and a little
@@ -25,11 +28,6 @@ LESS = {
     "erfa": "ERFA, does less: own list, doubles, no refusal",
     "date": "Howard Hinnant's date, does less: no list, no refusal, no second 60",
 }
-
-
-def compiled(name):
-    compile_c("-c", os.path.join(ROOM, name), f"bench/{name}.c")
-    return os.path.join(ROOM, name + ".o")
 
 
 def other(name, compiler, source, links):
@@ -65,7 +63,8 @@ def build():
     """For each gap the words that run the program, and the contenders that are not there."""
     os.makedirs(ROOM, exist_ok=True)
     call("tools/build", stdout=subprocess.DEVNULL)
-    objects = [compiled(part) for part in PARTS]
+    plain = os.path.join(ROOM, "plain")
+    compile_c("-c", plain, "bench/plain.c")
     absent, flags, shared = {}, [], []
     for name, macro, compiler, source, links in (
         ("erfa", "HAS_ERFA", "gcc", "bench/erfa.c", ["-lerfa", "-lm"]),
@@ -77,10 +76,10 @@ def build():
             shared.append(path)
         else:
             absent[name] = why
-    return [linked(gap, " ".join(flags), objects, shared) for gap in GAPS], absent
+    return [linked(gap, " ".join(flags), [plain + ".o"], shared) for gap in GAPS], absent
 
 
-def measure(words, repeats, rows):
+def measure(words, repeats, rows, listed):
     """Puts into the rows, in their order, steps and refusals, and nanoseconds where they are the best so far."""
     done = subprocess.run([*words, "time", str(repeats)], cwd=ROOT, stdout=subprocess.PIPE, text=True)
     if done.returncode != 0:
@@ -90,7 +89,7 @@ def measure(words, repeats, rows):
         kind, row, *rest = line.split("|")
         if kind == "compared":
             name, steps, inputs, refused, numbers = rest
-            seen = [n for n in range(1, 14) if int(numbers) >> n & 1]
+            seen = [one.number for one in listed if int(numbers) >> one.number & 1]
             told = {"name": name, "inputs": int(inputs), "refused": int(refused), "numbers": seen, "ns": {}}
             rows.setdefault((row, steps), told)
         else:
@@ -99,24 +98,18 @@ def measure(words, repeats, rows):
             best[who] = min(float(nanos), best.get(who, float(nanos)))
 
 
-def without_row(rows):
-    """The functions of the header that no row measures."""
-    with open(os.path.join(ROOT, "include/vrikshonem.h"), encoding="utf-8") as file:
-        functions = set(re.findall(r"^[a-z]\w* vrk_(\w+)\(", file.read(), re.M))
-    return sorted(functions - {told["name"].split()[0] for told in rows.values()})
-
-
 def count_instructions(words, rows):
     """Instructions a call, with the loop around it and without all else."""
     for (row, steps), told in rows.items():
         counted = [*words, "count", row, steps]
-        start = instructions([*counted, "plain", str(COUNTED), "0"])
+        idle = "plain" if "plain" in told["ns"] else "desk"
+        start = instructions([*counted, idle, str(COUNTED), "0"])
         wholes = {who: instructions([*counted, who, str(COUNTED), str(COUNTED)]) for who in told["ns"]}
         told["instructions"] = {who: (whole - start) / COUNTED for who, whole in wholes.items()}
 
 
-def told_ratio(figures):
-    return f"{figures['desk'] / figures['plain']:.2f}" if "desk" in figures else ""
+def told_ratio(figures, who="desk"):
+    return f"{figures[who] / figures['plain']:.2f}" if {who, "plain"} <= figures.keys() else ""
 
 
 def cells(told):
@@ -128,7 +121,7 @@ def cells(told):
     yield told_ratio(counts)
 
 
-def refusals(told):
+def told_refusals(told):
     """How many inputs of the row are refused, and the numbers that were given."""
     return f"{told['refused']}: " + " ".join(map(str, told["numbers"])) if told["numbers"] else str(told["refused"])
 
@@ -148,14 +141,25 @@ def show_all(rows):
     """Every function, and its commonest uses apart."""
     table(
         ["call", *MEASURES, "refused, with"],
-        ([told["name"], *cells(told), refusals(told)] for (_, steps), told in rows.items() if steps == "0"),
+        ([told["name"], *cells(told), told_refusals(told)] for (_, steps), told in rows.items() if steps == "0"),
     )
+
+
+def show_missing(rows, functions):
+    """The functions that are compared with nothing, and those that are not measured."""
+    contenders = {told["name"]: told["ns"] for told in rows.values()}
+    alone = [name for name in functions if name in contenders and "plain" not in contenders[name]]
+    missing = [name for name in functions if name not in contenders]
+    if alone:
+        print(f"Without a twin in plain C, and so compared with nothing: {', '.join(alone)}.\n")
+    if missing:
+        print(f"Without a row, and so not measured: {', '.join(missing)}.\n")
 
 
 def show_less(rows, absent):
     """The contenders that do less than the library."""
     lines = [
-        [told["name"], LESS[who], f"{nanos:.1f}", f"{nanos / told['ns']['plain']:.2f}",
+        [told["name"], LESS[who], f"{nanos:.1f}", told_ratio(told["ns"], who),
          f"{told['instructions'][who]:.0f}" if "instructions" in told else ""]
         for (_, steps), told in rows.items() if steps == "0" for who, nanos in told["ns"].items() if who in LESS
     ]
@@ -171,19 +175,20 @@ def show_growth(rows):
     for steps, told in growing:
         nanos, left = told["ns"], ["", "", ""]
         if "listed" in nanos:
-            left = [f"{nanos[who] - accepted[steps][who]:.1f}" for who in SAME] + [f"{nanos['listed']:.1f}"]
+            both = nanos.keys() & accepted[steps].keys()
+            left = [f"{nanos[who] - accepted[steps][who]:.1f}" if who in both else "" for who in SAME]
+            left.append(f"{nanos['listed']:.1f}")
         lines.append([told["name"], steps, *cells(told), *left])
     table(["call", "steps", *MEASURES, "ns less acceptance", "plain C ns less acceptance", "plain C ns, accepted before"], lines)
 
 
 def main():
     (repeats,) = wanted([REPEATS], __doc__)
+    functions, listed = rattle(ROOT).functions, refusals(ROOT)
     programs, absent = build()
     rows = {}
     for words in programs:
-        measure(words, repeats, rows)
-    if missing := without_row(rows):
-        sys.exit("bench/run.py: no row for " + ", ".join(missing))
+        measure(words, repeats, rows, listed)
     if can_count():
         count_instructions(programs[0], rows)
     inputs = max(told["inputs"] for told in rows.values())
@@ -191,6 +196,7 @@ def main():
     print(f"{inputs} inputs a row; all answers of all contenders compared, and equal; best of {len(GAPS)} x {repeats}, in turn.")
     print("A call's loop is in every figure; the row 'nothing' is the loop with a function that does nothing.\n")
     show_all(rows)
+    show_missing(rows, functions)
     print("Contenders that do less, over the same inputs; they are held to the answers, not to the refusals:\n")
     show_less(rows, absent)
     print("Growth with the number of steps, every list accepted and every time answered:\n")
