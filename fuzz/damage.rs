@@ -1,14 +1,11 @@
-//! Damage to bytes, to words, to leap lists and to lent slices: flipped, cut, doubled, spliced with those of another call.
+//! Damage to words, to slices and to leap lists: flipped, cut, doubled, spliced with those of another call.
 
-use crate::calls::{Call, Function, Random};
-use crate::shape::{copy, Parts, Shape, SHAPES};
+use crate::calls::{bytes_of, words_of, Call, Function, Random};
+use crate::library::lengths;
 
-/// As in serve.c.
+/// The most bytes of a slice, and the most words of a list.
 const MOST: usize = 8192;
 const STEPS: usize = 400;
-
-/// The lengths that a reader takes.
-const LENGTHS: [usize; 8] = [4, 6, 8, 10, 20, 24, 27, 31];
 
 fn range(random: &mut Random, length: usize) -> std::ops::Range<usize> {
     let begin = random.below(length as u64 + 1) as usize;
@@ -71,7 +68,7 @@ pub fn bytes(random: &mut Random, mut all: Vec<u8>, other: &[u8]) -> Vec<u8> {
         11 => all.swap(at, some.start.min(last)),
         12 => stepped(random, &mut all, at),
         13 => {
-            let n = random.pick(&LENGTHS);
+            let n = random.pick(&lengths());
             all.resize(n, random.next() as u8);
         }
         _ => {
@@ -122,71 +119,136 @@ fn steps(random: &mut Random, all: &mut Vec<u64>, other: &[u64]) {
     all.truncate(STEPS);
 }
 
-fn list(random: &mut Random, parts: &mut Parts, other: &Parts) {
-    match random.below(5) {
-        0 => parts.last = word(random, parts.last, other.last),
-        1 => steps(random, &mut parts.days, &other.days),
-        2 => steps(random, &mut parts.offsets, &other.offsets),
-        3 => {
-            // days and offsets cut alike: a shorter list, not a broken one
-            let n = random.below(parts.days.len() as u64 + 1) as usize;
-            parts.days.truncate(n);
-            parts.offsets.truncate(n);
-        }
-        _ => parts.last = parts.days.last().map_or(0, |day| day.wrapping_add(random.near(0, 2) as u64)),
+/// A slice of elements of so many bytes.
+fn slice(random: &mut Random, all: Vec<u8>, other: &[u8], width: usize) -> Vec<u8> {
+    if width == 8 {
+        let mut words = words_of(&all);
+        steps(random, &mut words, &words_of(other));
+        return bytes_of(&words);
     }
+    let mut all = bytes(random, all, other);
+    all.truncate(all.len().min(MOST) / width * width);
+    all
 }
 
-fn lent(random: &mut Random, image: usize) -> Vec<u8> {
+/// A slice that is lent: beside the image's length, or of any.
+fn lent(random: &mut Random, image: usize, width: usize) -> Vec<u8> {
     let n = match random.below(4) {
         0 => random.near(image as i64, 2).max(0) as usize,
         1 => length(random),
         2 => image,
         _ => random.below(41) as usize,
     };
-    any(random, n)
+    any(random, (n * width).min(MOST))
 }
 
-fn once(random: &mut Random, shape: &Shape, call: &mut Call, other: &Call) {
-    let kinds = [shape.bytes, !shape.words.is_empty(), shape.list, shape.image.is_some()];
-    let there: Vec<usize> = (0..4).filter(|&kind| kinds[kind]).collect();
-    let (mut parts, theirs) = (Parts::of(shape, call), Parts::of(shape, other));
-    match random.pick(&there) {
-        0 => call.input = bytes(random, std::mem::take(&mut call.input), &other.input),
-        1 => {
-            let mut at = random.below(parts.words.len() as u64) as usize;
-            // a code soon stands for nothing, and then the rest is not looked at
-            if shape.words.as_bytes()[at] == b'n' {
-                at = random.below(parts.words.len() as u64) as usize;
-            }
-            parts.words[at] = word(random, parts.words[at], theirs.words[at]);
-        }
-        2 => list(random, &mut parts, &theirs),
-        _ => call.lent = lent(random, shape.image.unwrap_or(0)),
+/// Where the slices and the word of a leap list stand.
+#[derive(Clone, Copy)]
+struct List {
+    days: usize,
+    offsets: usize,
+    last: usize,
+}
+
+impl List {
+    fn of(function: Function) -> Option<List> {
+        let shape = function.shape();
+        Some(List { days: shape.slice("days")?, offsets: shape.slice("offsets")?, last: shape.words("last")?.start })
     }
-    call.words = parts.words(shape);
-    call.input.truncate(MOST);
-    call.lent.truncate(MOST);
+
+    fn damage(self, random: &mut Random, call: &mut Call, other: &Call) {
+        let List { days, offsets, last } = self;
+        match random.below(5) {
+            0 => call.words[last] = word(random, call.words[last], other.words[last]),
+            1 => call.slices[days] = slice(random, std::mem::take(&mut call.slices[days]), &other.slices[days], 8),
+            2 => call.slices[offsets] = slice(random, std::mem::take(&mut call.slices[offsets]), &other.slices[offsets], 8),
+            3 => {
+                // days and offsets cut alike: a shorter list, not a broken one
+                let n = random.below(call.slices[days].len() as u64 / 8 + 1) as usize;
+                call.slices[days].truncate(8 * n);
+                call.slices[offsets].truncate(8 * n);
+            }
+            _ => {
+                let end = words_of(&call.slices[days]).last().copied();
+                call.words[last] = end.map_or(0, |day| day.wrapping_add(random.near(0, 2) as u64));
+            }
+        }
+    }
+}
+
+/// What is damaged by itself: a word, the leap list, any other slice.
+#[derive(Clone, Copy)]
+enum Part {
+    Word,
+    List(List),
+    Slice { at: usize, width: usize, is_lent: bool },
+}
+
+/// The places of the words, but for a list's, and their bytes.
+fn words(function: Function) -> Vec<(usize, usize)> {
+    let last = List::of(function).map(|list| list.last);
+    function.shape().widths().into_iter().enumerate().filter(|&(at, _)| Some(at) != last).collect()
+}
+
+fn parts(function: Function) -> Vec<Part> {
+    let list = List::of(function);
+    let mut all: Vec<Part> = list.into_iter().map(Part::List).collect();
+    if !words(function).is_empty() {
+        all.push(Part::Word);
+    }
+    for (at, (_, width, is_lent)) in function.shape().slices().enumerate() {
+        if list.is_none_or(|list| ![list.days, list.offsets].contains(&at)) {
+            all.push(Part::Slice { at, width, is_lent });
+        }
+    }
+    all
+}
+
+fn once(random: &mut Random, parts: &[Part], call: &mut Call, other: &Call) {
+    match random.pick(parts) {
+        Part::Word => {
+            let own = words(call.function);
+            let (mut at, mut width) = random.pick(&own);
+            // a code soon stands for nothing, and then the rest is not looked at
+            if width < 8 {
+                (at, width) = random.pick(&own);
+            }
+            call.words[at] = word(random, call.words[at], other.words[at]) & u64::MAX >> (64 - 8 * width);
+        }
+        Part::List(list) => list.damage(random, call, other),
+        Part::Slice { at, width, is_lent: true } => {
+            let image = call.function.shape().image.as_ref().map_or(0, |image| image.length);
+            call.slices[at] = lent(random, image, width);
+        }
+        Part::Slice { at, width, .. } => {
+            call.slices[at] = slice(random, std::mem::take(&mut call.slices[at]), &other.slices[at], width);
+        }
+    }
 }
 
 /// A call of the comparison, or one of the pool, damaged up to six times, once or twice mostly.
-pub fn call(random: &mut Random, function: &Function, pool: &[Call]) -> Call {
-    let mut call = (function.make)(random);
-    let mut other = (function.make)(random);
+pub fn call(random: &mut Random, function: Function, pool: &[Call]) -> Call {
+    let mut call = function.make(random);
+    let mut other = function.make(random);
     if !pool.is_empty() && random.one_in(2) {
-        call = copy(&pool[random.below(pool.len() as u64) as usize]);
+        call = pool[random.below(pool.len() as u64) as usize].clone();
     }
     if !pool.is_empty() && random.one_in(2) {
-        other = copy(&pool[random.below(pool.len() as u64) as usize]);
+        other = pool[random.below(pool.len() as u64) as usize].clone();
     }
-    let length = call.input.len();
+    let lengths: Vec<usize> = call.slices.iter().map(Vec::len).collect();
+    let parts = parts(function);
     let most = 1 + random.below(6);
     for _ in 0..1 + random.below(most) {
-        once(random, &SHAPES[function.number as usize], &mut call, &other);
+        once(random, &parts, &mut call, &other);
     }
     // another length hides all other damage behind a 1
     if !random.one_in(3) {
-        call.input.resize(length, random.next() as u8);
+        for part in parts {
+            if let Part::Slice { at, width: 1, is_lent: false } = part {
+                call.slices[at].resize(lengths[at], random.next() as u8);
+            }
+        }
     }
     call
 }

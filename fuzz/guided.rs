@@ -3,7 +3,7 @@
 //! of the library that the emulator had not met.
 
 #[path = "../tests/compare"]
-#[allow(dead_code)]
+#[allow(dead_code, unused_imports)]
 mod compare {
     pub mod calls;
     pub mod server;
@@ -13,13 +13,10 @@ mod independent;
 
 mod laws;
 mod library;
-#[allow(dead_code)]
-mod shape;
 
 use compare::{calls, server};
-use calls::{Call, FUNCTIONS};
+use calls::{bytes_of, Call, FUNCTIONS};
 use server::Server;
-use shape::{Parts, SHAPES};
 use std::cell::RefCell;
 
 /// libFuzzer takes each byte that is not zero here for a branch.
@@ -62,59 +59,93 @@ impl Bytes<'_> {
         front.iter().fold(0, |n, &b| n << 8 | u64::from(b))
     }
 
-    /// A number of few bytes, as days are, one beside a rule's, or a whole word.
-    fn word(&mut self, wide: bool) -> u64 {
-        match self.one() % 7 {
+    /// A number of few bytes, as days are, one beside a rule's, or a whole word; of so many bytes at most.
+    fn word(&mut self, width: usize) -> u64 {
+        let wide = width == 8;
+        let number = match self.one() % 7 {
             0 => self.one().into(),
             1 => self.number(2) as i16 as u64,
             2 => self.number(4),
             3 if wide => self.number(5),
             4 if wide => self.number(6),
             5 => RULES[usize::from(self.one()) % RULES.len()].wrapping_add(self.one() as i8 as u64),
-            _ => self.number(if wide { 8 } else { 4 }),
-        }
+            _ => self.number(width),
+        };
+        number & u64::MAX >> (64 - 8 * width)
     }
 
-    /// Published steps, their end, and one word that may be another.
-    fn list(&mut self, parts: &mut Parts) {
-        let days = independent::lines::steps();
+    /// Published steps, their end, and one word that may be another: days, offsets, the last day.
+    fn list(&mut self) -> (Vec<u8>, Vec<u8>, u64) {
+        let steps = independent::lines::steps();
         let count = usize::from(self.one()) % 30;
-        parts.days = days.iter().cycle().take(count).map(|&day| day as u64).collect();
-        parts.offsets = (10..).take(count).collect();
-        parts.last = if self.one() % 2 == 0 { 9131 } else { self.number(2) as i16 as u64 };
+        let mut days: Vec<u64> = steps.iter().cycle().take(count).map(|&day| day as u64).collect();
+        let mut offsets: Vec<u64> = (10..).take(count).collect();
+        let last = if self.one() % 2 == 0 { 9131 } else { self.number(2) as i16 as u64 };
         match self.one() % 8 {
             0 if count > 0 => {
                 let at = usize::from(self.one()) % count;
-                parts.days[at] = self.word(true);
+                days[at] = self.word(8);
             }
             1 if count > 0 => {
                 let at = usize::from(self.one()) % count;
-                parts.offsets[at] = self.word(true);
+                offsets[at] = self.word(8);
             }
-            2 => drop(parts.days.pop()),
+            2 => drop(days.pop()),
             _ => {}
         }
+        (bytes_of(&days), bytes_of(&offsets), last)
+    }
+
+    /// A length that a reader takes, mostly: libFuzzer would be long in finding one.
+    fn length(&mut self) -> Option<usize> {
+        let (one, lengths) = (usize::from(self.one()), library::lengths());
+        (one % 4 != 0).then(|| lengths[one / 4 % lengths.len()])
+    }
+
+    /// Elements of so many bytes.
+    fn slice(&mut self, width: usize) -> Vec<u8> {
+        let count = usize::from(self.one()) % 48;
+        (0..count).flat_map(|_| self.word(width).to_le_bytes()[..width].to_vec()).collect()
     }
 }
 
-fn taken(data: &[u8]) -> (u32, Call) {
+fn taken(data: &[u8]) -> Call {
     let mut bytes = Bytes(data);
-    let function = u32::from(bytes.one()) % FUNCTIONS.len() as u32;
-    let shape = &SHAPES[function as usize];
-    let mut parts = Parts { words: Vec::new(), last: 0, days: Vec::new(), offsets: Vec::new() };
-    parts.words = shape.words.bytes().map(|width| bytes.word(width == b'w')).collect();
-    if shape.list {
-        bytes.list(&mut parts);
+    let function = FUNCTIONS[usize::from(bytes.one()) % FUNCTIONS.len()];
+    let shape = function.shape();
+    let mut words: Vec<u64> = shape.widths().into_iter().map(|width| bytes.word(width)).collect();
+    if let Some(told) = shape.image.as_ref().and_then(|image| shape.words(image.told?)) {
+        words[told.start] = bytes.length().map_or(words[told.start], |length| length as u64);
     }
-    let lent = if shape.image.is_some() { vec![0xa7; usize::from(bytes.one()) % 48] } else { Vec::new() };
-    let input = if shape.bytes { bytes.0.to_vec() } else { Vec::new() };
-    (function, Call { words: parts.words(shape), input, lent })
+    let list = shape.slice("days").zip(shape.slice("offsets")).zip(shape.words("last"));
+    let is_list = |name| list.is_some() && ["days", "offsets"].contains(&name);
+    // what is left when all else is taken
+    let rest = shape.slices().position(|(_, width, lent)| width == 1 && !lent);
+    let mut slices = Vec::new();
+    for (at, (name, width, lent)) in shape.slices().enumerate() {
+        slices.push(if is_list(name) || rest == Some(at) {
+            Vec::new()
+        } else if lent {
+            vec![0xa7; usize::from(bytes.one()) % 48 * width]
+        } else {
+            bytes.slice(width)
+        });
+    }
+    if let Some(((days, offsets), last)) = list {
+        (slices[days], slices[offsets], words[last.start]) = bytes.list();
+    }
+    if let Some(at) = rest {
+        let length = bytes.length();
+        slices[at] = bytes.0.to_vec();
+        slices[at].resize(length.unwrap_or(bytes.0.len()), 0);
+    }
+    Call { function, words, slices }
 }
 
 impl State {
-    fn compare(&mut self, function: u32, call: &Call) {
-        if let Some(why) = library::wrong(&mut self.server, function, call) {
-            stop(&format!("{}: {call:x?}\n    {why}", FUNCTIONS[function as usize].name));
+    fn compare(&mut self, call: &Call) {
+        if let Some(why) = library::wrong(&mut self.server, call) {
+            stop(&format!("{}: {call:x?}\n    {why}", call.function.name()));
         }
         let met = library::met();
         if met > self.met {
@@ -130,10 +161,10 @@ impl State {
 pub extern "C" fn LLVMFuzzerTestOneInput(data: *const u8, size: usize) -> i32 {
     // SAFETY: libFuzzer lends that many bytes; of none the pointer may be null.
     let data = if size == 0 { &[] } else { unsafe { std::slice::from_raw_parts(data, size) } };
-    let (function, call) = taken(data);
+    let call = taken(data);
     STATE.with_borrow_mut(|state| {
         let state = state.get_or_insert_with(|| State { server: library::start(), met: 0, news: 0 });
-        state.compare(function, &call);
+        state.compare(&call);
     });
     0
 }

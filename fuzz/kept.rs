@@ -1,12 +1,13 @@
 //! Inputs that are kept, as text: a line that names the function or the way of `desk`, and lines of words and bytes.
 
-use crate::calls::{Call, FUNCTIONS};
+use crate::calls::Call;
 use crate::desk::Run;
+use crate::library::named;
 use std::fs;
 use std::path::{Path, PathBuf};
 
 pub enum Kept {
-    Call(u32, Call),
+    Call(Call),
     Desk(Run),
 }
 
@@ -18,10 +19,10 @@ fn unhex(text: &str) -> Option<Vec<u8>> {
     text.as_bytes().chunks(2).map(|two| u8::from_str_radix(std::str::from_utf8(two).ok()?, 16).ok()).collect()
 }
 
-pub fn told(function: u32, call: &Call) -> String {
+pub fn told(call: &Call) -> String {
     let words: Vec<String> = call.words.iter().map(|word| format!("{word:x}")).collect();
-    let name = FUNCTIONS[function as usize].name;
-    format!("call {name}\nwords {}\nbytes {}\nlent {}\n", words.join(" "), hex(&call.input), hex(&call.lent))
+    let slices: String = call.slices.iter().map(|slice| format!("slice {}\n", hex(slice))).collect();
+    format!("call {}\nwords {}\n{slices}", call.function.name(), words.join(" "))
 }
 
 pub fn told_desk(run: &Run) -> String {
@@ -41,18 +42,23 @@ fn next<'a>(lines: &mut impl Iterator<Item = &'a str>, word: &str) -> Option<&'a
     line.strip_prefix(word).map(str::trim)
 }
 
+/// As many words and slices as the function takes.
+fn parsed_call<'a>(name: &str, lines: &mut impl Iterator<Item = &'a str>) -> Option<Call> {
+    let function = named(name)?;
+    let words = next(lines, "words")?.split_whitespace().map(|word| u64::from_str_radix(word, 16).ok());
+    let words: Vec<u64> = words.collect::<Option<_>>()?;
+    let slices: Vec<Vec<u8>> = function.shape().slices().map(|_| unhex(next(lines, "slice")?)).collect::<Option<_>>()?;
+    let whole = function.shape().slices().zip(&slices).all(|((_, width, _), slice)| slice.len() % width == 0);
+    (whole && words.len() == function.shape().widths().len()).then_some(Call { function, words, slices })
+}
+
 fn parsed(text: &str) -> Option<Vec<Kept>> {
     let mut lines = text.lines();
     let mut all = Vec::new();
     while let Some(line) = lines.next() {
         let (kind, name) = line.split_once(' ')?;
         if kind == "call" {
-            let function = FUNCTIONS.iter().find(|function| function.name == name)?.number;
-            let words = next(&mut lines, "words")?.split_whitespace();
-            let words = words.map(|word| u64::from_str_radix(word, 16).ok()).collect::<Option<_>>()?;
-            let input = unhex(next(&mut lines, "bytes")?)?;
-            let lent = unhex(next(&mut lines, "lent")?)?;
-            all.push(Kept::Call(function, Call { words, input, lent }));
+            all.push(Kept::Call(parsed_call(name, &mut lines)?));
         } else {
             let sizes = next(&mut lines, "sizes")?.split_whitespace();
             let sizes = sizes.map(|size| size.parse().ok()).collect::<Option<_>>()?;

@@ -1,159 +1,267 @@
 //! What holds of every answer whatever the independent program says: the form of a refusal and of an answer, that what is written
-//! reads back and what is read is written again, and that a wider window changes nothing but an 8.
+//! reads back and what is read is written again, and that a wider window changes nothing but an 8. The parts of a call are found by
+//! their names, so that these laws hold of a new pair of functions without a line here.
 
-use crate::calls::{Answer, Call};
-use crate::shape::SHAPES;
+use crate::calls::{Answer, Call, Function, Shape};
+use crate::library::named;
 
-fn is_time(function: u32) -> bool {
-    matches!(function, 0 | 2 | 5 | 6 | 12 | 14 | 16 | 28 | 30)
+const DAY: u64 = 86_400_000_000;
+/// By the scales' codes: the first day, and where a day's microseconds end at the latest.
+const SPANS: [(i64, u64); 3] = [(-10227, DAY), (-10227, DAY + 1_000_000), (-7300, DAY)];
+
+#[derive(Clone, Copy, PartialEq)]
+struct Time {
+    scale: u64,
+    day: i64,
+    micro: u64,
 }
 
-/// A scale, a day and a microsecond.
-fn spans(time: &[u64]) -> bool {
-    let first = if time[0] == 2 { -7300 } else { -10227 };
-    let bound = if time[0] == 1 { 86_401_000_000 } else { 86_400_000_000 };
-    (first..=36524).contains(&(time[1] as i64)) && time[2] < bound
+impl Time {
+    /// Where the answer of a function is a time.
+    fn answered(function: Function, answer: &Answer) -> Option<Time> {
+        let field = |name| function.shape().gives(name).map(|at| answer.words[at]);
+        Some(Time { scale: field("scale")?, day: field("day")? as i64, micro: field("micro")? })
+    }
+
+    /// The record that is handed in; a record's kind is 0.
+    fn handed(call: &Call) -> Option<Time> {
+        let field = |name| call.function.shape().field("time", name).map(|at| call.words[at]);
+        let time = Time { scale: field("scale")?, day: field("day")? as i64, micro: field("micro")? };
+        (field("kind")? == 0).then_some(time)
+    }
+
+    fn micros(self) -> i128 {
+        i128::from(self.day) * i128::from(DAY) + i128::from(self.micro)
+    }
+
+    fn span(self) -> Option<(i64, u64)> {
+        SPANS.get(usize::try_from(self.scale).ok()?).copied()
+    }
+
+    fn is_in_span(self) -> bool {
+        self.span().is_some_and(|(first, end)| (first..=36524).contains(&self.day) && self.micro < end)
+    }
+
+    /// The time itself, or one at most so many microseconds earlier, which is no second 60.
+    fn comes_back(self, as_time: Time, early: u64) -> bool {
+        let earlier = self.micros() - as_time.micros();
+        self == as_time || self.scale == as_time.scale && as_time.micro < DAY && (1..=early.into()).contains(&earlier)
+    }
+}
+
+/// A lent slice as it is left.
+fn left<'a>(function: Function, answer: &'a Answer, name: &str) -> Option<&'a [u8]> {
+    let mut lent = function.shape().slices().filter(|(.., lent)| *lent);
+    lent.position(|(own, ..)| own == name).map(|at| &answer.lent[at][..])
 }
 
 /// What is wrong with the form of an answer.
-pub fn broken(function: u32, call: &Call, answer: &Answer) -> Option<&'static str> {
-    let (number, values) = (answer.words[0], &answer.words[1..]);
-    // list_accepted says 0 or 1
-    if number > if function == 4 { 1 } else { 13 } {
-        return Some("no number of the slip");
+pub fn broken(call: &Call, answer: &Answer) -> Option<&'static str> {
+    let (shape, number) = (call.function.shape(), answer.words[0]);
+    if !call.function.numbers().contains(&number) {
+        return Some("no number of the function");
     }
-    if function == 4 {
-        return None;
-    }
-    if is_time(function) && values[0] > 2 {
+    // a function that refuses nothing has no other values
+    let refusal = shape.gives("refusal")?;
+    let time = Time::answered(call.function, answer);
+    if time.is_some_and(|time| time.span().is_none()) {
         return Some("no scale");
     }
     if number != 0 {
-        let empty = values[usize::from(is_time(function))..].iter().all(|&value| value == 0);
-        return if answer.lent != call.lent { Some("a refusal that writes") } else { (!empty).then_some("a refusal with a value") };
+        let kept = [Some(refusal), shape.gives("scale")];
+        let empty = answer.words.iter().enumerate().all(|(at, &word)| word == 0 || kept.contains(&Some(at)));
+        return if answer.lent != call.lent() { Some("a refusal that writes") } else { (!empty).then_some("a refusal with a value") };
     }
-    if is_time(function) && !spans(values) {
+    if time.is_some_and(|time| !time.is_in_span()) {
         return Some("a time outside its span");
     }
-    let image = SHAPES[function as usize].image?;
-    let due = if function == 29 { call.words[5] as usize } else { image };
-    if values[0] != due as u64 || due > call.lent.len() {
+    let image = shape.image.as_ref()?;
+    let due = image.told.map_or(image.length as u64, |name| call.number(name));
+    let length = shape.gives("length").map(|at| answer.words[at]);
+    let (lent, left) = (call.slice("out"), left(call.function, answer, "out")?);
+    if length != Some(due) || due > image.length.min(lent.len()) as u64 {
         return Some("a length that is not the image's");
     }
-    (answer.lent[due..] != call.lent[due..]).then_some("a byte written behind the image")
+    (left[due as usize..] != lent[due as usize..]).then_some("a byte written behind the image")
 }
 
-enum Due {
-    Words(Vec<u64>),
-    Bytes(Vec<u8>),
-    /// The scale, day and microsecond, or at most so many microseconds earlier; and the word behind.
-    NotLater(Vec<u64>, i128, u64),
+/// A counter: what dates it, what turns a time into its count, half its wrap, and the most microseconds from one count to a time
+/// before the next.
+struct Clock {
+    date: Function,
+    turn: Function,
+    half: u64,
+    most: u64,
+}
+
+const CLOCKS: &[Clock] = &[
+    Clock { date: Function::SbtDate, turn: Function::SbtTick, half: 1 << 31, most: 3906 },
+    Clock { date: Function::GoceDate, turn: Function::GoceCount, half: 1 << 47, most: 15 },
+];
+
+fn clock(function: Function) -> Option<&'static Clock> {
+    CLOCKS.iter().find(|clock| [clock.date, clock.turn].contains(&function))
+}
+
+/// The function that undoes another, and how many microseconds earlier the time may be that comes back.
+fn undoing(function: Function) -> Option<(Function, u64)> {
+    if let Some(clock) = clock(function) {
+        return Some(if function == clock.date { (clock.turn, 0) } else { (clock.date, clock.most) });
+    }
+    if let Some(layout) = function.name().strip_suffix("_write") {
+        // fractions of 1/65536 s
+        let early = if [Function::CucWrite, Function::ProteusWrite].contains(&function) { 15 } else { 0 };
+        return Some((named(&format!("{layout}_read"))?, early));
+    }
+    if let Some(layout) = function.name().strip_suffix("_read") {
+        // a decimal day is rounded when it is read; bytes are not
+        return Some((named(&format!("{layout}_write")).filter(|writer| writer.shape().image.is_some())?, 0));
+    }
+    (function == Function::Change).then_some((function, 0))
+}
+
+/// An answered call; what undoes it is made of its parts.
+struct Done<'a> {
+    call: &'a Call,
+    answer: &'a Answer,
+    handed: Option<Time>,
+}
+
+/// What a count is called that is handed in.
+const COUNTS: [&str; 3] = ["count", "tick", "obt"];
+
+impl Done<'_> {
+    fn taken(&self, name: &str) -> Option<&[u64]> {
+        self.call.function.shape().words(name).map(|place| &self.call.words[place])
+    }
+
+    fn given(&self, name: &str) -> Option<u64> {
+        self.call.function.shape().gives(name).map(|at| self.answer.words[at])
+    }
+
+    /// The bytes that were read, or the image.
+    fn bytes(&self) -> Option<&[u8]> {
+        if let Some(length) = self.given("length") {
+            return left(self.call.function, self.answer, "out").map(|left| &left[..length as usize]);
+        }
+        let at = self.call.function.shape().slices().position(|(_, width, lent)| width == 1 && !lent);
+        at.map(|at| &self.call.slices[at][..])
+    }
+
+    /// What a parameter of a function is handed.
+    fn numbers(&self, shape: &Shape, name: &str) -> Option<Vec<u64>> {
+        let place = shape.words(name)?;
+        let one = match name {
+            // a record, whose kind is 0, of the answer's fields
+            "time" => {
+                Time::answered(self.call.function, self.answer)?;
+                return Some(shape.fields()[place].iter().map(|(field, _)| self.given(field).unwrap_or(0)).collect());
+            }
+            "scale" | "to_scale" => self.handed.map(|time| time.scale),
+            // received at the time itself
+            "receipt_day" => self.handed.map(|time| time.day as u64),
+            "receipt_micro" => self.handed.map(|time| time.micro),
+            _ if COUNTS.contains(&name) => self.given("count"),
+            _ => self.given(name),
+        };
+        one.map(|one| vec![one]).or_else(|| self.taken(name).map(<[u64]>::to_vec)).filter(|all| all.len() == place.len())
+    }
+
+    /// The call of a function with these parts.
+    fn follow(&self, function: Function) -> Option<Call> {
+        let shape = function.shape();
+        let told = shape.image.as_ref().and_then(|image| image.told);
+        let mut words = Vec::new();
+        for name in shape.takes.iter().map(|parameter| parameter.name) {
+            if shape.words(name).is_some() {
+                words.extend(if told == Some(name) { vec![self.bytes()?.len() as u64] } else { self.numbers(shape, name)? });
+            }
+        }
+        let mut slices = Vec::new();
+        for (name, width, lent) in shape.slices() {
+            slices.push(match self.call.function.shape().slice(name) {
+                Some(at) if !lent => self.call.slices[at].clone(),
+                _ if width > 1 => return None,
+                // as many bytes as there were
+                _ if lent => vec![0x5a; self.bytes()?.len()],
+                _ => self.bytes()?.to_vec(),
+            });
+        }
+        Some(Call { function, words, slices })
+    }
+
+    /// What a field of its answer must be, where these parts tell it.
+    fn due(&self, name: &str) -> Option<u64> {
+        match name {
+            "refusal" => Some(0),
+            "length" => self.bytes().map(|bytes| bytes.len() as u64),
+            "count" => COUNTS.iter().find_map(|name| self.taken(name)).map(|count| count[0]),
+            _ => self.taken(name).map(|numbers| numbers[0]),
+        }
+    }
 }
 
 /// A further call that follows from an answer, and what it must give.
 pub struct Again {
-    pub function: u32,
     pub call: Call,
-    due: Due,
+    /// The words, where they are known.
+    words: Vec<Option<u64>>,
+    /// The time, or one at most so many microseconds earlier.
+    time: Option<(Time, u64)>,
+    lent: Vec<Vec<u8>>,
     /// What is wrong where it gives something else.
     pub wrong: &'static str,
 }
 
-const BACK: &str = "it does not come back";
-
-fn reading(function: u32, bytes: &[u8], words: &[u64], due: Due) -> Option<Again> {
-    Some(Again { function, call: Call { words: words.to_vec(), input: bytes.to_vec(), lent: Vec::new() }, due, wrong: BACK })
-}
-
-/// Into as many bytes as there were.
-fn writing(function: u32, words: Vec<u64>, bytes: &[u8]) -> Option<Again> {
-    let call = Call { words, input: Vec::new(), lent: vec![0x5a; bytes.len()] };
-    Some(Again { function, call, due: Due::Bytes(bytes.to_vec()), wrong: BACK })
-}
-
-/// The words of a record handed in.
-fn record(time: &[u64]) -> Vec<u64> {
-    vec![0, time[0], time[1], time[2], 0]
-}
-
-/// Of a function with a correlation: half a wrap, and the most microseconds from a tick or a count to a time before the next.
-fn clock(function: u32) -> Option<(u64, u64)> {
-    match function {
-        2 | 3 => Some((1 << 31, 3906)),
-        30 | 31 => Some((1 << 47, 15)),
-        _ => None,
-    }
-}
-
-/// The same call with the widest window; that of a correlation that is not accepted may be wider.
-fn wider(function: u32, call: &Call, answer: &Answer) -> Option<Again> {
-    let (half, _) = clock(function)?;
-    if matches!(answer.words[0], 6 | 8) {
-        return None;
-    }
-    let mut words = call.words.clone();
-    // behind the correlation of a date its receipt stands
-    let end = words.len() - if is_time(function) { 2 } else { 0 };
-    words[end - 2..end].copy_from_slice(&[half, half - 1]);
-    Some(Again { function, call: Call::of(words), due: Due::Words(answer.words.clone()), wrong: "a wider window changes it" })
-}
-
 /// The call that undoes an answered one.
-fn back(function: u32, call: &Call, answer: &Answer) -> Option<Again> {
-    if function == 4 || answer.words[0] != 0 {
+fn back(call: &Call, answer: &Answer) -> Option<Again> {
+    if answer.words[0] != 0 {
         return None;
     }
-    let (values, words, input) = (&answer.words[1..], &call.words, &call.input);
-    let is_record = words.first() == Some(&0);
-    let (_, most) = clock(function).unwrap_or_default();
-    let image = if SHAPES[function as usize].image.is_some() { &answer.lent[..values[0] as usize] } else { &[] };
-    // a record, as a reading must give it back
-    let same = || Due::Words([&[0], &words[1..4]].concat());
-    match function {
-        1 if is_record => reading(0, &[], &[values[0], words[1]], same()),
-        2 | 30 => {
-            let again = [&record(values)[..], &words[1..words.len() - 2]].concat();
-            reading(function + 1, &[], &again, Due::Words(vec![0, words[0]]))
-        }
-        // nearer to midnight the tick's own time may lie before the span
-        3 | 31 if is_record && words[3] > most => {
-            let again = [&values[..1], &words[5..], &words[2..4]].concat();
-            reading(function - 1, &[], &again, Due::NotLater(words[1..4].to_vec(), most.into(), 0))
-        }
-        5 if is_record => {
-            let again = [&record(values)[..], &words[1..2], &words[6..]].concat();
-            reading(5, &[], &again, same())
-        }
-        7 if is_record => reading(6, image, &[], Due::NotLater(words[1..4].to_vec(), 15, 0)),
-        13 if is_record => reading(12, image, &[], Due::NotLater(words[1..4].to_vec(), 15, words[5])),
-        9 | 11 | 19 | 21 | 23 | 25 | 27 => reading(function - 1, image, &[], Due::Words([&[0], &words[..]].concat())),
-        15 | 17 if is_record => reading(function - 1, image, &[], same()),
-        29 if is_record => reading(28, image, &words[6..], same()),
-        6 | 14 => writing(function + 1, record(values), input),
-        16 if input[8..] == [0, 0] && values[2] < 86_400_000_000 => writing(17, record(values), input),
-        12 => writing(13, [&record(values)[..], &values[3..4]].concat(), input),
-        8 | 10 | 18 => writing(function + 1, vec![values[0]], input),
-        20 | 22 | 24 | 26 => writing(function + 1, values[..SHAPES[function as usize + 1].words.len()].to_vec(), input),
-        28 => writing(29, [&record(values)[..], &[input.len() as u64], &words[..]].concat(), input),
-        _ => None,
+    let (function, early) = undoing(call.function)?;
+    let done = Done { call, answer, handed: Time::handed(call) };
+    let is_decimal = done.handed.is_none() && done.taken("time").is_some();
+    // the image of a SIRAL time has no extra counter
+    let has_extra = call.function == Function::SiralRead && !call.slice("bytes").ends_with(&[0, 0]);
+    // the count of a time at the span's beginning may stand for a time before it
+    let is_first = |time: Time| time.span().is_some_and(|(first, _)| time.day == first) && time.micro < early;
+    let is_before = clock(call.function).is_some() && done.handed.is_some_and(is_first);
+    if is_decimal || has_extra || is_before {
+        return None;
     }
+    let call = done.follow(function)?;
+    let words = function.shape().gives.iter().map(|name| done.due(name)).collect();
+    let lent = call.lent().iter().filter_map(|_| done.bytes().map(<[u8]>::to_vec)).collect();
+    let time = done.handed.map(|time| (time, early));
+    Some(Again { call, words, time, lent, wrong: "it does not come back" })
 }
 
-pub fn again(function: u32, call: &Call, answer: &Answer) -> impl Iterator<Item = Again> {
-    back(function, call, answer).into_iter().chain(wider(function, call, answer))
+/// The same call with the widest window.
+fn wider(call: &Call, answer: &Answer) -> Option<Again> {
+    const CORRELATION_NOT_ACCEPTED: u64 = 6;
+    const NOT_IN_FORCE: u64 = 8;
+    let half = clock(call.function)?.half;
+    // one that is not accepted may have a window that is wider
+    if [CORRELATION_NOT_ACCEPTED, NOT_IN_FORCE].contains(&answer.words[0]) {
+        return None;
+    }
+    let mut call = call.clone();
+    for (name, most) in [("back", half), ("ahead", half - 1)] {
+        let at = call.function.shape().field("correlation", name)?;
+        call.words[at] = most;
+    }
+    let words = answer.words.iter().map(|&word| Some(word)).collect();
+    Some(Again { call, words, time: None, lent: answer.lent.clone(), wrong: "a wider window changes it" })
+}
+
+pub fn again(call: &Call, answer: &Answer) -> impl Iterator<Item = Again> {
+    back(call, answer).into_iter().chain(wider(call, answer))
 }
 
 impl Again {
     pub fn agrees(&self, got: &Answer) -> bool {
-        let micros = |time: &[u64]| i128::from(time[1] as i64) * 86_400_000_000 + i128::from(time[2]);
-        match &self.due {
-            Due::Words(due) => got.words.starts_with(due) && got.words[due.len()..].iter().all(|&word| word == 0),
-            Due::Bytes(due) => got.words[..2] == [0, due.len() as u64] && got.lent == *due,
-            Due::NotLater(time, by, behind) => {
-                let values = &got.words[1..];
-                let earlier = micros(time) - micros(values);
-                got.words[0] == 0 && values[0] == time[0] && (0..=*by).contains(&earlier) && values[3] == *behind
-            }
-        }
+        let words = self.words.iter().zip(&got.words).all(|(due, got)| due.is_none_or(|due| due == *got));
+        let time = self.time.zip(Time::answered(self.call.function, got));
+        words && time.is_none_or(|((due, early), got)| due.comes_back(got, early)) && got.lent == self.lent
     }
 }

@@ -1,15 +1,17 @@
-//! The library behind the comparison's server, with the slices of fuzz/serve.c, and one call that is looked at by itself.
+//! The library behind the comparison's server, and one call that is looked at by itself.
 
-use crate::calls::{Answer, Call, FUNCTIONS};
+use crate::calls::{Answer, Call, Function, FUNCTIONS};
 use crate::laws;
 use crate::server::Server;
 
 /// The emulator tells here each piece of code that it meets for the first time.
 const MET: &str = "target/fuzz/met";
+/// So many seconds of the processor's time a call may take.
+const SECONDS: &str = "10";
 
 pub fn start() -> Server {
     let log = format!("QEMU_LOG_FILENAME={MET}");
-    Server::start(&["env", "QEMU_LOG=in_asm", &log, "tools/x86-64", "target/fuzz/serve"].map(String::from))
+    Server::start(&["env", "QEMU_LOG=in_asm", &log, "tools/x86-64", "target/fuzz/serve", SECONDS].map(String::from))
 }
 
 /// How much the emulator has told.
@@ -17,21 +19,31 @@ pub fn met() -> u64 {
     std::fs::metadata(MET).map_or(0, |file| file.len())
 }
 
-fn ask(server: &mut Server, function: u32, call: &Call) -> Answer {
-    server.ask(function, std::slice::from_ref(call)).remove(0)
+pub fn named(name: &str) -> Option<Function> {
+    FUNCTIONS.iter().copied().find(|function| function.name() == name)
+}
+
+/// The lengths that a reader takes: of the images, and of the shorter texts.
+pub fn lengths() -> Vec<usize> {
+    let images = FUNCTIONS.iter().filter_map(|function| function.shape().image.as_ref());
+    images.map(|image| image.length).chain([20, 24, 27]).collect()
+}
+
+fn ask(server: &mut Server, call: &Call) -> Answer {
+    server.ask(std::slice::from_ref(call)).remove(0)
 }
 
 /// What is wrong with the answer to a call.
-pub fn wrong(server: &mut Server, function: u32, call: &Call) -> Option<String> {
-    let (answer, right) = (ask(server, function, call), (FUNCTIONS[function as usize].model)(call));
+pub fn wrong(server: &mut Server, call: &Call) -> Option<String> {
+    let (answer, right) = (ask(server, call), call.model());
     if answer != right {
         return Some(format!("the library: {answer:x?}\n    independent: {right:x?}"));
     }
-    if let Some(why) = laws::broken(function, call, &answer) {
+    if let Some(why) = laws::broken(call, &answer) {
         return Some(format!("{why}: {answer:x?}"));
     }
-    for again in laws::again(function, call, &answer) {
-        let got = ask(server, again.function, &again.call);
+    for again in laws::again(call, &answer) {
+        let got = ask(server, &again.call);
         if !again.agrees(&got) {
             return Some(format!("{}: {got:x?}", again.wrong));
         }

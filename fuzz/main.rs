@@ -5,6 +5,7 @@
 //!     fuzz replay FILE
 
 #[path = "../tests/compare"]
+#[allow(unused_imports)]
 mod compare {
     pub mod calls;
     pub mod server;
@@ -20,7 +21,6 @@ mod desk;
 mod kept;
 mod laws;
 mod library;
-mod shape;
 
 use compare::{calls, server};
 use calls::{Answer, Call, Function, Random, FUNCTIONS};
@@ -103,10 +103,11 @@ impl Fuzz {
     }
 
     fn run(&mut self, time: Duration) {
-        let mut randoms: Vec<Random> = FUNCTIONS.iter().map(|function| Random::new(&format!("{} {}", self.seed, function.name))).collect();
+        let random = |function: &Function| Random::new(&format!("{} {}", self.seed, function.name()));
+        let mut randoms: Vec<Random> = FUNCTIONS.iter().map(random).collect();
         let mut lines = Random::new(&format!("{} desk", self.seed));
         while self.began.elapsed() < time {
-            for (function, random) in FUNCTIONS.iter().zip(&mut randoms) {
+            for (&function, random) in FUNCTIONS.iter().zip(&mut randoms) {
                 self.batch(function, random);
                 if self.first && self.found > 0 || self.began.elapsed() >= time {
                     return;
@@ -116,43 +117,39 @@ impl Fuzz {
         }
     }
 
-    fn ask(&mut self, function: u32, calls: &[Call]) -> Vec<Answer> {
-        let text: String = calls.iter().map(|call| kept::told(function, call)).collect();
+    fn ask(&mut self, calls: &[Call]) -> Vec<Answer> {
+        let text: String = calls.iter().map(kept::told).collect();
         *ASKED.lock().expect("one thread") = Some((self.folder.clone(), format!("ended-{}", self.seed), text));
-        let answers = self.server.ask(function, calls);
+        let answers = self.server.ask(calls);
         *ASKED.lock().expect("one thread") = None;
         answers
     }
 
-    fn batch(&mut self, function: &Function, random: &mut Random) {
-        let at = function.number as usize;
+    fn batch(&mut self, function: Function, random: &mut Random) {
+        let at = function as usize;
         let batch: Vec<Call> = (0..BATCH).map(|_| damage::call(random, function, &self.pools[at])).collect();
-        let answers = self.ask(function.number, &batch);
-        let mut further: BTreeMap<u32, Vec<(&Call, laws::Again)>> = BTreeMap::new();
+        let answers = self.ask(&batch);
+        let mut further: Vec<(&Call, laws::Again)> = Vec::new();
         for (call, answer) in batch.iter().zip(&answers) {
-            let right = (function.model)(call);
+            let right = call.model();
             *self.tallies[at].numbers.entry(answer.words[0]).or_default() += 1;
             if *answer != right && !self.laws {
-                self.keep(function.number, call, &format!("the library: {answer:x?}\n    independent: {right:x?}"));
-            } else if let Some(why) = laws::broken(function.number, call, answer) {
-                self.keep(function.number, call, &format!("{why}: {answer:x?}"));
+                self.keep(call, &format!("the library: {answer:x?}\n    independent: {right:x?}"));
+            } else if let Some(why) = laws::broken(call, answer) {
+                self.keep(call, &format!("{why}: {answer:x?}"));
             } else {
-                for again in laws::again(function.number, call, answer) {
-                    further.entry(again.function).or_default().push((call, again));
-                }
+                further.extend(laws::again(call, answer).map(|again| (call, again)));
+            }
+        }
+        let calls: Vec<Call> = further.iter().map(|(_, again)| again.call.clone()).collect();
+        let answers = self.ask(&calls);
+        for ((call, again), answer) in further.iter().zip(&answers) {
+            if !again.agrees(answer) {
+                self.keep(call, &format!("{}: {answer:x?}", again.wrong));
             }
         }
         self.tallies[at].calls += batch.len();
-        for (asked, further) in further {
-            let calls: Vec<Call> = further.iter().map(|(_, again)| shape::copy(&again.call)).collect();
-            let answers = self.ask(asked, &calls);
-            self.tallies[at].again += calls.len();
-            for ((call, again), answer) in further.iter().zip(&answers) {
-                if !again.agrees(answer) {
-                    self.keep(function.number, call, &format!("{}: {answer:x?}", again.wrong));
-                }
-            }
-        }
+        self.tallies[at].again += calls.len();
         let met = library::met();
         if met > self.met && self.pools[at].len() < POOL {
             self.pools[at].extend(batch);
@@ -168,8 +165,8 @@ impl Fuzz {
         }
     }
 
-    fn keep(&mut self, function: u32, call: &Call, why: &str) {
-        self.say(FUNCTIONS[function as usize].name, &kept::told(function, call), why);
+    fn keep(&mut self, call: &Call, why: &str) {
+        self.say(call.function.name(), &kept::told(call), why);
     }
 
     fn say(&mut self, name: &str, text: &str, why: &str) {
@@ -189,7 +186,7 @@ impl Fuzz {
         let mut all = 0;
         for (function, tally) in FUNCTIONS.iter().zip(&self.tallies) {
             all += tally.calls + tally.again;
-            println!("{}: {} calls, {} called again; numbers {:?}", function.name, tally.calls, tally.again, tally.numbers);
+            println!("{}: {} calls, {} called again; numbers {:?}", function.name(), tally.calls, tally.again, tally.numbers);
         }
         let (runs, bytes, lines) = self.desk;
         println!("desk: {runs} runs, {bytes} bytes, {lines} lines");
@@ -204,9 +201,9 @@ fn replay(file: &str) -> ! {
     let mut differ = 0;
     for kept in kept::read(file) {
         let wrong = match &kept {
-            kept::Kept::Call(function, call) => {
-                print!("{}", kept::told(*function, call));
-                library::wrong(&mut server, *function, call)
+            kept::Kept::Call(call) => {
+                print!("{}", kept::told(call));
+                library::wrong(&mut server, call)
             }
             kept::Kept::Desk(run) => {
                 println!("desk, {} bytes", run.input.len());
