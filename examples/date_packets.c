@@ -34,29 +34,6 @@ static const vrk_goce_correlation GOCE_CORRELATION = {
     .back = 86400 * SECOND_OF_COUNTS, .ahead = 30 * 86400 * SECOND_OF_COUNTS,
 };
 
-/* The header's table. */
-static const char *const WORDS[] = {
-    "answered",
-    "input length is none of the layout's",
-    "marker byte or zero bits wrong",
-    "a field over its limit, bad character, date not in the calendar",
-    "decimal day infinite or not a number",
-    "leap list not accepted",
-    "correlation not accepted",
-    "input time or receipt outside its span",
-    "correlation not in force",
-    "leap list expired",
-    "UTC second that its day lacks",
-    "result outside its scale's span",
-    "time has no image",
-    "output slice shorter than the image",
-};
-
-static const char *words_of(uint32_t refusal) {
-    /* A later library may know more refusals. */
-    return refusal < sizeof WORDS / sizeof WORDS[0] ? WORDS[refusal] : "a refusal that this version does not know";
-}
-
 static uint64_t number(const uint8_t *bytes, size_t count) {
     uint64_t value = 0;
     for (size_t k = 0; k < count; k++) value = value << 8 | bytes[k];
@@ -116,7 +93,7 @@ static void print_packet(unsigned line, const uint8_t *packet) {
     uint32_t refusal = text_of(packet, text);
     printf("%2u %-7s ", line, NAMES[packet[0]]);
     if (refusal)
-        printf("refused %u: %s\n", (unsigned)refusal, words_of(refusal));
+        printf("refused %u: %s\n", (unsigned)refusal, vrk_words(refusal));
     else
         printf("%.*s\n", TEXT, (const char *)text);
 }

@@ -1,25 +1,10 @@
-/* Vrikshonem, the dating desk: its interface for C, version 0.1. It is fixed at 1.0 only; until then it grows.
+/* Vrikshonem, the dating desk: its interface for C, version 0.2. It is fixed at 1.0 only; until then it grows.
  *
  * Every function answers every input, with a value or with the number of one refusal. None keeps anything between calls,
  * allocates, sets errno or relies on its caller having checked; any number of threads may call at once.
  *
- * Refusals. The first that applies in this order is given, and never another.
- *
- *    No.  Given when
- *     0   answered
- *     1   input length is none of the layout's
- *     2   marker byte or zero bits wrong
- *     3   a field over its limit, bad character, date not in the calendar
- *     4   decimal day infinite or not a number
- *     5   leap list not accepted
- *     6   correlation not accepted
- *     7   input time or receipt outside its span
- *     8   correlation not in force
- *     9   leap list expired
- *    10   UTC second that its day lacks
- *    11   result outside its scale's span
- *    12   time has no image
- *    13   output slice shorter than the image
+ * Refusals. The first that applies in the order of vrikshonem_refusals.h is given, and never another. There stand their names,
+ * such as VRK_NOT_IN_FORCE, and vrk_words, which says in words what is wrong. 0 is an answer.
  *
  * A code that stands for nothing (a scale, kind, form or H3) is a field over its limit, 3, but in a correlation 6. Each
  * function below lists the refusals that it can give, in the order in which it judges them.
@@ -36,6 +21,8 @@
 
 #include <stddef.h>
 #include <stdint.h>
+
+#include "vrikshonem_refusals.h"
 
 #ifdef __cplusplus
 extern "C" {

@@ -1,216 +1,189 @@
-"""The C interface as the Rattle source, the header, the Rust crate and the Python module each declare it, in one form.
+#!/usr/bin/env python3
+"""The interface for C, read from the Rattle source of its crate, and all that follows from it and from the refusals:
 
-A type is written as Rattle writes it (u32, VrkTime); a slice is its pointer and a usize.
-"""
+    tools/interface.py            says which of the files that follow are stale
+    tools/interface.py --write    writes them
 
-import ctypes
+What stands in tools/made says how each is made. What cannot be read, or has no form that is known, is an error that names its
+line."""
+
 import glob
 import os
 import re
-import subprocess
+import sys
+from dataclasses import dataclass
 
-from source import Unreadable, read, rt_code
+sys.dont_write_bytecode = True
 
-_WIDTHS = (8, 16, 32, 64)
-_C = {f"uint{bits}_t": f"u{bits}" for bits in _WIDTHS} | {f"int{bits}_t": f"i{bits}" for bits in _WIDTHS}
-_C |= {"double": "f64", "size_t": "usize"}
-_CTYPES = {getattr(ctypes, f"c_uint{bits}"): f"u{bits}" for bits in _WIDTHS}
-_CTYPES |= {getattr(ctypes, f"c_int{bits}"): f"i{bits}" for bits in _WIDTHS} | {ctypes.c_double: "f64"}
+from source import Unreadable, closing, parts, read, rt_code
+
+CRATE = "crates/rack/src"
+PREFIX = "vrk_"
+# A number: its bytes. A struct is passed as its numbers, a slice as a pointer and how many elements it has.
+WIDTHS = {f"{sign}{bits}": bits // 8 for sign in "ui" for bits in (8, 16, 32, 64)} | {"f64": 8}
+
+
+@dataclass(frozen=True)
+class Slice:
+    """The kind of a parameter that is lent: `of` is its element, and a slice that is not `written` is only read."""
+
+    of: str
+    written: bool
+
+
+@dataclass(frozen=True)
+class Parameter:
+    name: str
+    kind: object  # a number, the name of a struct, or a Slice
+
+
+@dataclass(frozen=True)
+class Function:
+    name: str  # without the prefix
+    result: str  # a number or the name of a struct
+    parameters: tuple
+
+    @property
+    def numbers(self):
+        """The parameters that are no slices."""
+        return [one for one in self.parameters if not isinstance(one.kind, Slice)]
+
+    @property
+    def slices(self):
+        return [one for one in self.parameters if isinstance(one.kind, Slice)]
 
 
 class Interface:
-    """structs: a name and its (field, type)s. functions: a name, its result and its (parameter, type)s."""
+    """structs: a name and its (field, kind)s. functions: a name and its Function, in the order of the source."""
 
     def __init__(self, structs, functions):
         self.structs = structs
         self.functions = functions
 
+    def numbers(self, kind, name=""):
+        """The numbers that a number or a struct is made of: (name, kind)s, those of a struct in a struct with a point."""
+        if kind in WIDTHS:
+            return [(name, kind)]
+        inner = f"{name}." if name else ""
+        return [one for field, of in self.structs[kind] for one in self.numbers(of, inner + field)]
 
-def _words(text):
-    return " ".join(text.split())
+
+def _line(code, at):
+    return code.count("\n", 0, at) + 1
 
 
-def _pairs(text, what):
-    """(name, type) of each 'name: type' between commas."""
-    found = []
-    for part in filter(None, (_words(part) for part in text.split(","))):
-        match = re.fullmatch(r"(?:pub )?(\w+) ?: ?(.+)", part)
+def _pairs(path, code, begin, end):
+    """(name, kind, where) of each 'name: kind' between commas."""
+    found, at = [], begin
+    for part in parts(code[begin:end]):
+        at = code.index(part, at)
+        where = f"{path}:{_line(code, at)}"
+        match = re.fullmatch(r"(?:pub\s+)?(\w+)\s*:\s*(\S.*)", part, re.S)
         if not match:
-            raise Unreadable(f"{what}: '{part}'")
-        found.append((match[1], match[2]))
+            raise Unreadable(f"{where}: '{part}' cannot be read")
+        found.append((match[1], " ".join(match[2].split()), where))
+        at += len(part)
     return found
 
 
-def _structs(code):
-    found = re.finditer(r"#\[repr\(C\)\]\s*(?:#\[[^\]]*\]\s*)*pub struct (\w+)\s*\{([^}]*)\}", code)
-    return {match[1]: _pairs(match[2], match[1]) for match in found}
+def _structs(path, code):
+    found = {}
+    for head in re.finditer(r"#\[repr\(C\)\]\s*(?:#\[[^\]]*\]\s*)*pub struct (\w+)\s*\{", code):
+        found[head[1]] = _pairs(path, code, head.end(), closing(code, head.end() - 1))
+    return found
 
 
-def _passed(name, kind):
-    """A Rattle parameter as C is given it. Beside a slice's number of elements, a count is called value."""
-    lent = re.fullmatch(r"&(mut )?\[(\w+)\]", kind)
-    if lent:
-        return [(name, f"*{'mut' if lent[1] else 'const'} {lent[2]}"), (None, "usize")]
-    return [("value" if name == "count" else name, kind)]
+def _kind(text, structs, where, whose):
+    """What a parameter's type stands for."""
+    lent = re.fullmatch(r"&(mut )?\[(\w+)\]", text)
+    if lent and lent[2] in WIDTHS:
+        return Slice(lent[2], bool(lent[1]))
+    if text not in WIDTHS and text not in structs:
+        raise Unreadable(f"{where}: {whose} is of the unknown shape '{text}'")
+    return text
 
 
-def rattle(root):
-    """What the crate rack exports."""
-    structs, functions = {}, {}
-    for path in sorted(glob.glob(os.path.join(root, "crates/rack/src/*.rt"))):
-        code = rt_code(read(path))
-        structs.update(_structs(code))
-        heads = re.findall(r"#\[no_mangle\]\s*pub extern\s+fn (\w+)\(([^)]*)\)\s*->\s*(\w+)", code)
-        if len(heads) != code.count("no_mangle"):
-            raise Unreadable(f"{path}: a function that is exported cannot be read")
-        for name, given, result in heads:
-            functions[name] = result, [one for pair in _pairs(given, name) for one in _passed(*pair)]
-    return Interface(structs, functions)
+def _functions(path, code, structs):
+    for mark in re.finditer(r"#\[no_mangle\]", code):
+        where = f"{path}:{_line(code, mark.start())}"
+        head = re.compile(rf"\s*pub extern\s+fn {PREFIX}(\w+)\(").match(code, mark.end())
+        if not head:
+            raise Unreadable(f"{where}: a function that is exported and cannot be read")
+        name, end = head[1], closing(code, head.end() - 1)
+        given = []
+        for parameter, text, place in _pairs(path, code, head.end(), end):
+            given.append(Parameter(parameter, _kind(text, structs, place, f"{PREFIX}{name}'s '{parameter}'")))
+        result = re.compile(r"\s*->\s*(\w+)\s*(?=ensures\b|requires\b|\{)").match(code, end + 1)
+        if not result or result[1] not in WIDTHS and result[1] not in structs:
+            raise Unreadable(f"{where}: {PREFIX}{name}'s result is of an unknown shape")
+        yield Function(name, result[1], tuple(given))
 
 
-def _camel(name):
-    return "".join(part.capitalize() for part in name.split("_"))
-
-
-def _c_type(text):
-    text = _words(text.replace("*", " * "))
-    match = re.fullmatch(r"(const )?(\w+)( \*)?", text)
-    if not match:
-        raise Unreadable(f"the header: '{text}'")
-    kind = _C.get(match[2]) or _camel(match[2])
-    if not match[3]:
-        return kind
-    return ("*const " if match[1] else "*mut ") + kind
-
-
-def _declared(text):
-    match = re.fullmatch(r"(.*[\s*])(\w+)", _words(text))
-    if not match:
-        raise Unreadable(f"the header: '{text}'")
-    return match[2], _c_type(match[1])
-
-
-def header(text):
-    """What a header declares, comments and macros away."""
-    plain = subprocess.run(["gcc", "-E", "-P", "-x", "c", "-"], input=text, capture_output=True, text=True, check=True).stdout
-    structs, functions = {}, {}
-    for body, name in re.findall(r"typedef struct\s*\{([^}]*)\}\s*(vrk_\w+)\s*;", plain):
-        structs[_camel(name)] = [_declared(field) for field in filter(None, map(_words, body.split(";")))]
-    for result, name, given in re.findall(r"([\w ]+?[\s*])(vrk_\w+)\s*\(([^)]*)\)\s*;", plain):
-        functions[name] = _c_type(result), [_declared(one) for one in given.split(",") if _words(one) != "void"]
-    return Interface(structs, functions)
-
-
-def rust(text):
-    """What the crate's sys.rs declares."""
-    code = rt_code(text)
+def rattle(root, folder=CRATE):
+    """What the crate exports."""
+    codes = {}
+    for path in sorted(glob.glob(os.path.join(root, folder, "*.rt"))):
+        codes[os.path.relpath(path, root)] = rt_code(read(path))
+    found = {name: fields for path, code in codes.items() for name, fields in _structs(path, code).items()}
+    for name, fields in found.items():
+        for field, kind, where in fields:
+            if kind not in WIDTHS and kind not in found:
+                raise Unreadable(f"{where}: {name}'s '{field}' is of the unknown shape '{kind}'")
+    structs = {name: [(field, kind) for field, kind, _ in fields] for name, fields in found.items()}
     functions = {}
-    for name, given, result in re.findall(r"pub fn (vrk_\w+)\(([^)]*)\)\s*->\s*(\w+)\s*;", code):
-        functions[name] = result, _pairs(given, name)
-    return Interface(_structs(code), functions)
-
-
-def _ctypes_type(kind):
-    if kind in _CTYPES:
-        return _CTYPES[kind]
-    if hasattr(kind, "_fields_"):
-        return kind.__name__
-    return "*" + _CTYPES[kind._type_]
-
-
-def python(module):
-    """What the module's _sys declares. It knows no const, and its usize is its u64."""
-    kinds = [kind for kind in vars(module).values() if isinstance(kind, type) and issubclass(kind, ctypes.Structure)]
-    structs = {kind.__name__: [(name, _ctypes_type(of)) for name, of in kind._fields_] for kind in kinds}
-    functions = {}
-    for name, (result, given) in module.FUNCTIONS.items():
-        functions[name] = _ctypes_type(result), [(None, _ctypes_type(one)) for one in given]
+    for path, code in codes.items():
+        functions.update((one.name, one) for one in _functions(path, code, structs))
+    if not functions:
+        raise Unreadable(f"{folder}: no function is exported")
     return Interface(structs, functions)
 
 
-def _plain(kind):
-    return "u64" if kind == "usize" else kind.replace("*const ", "*").replace("*mut ", "*")
+def made(root):
+    """What follows from the interface, the refusals and the version: a path and its text."""
+    from made import benched, bindings, server, shapes, slips
+    from refusals import by_function, refusals
+
+    interface, listed = rattle(root), refusals(root)
+    table = by_function(root, interface, listed)
+    version = read(os.path.join(root, "VERSION")).strip()
+    files = bindings.made(interface, table, version) | server.made(interface) | benched.made(interface)
+    return files | shapes.made(interface, table) | slips.made(table, listed)
 
 
-def differences(truth, other, loose=False):
-    """Where the other differs from the Rattle source, a line each. A parameter without a name has any; `loose` is for
-    Python."""
-    kind = _plain if loose else lambda of: of
+def stale(root):
+    """The files that are not as they are made."""
     found = []
-    for what, ours, theirs in [("struct", truth.structs, other.structs), ("function", truth.functions, other.functions)]:
-        found += [f"{what} {name} is not declared" for name in ours if name not in theirs]
-        found += [f"{what} {name} does not exist" for name in theirs if name not in ours]
-    for name in truth.structs.keys() & other.structs.keys():
-        if [(field, kind(of)) for field, of in truth.structs[name]] != other.structs[name]:
-            found.append(f"struct {name} is {truth.structs[name]}, not {other.structs[name]}")
-    for name in truth.functions.keys() & other.functions.keys():
-        (result, given), (their_result, theirs) = truth.functions[name], other.functions[name]
-        same = kind(result) == their_result and len(given) == len(theirs)
-        for (parameter, of), (their_parameter, their_of) in zip(given, theirs):
-            same = same and kind(of) == their_of and (None in (parameter, their_parameter) or parameter == their_parameter)
-        if not same:
-            found.append(f"function {name} is {given} -> {result}, not {theirs} -> {their_result}")
-    return sorted(found)
+    for path, text in made(root).items():
+        full = os.path.join(root, path)
+        if not os.path.isfile(full) or read(full) != text:
+            found.append(path)
+    return found
 
 
-def layout(fields, structs):
-    """The size of a struct and its fields' offsets, by the rules of C."""
-    size, _, offsets = _laid(fields, structs)
-    return size, offsets
+def write(root, paths):
+    for path in paths:
+        full = os.path.join(root, path)
+        os.makedirs(os.path.dirname(full), exist_ok=True)
+        with open(full, "w", encoding="utf-8") as file:
+            file.write(made(root)[path])
 
 
-def _laid(fields, structs):
-    at, widest, offsets = 0, 1, []
-    for name, kind in fields:
-        if kind in structs:
-            size, align, _ = _laid(structs[kind], structs)
-        else:
-            size = align = int(re.fullmatch(r"[uif](\d+)", kind)[1]) // 8
-        at += -at % align
-        offsets.append((name, at))
-        at, widest = at + size, max(widest, align)
-    return at + -at % widest, widest, offsets
+def main(words):
+    root = os.path.normpath(os.path.join(os.path.dirname(os.path.abspath(__file__)), ".."))
+    if words not in ([], ["--write"]):
+        sys.exit(__doc__)
+    try:
+        old = stale(root)
+        write(root, old if words else [])
+    except (OSError, Unreadable) as wrong:
+        sys.exit(f"interface.py: {wrong}")
+    for path in old:
+        print(f"{path} is {'written' if words else 'stale: tools/interface.py --write'}")
+    return 1 if old and not words else 0
 
 
-def _snake(name):
-    return re.sub(r"(?<!^)([A-Z])", r"_\1", name).lower()
+if __name__ == "__main__":
+    # The module by its name, so that its types are those that tools/made knows.
+    import interface
 
-
-def _in_c(kind):
-    if kind.startswith("*const "):
-        return f"const {_in_c(kind[7:])} *"
-    if kind.startswith("*mut "):
-        return f"{_in_c(kind[5:])} *"
-    names = {ours: theirs for theirs, ours in _C.items()}
-    return names.get(kind) or _snake(kind)
-
-
-def c_checks(truth):
-    """A C program that compiles only where the header's sizes, offsets and functions are the Rattle source's."""
-    lines = ["#include <vrikshonem.h>"]
-    for name, fields in truth.structs.items():
-        size, offsets = layout(fields, truth.structs)
-        lines.append(f'_Static_assert(sizeof({_snake(name)}) == {size}, "{name}");')
-        for field, at in offsets:
-            lines.append(f'_Static_assert(offsetof({_snake(name)}, {field}) == {at}, "{name}.{field}");')
-    for name, (result, given) in truth.functions.items():
-        kinds = ", ".join(_in_c(kind) for _, kind in given)
-        lines.append(f"{_in_c(result)} (*const is_{name})({kinds}) = {name};")
-    return "\n".join(lines) + "\n"
-
-
-def rust_checks(truth, sys):
-    """The same for the Rust crate's sys.rs."""
-    lines = [f'#[path = "{sys}"] #[allow(dead_code)] mod sys;', "use std::mem::{offset_of, size_of};"]
-    for name, fields in truth.structs.items():
-        size, offsets = layout(fields, truth.structs)
-        lines.append(f"const _: () = assert!(size_of::<sys::{name}>() == {size});")
-        lines += [f"const _: () = assert!(offset_of!(sys::{name}, {field}) == {at});" for field, at in offsets]
-    for name, (result, given) in truth.functions.items():
-        kinds = ", ".join(_in_rust(kind) for _, kind in given)
-        lines.append(f'const _: unsafe extern "C" fn({kinds}) -> {_in_rust(result)} = sys::{name};')
-    return "\n".join(lines) + "\n"
-
-
-def _in_rust(kind):
-    return kind.replace("Vrk", "sys::Vrk")
+    sys.exit(interface.main(sys.argv[1:]))

@@ -10,33 +10,38 @@ reading is that time or the last not later, and each refusal the first that appl
     'UTC=31-DEC-2016 23:59:60.000015'
     >>> vrikshonem.cuc_read(bytes(5))
     Traceback (most recent call last):
-    vrikshonem.Refused: refused 1: input length is none of the layout's
+    vrikshonem.LengthIsNone: refused 1: input length is none of the layout's
 
-Times are Tai, Utc and Gps; none is accepted where another is due. A refusal is raised as Refused, which has .number and .words.
+Times are Tai, Utc and Gps; none is accepted where another is due. A refusal is raised as the exception of its name, such as
+NotInForce; each is a Refused, which has .number and .words.
+
+    >>> utc = vrikshonem.Utc(640, 36_000_000_000)
+    >>> autumn = vrikshonem.Correlation(tick=7, reference=utc, period=3_906_250_000, back=0, ahead=663_552_000)
+    >>> for tick in 8, 6, -1:
+    ...     try:
+    ...         print(autumn.date(tick, receipt=utc))
+    ...     except vrikshonem.NotInForce:
+    ...         print("a new correlation is needed")
+    ...     except vrikshonem.Refused as refused:
+    ...         print("refused with", refused.number)
+    Utc(day=640, micro=36000003906)
+    a new correlation is needed
+    refused with 3
 
 A reader takes bytes of any length. A writer hands its image back; where a bytearray is lent as `out` it also writes the image
 onto its front, leaves every byte after it, and refuses with 13 where it is too short. A refusal leaves every byte.
 """
 
-from ._correlations import Correlation, GoceCorrelation
-from ._layouts import (
-    CryosatFields, CucFields, ProteusFields, SiralFields, cryosat_fields_read, cryosat_fields_write, cryosat_read,
-    cryosat_write, cuc_fields_read, cuc_fields_write, cuc_read, cuc_write, goce_read, goce_write, obet_read, obet_write,
-    proteus_fields_read, proteus_fields_write, proteus_read, proteus_write, sbt_read, sbt_write, siral_fields_read,
-    siral_fields_write, siral_read, siral_write, text_read, text_write,
-)
-from ._times import Decimal, Gps, Handed, LeapList, Refused, Tai, Time, Utc, change
+from . import _correlations, _layouts, _refusals, _times
+from ._correlations import *
+from ._layouts import *
+from ._refusals import *
+from ._times import *
 
-__version__ = "0.1.0"
-# Written out: a checker of types reads no other form.
-__all__ = [
-    "Correlation", "CryosatFields", "CucFields", "Decimal", "GoceCorrelation", "Gps", "Handed", "LeapList", "ProteusFields",
-    "Refused", "SiralFields", "Tai", "Time", "Utc", "change", "cryosat_fields_read", "cryosat_fields_write", "cryosat_read",
-    "cryosat_write", "cuc_fields_read", "cuc_fields_write", "cuc_read", "cuc_write", "goce_read", "goce_write",
-    "obet_read", "obet_write", "proteus_fields_read", "proteus_fields_write", "proteus_read", "proteus_write",
-    "sbt_read", "sbt_write", "siral_fields_read", "siral_fields_write", "siral_read", "siral_write", "text_read",
-    "text_write",
-]
-
-# The exception's name as its users see it.
-Refused.__module__ = __name__
+__version__ = "0.2.0"
+# Each module lists its own names, and in this form a checker of types can add them up.
+__all__: list[str] = []
+__all__ += _correlations.__all__
+__all__ += _layouts.__all__
+__all__ += _refusals.__all__
+__all__ += _times.__all__

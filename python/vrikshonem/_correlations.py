@@ -7,7 +7,10 @@ from operator import index
 from typing import Generic
 
 from . import _sys
+from ._library import library
 from ._times import SCALES, Handed, T, Utc, answered, due, handed, narrow, signed, unsigned
+
+__all__ = ["Correlation", "GoceCorrelation"]
 
 
 @dataclass(frozen=True)
@@ -47,12 +50,12 @@ class Correlation(Generic[T]):
         scale, correlation = type(self.reference), self._given()
         due(receipt, scale, f"a receipt in {scale.__name__}")
         given = narrow(tick), correlation, signed(receipt.day), unsigned(receipt.micro)
-        return scale._of(_sys.library().vrk_sbt_date(*given))
+        return scale._of(library().vrk_sbt_date(*given))
 
     def tick_of(self, time: Handed) -> int:
         """The last tick of the window whose time is not later. Refused: 4; 6; 7; 8 outside the window's times, not judged of a
         time that gets 12; 12 another scale or second 60."""
-        return answered(_sys.library().vrk_sbt_tick(handed(time), self._given())).count
+        return answered(library().vrk_sbt_tick(handed(time), self._given())).count
 
 
 @dataclass(frozen=True)
@@ -67,6 +70,20 @@ class GoceCorrelation:
     gradient  the clock's rate in billionths, from 999,000,000 to 1,001,000,000
     back      counts back, to 2^47
     ahead     counts ahead, to 2^47 - 1
+
+    A second before the counter's wrap, where UTC0 and Offset together are 17 March 2009, 16:00:00:
+
+    >>> utc0, month = (3363 * 86_400 + 57_601) * 65_536, 30 * 86_400 * 65_536
+    >>> launch = GoceCorrelation(0xFFFFFFFF0000, utc0, -65_536, 1_000_000_021, back=0, ahead=month)
+    >>> launch.date(1, receipt=Utc(3363, 57_660_000_000))
+    Utc(day=3363, micro=57601000015)
+    >>> launch.count_of(Utc(3363, 57_601_000_015))
+    1
+    >>> try:
+    ...     launch.date(1, receipt=Utc(3410, 0))
+    ... except NotInForce:
+    ...     print("received in May: a new correlation is needed")
+    received in May: a new correlation is needed
     """
 
     obt0: int
@@ -92,9 +109,9 @@ class GoceCorrelation:
         11."""
         due(receipt, Utc, "a receipt in Utc")
         given = unsigned(obt), self._given(), signed(receipt.day), unsigned(receipt.micro)
-        return Utc._of(_sys.library().vrk_goce_date(*given))
+        return Utc._of(library().vrk_goce_date(*given))
 
     def count_of(self, time: Handed) -> int:
         """The last count of the window whose time is not later. Refused: 4; 6; 7; 8 outside the window's times, not judged of a
         time that gets 12; 12 another scale than UTC, or second 60."""
-        return answered(_sys.library().vrk_goce_count(handed(time), self._given())).count
+        return answered(library().vrk_goce_count(handed(time), self._given())).count

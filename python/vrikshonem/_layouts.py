@@ -5,8 +5,40 @@ from __future__ import annotations
 import ctypes
 from typing import Any, NamedTuple, Optional, Tuple, Union
 
-from . import _sys
+from ._library import library
+from ._sys import IMAGES
 from ._times import Gps, Handed, LeapList, Tai, Time, Utc, answered, due, handed, listed, narrow, unsigned
+
+__all__ = [
+    "CryosatFields",
+    "CucFields",
+    "ProteusFields",
+    "SiralFields",
+    "cryosat_fields_read",
+    "cryosat_fields_write",
+    "cryosat_read",
+    "cryosat_write",
+    "cuc_fields_read",
+    "cuc_fields_write",
+    "cuc_read",
+    "cuc_write",
+    "goce_read",
+    "goce_write",
+    "obet_read",
+    "obet_write",
+    "proteus_fields_read",
+    "proteus_fields_write",
+    "proteus_read",
+    "proteus_write",
+    "sbt_read",
+    "sbt_write",
+    "siral_fields_read",
+    "siral_fields_write",
+    "siral_read",
+    "siral_write",
+    "text_read",
+    "text_write",
+]
 
 Bytes = Union[bytes, bytearray, memoryview]
 Lent = Optional[bytearray]
@@ -19,14 +51,14 @@ def _slice(data: Bytes) -> Tuple[Any, int]:
 
 
 def _read(name: str, data: Bytes) -> Any:
-    return answered(getattr(_sys.library(), name)(*_slice(data)))
+    return answered(getattr(library(), name)(*_slice(data)))
 
 
-def _write(name: str, length: int, out: Lent, *given: Any) -> bytes:
-    room = bytearray(length) if out is None else due(out, bytearray, "a bytearray")
+def _write(name: str, out: Lent, *given: Any) -> bytes:
+    room = bytearray(IMAGES[name]) if out is None else due(out, bytearray, "a bytearray")
     lent = (ctypes.c_uint8 * len(room)).from_buffer(room)
     try:
-        written = getattr(_sys.library(), name)(*given, lent, len(room))
+        written = getattr(library(), name)(*given, lent, len(room))
     finally:
         # A bytearray cannot change its length while it is lent, and a refusal's traceback would keep it so.
         del lent
@@ -59,13 +91,21 @@ class SiralFields(NamedTuple):
 
 
 def cuc_read(data: Bytes) -> Gps:
-    """CUC, Aeolus, 6 bytes: seconds since 6 January 1980 and a fraction of 1/65536 s. Refused: 1; 7."""
+    """CUC, Aeolus, 6 bytes: seconds since 6 January 1980 and a fraction of 1/65536 s. Refused: 1; 7.
+
+    >>> cuc_read(bytes.fromhex("000000010001"))
+    Gps(day=-7300, micro=1000015)
+    """
     return Gps._of(_read("vrk_cuc_read", data))
 
 
 def cuc_write(time: Handed, out: Lent = None) -> bytes:
-    """The last image whose reading is not later. Refused: 4; 7; 12 a scale other than GPS; 13."""
-    return _write("vrk_cuc_write", 6, out, handed(time))
+    """The last image whose reading is not later. Refused: 4; 7; 12 a scale other than GPS; 13.
+
+    >>> cuc_write(Gps(-7300, 1_000_015)).hex()
+    '000000010001'
+    """
+    return _write("vrk_cuc_write", out, handed(time))
 
 
 def cuc_fields_read(data: Bytes) -> CucFields:
@@ -76,7 +116,7 @@ def cuc_fields_read(data: Bytes) -> CucFields:
 
 def cuc_fields_write(seconds: int, fraction: int, out: Lent = None) -> bytes:
     """The fields' bytes, exactly. Refused: 3; 13."""
-    return _write("vrk_cuc_fields_write", 6, out, narrow(seconds), narrow(fraction))
+    return _write("vrk_cuc_fields_write", out, narrow(seconds), narrow(fraction))
 
 
 def goce_read(data: Bytes) -> int:
@@ -85,8 +125,15 @@ def goce_read(data: Bytes) -> int:
 
 
 def goce_write(count: int, out: Lent = None) -> bytes:
-    """The count's bytes. Refused: 3 where it is no count of 48 bits; 13."""
-    return _write("vrk_goce_write", 6, out, unsigned(count))
+    """The count's bytes. Refused: 3 where it is no count of 48 bits; 13.
+
+    >>> packet = bytearray(8)
+    >>> goce_write(0x010203040506, out=packet).hex()
+    '010203040506'
+    >>> packet.hex()
+    '0102030405060000'
+    """
+    return _write("vrk_goce_write", out, unsigned(count))
 
 
 def obet_read(data: Bytes) -> int:
@@ -96,7 +143,7 @@ def obet_read(data: Bytes) -> int:
 
 def obet_write(count: int, out: Lent = None) -> bytes:
     """The count's bytes, after the byte 66. Refused: 3 where it is no count of 56 bits; 13."""
-    return _write("vrk_obet_write", 8, out, unsigned(count))
+    return _write("vrk_obet_write", out, unsigned(count))
 
 
 def proteus_read(data: Bytes) -> Tuple[Utc, bool]:
@@ -108,7 +155,7 @@ def proteus_read(data: Bytes) -> Tuple[Utc, bool]:
 def proteus_write(time: Handed, h3: bool, out: Lent = None) -> bytes:
     """The last image whose reading is not later, with H3. Refused: 3 an H3 that is no bit; 4; 7; 12 a scale other than UTC,
     second 60, a day outside -7300 to 21371; 13."""
-    return _write("vrk_proteus_write", 8, out, handed(time), narrow(h3))
+    return _write("vrk_proteus_write", out, handed(time), narrow(h3))
 
 
 def proteus_fields_read(data: Bytes) -> ProteusFields:
@@ -119,7 +166,7 @@ def proteus_fields_read(data: Bytes) -> ProteusFields:
 
 def proteus_fields_write(week: int, h3: bool, second: int, fraction: int, out: Lent = None) -> bytes:
     """The fields' bytes, exactly. Refused: 3; 13."""
-    return _write("vrk_proteus_fields_write", 8, out, narrow(week), narrow(h3), narrow(second), narrow(fraction))
+    return _write("vrk_proteus_fields_write", out, narrow(week), narrow(h3), narrow(second), narrow(fraction))
 
 
 def cryosat_read(data: Bytes) -> Tai:
@@ -129,7 +176,7 @@ def cryosat_read(data: Bytes) -> Tai:
 
 def cryosat_write(time: Handed, out: Lent = None) -> bytes:
     """The time, exactly. Refused: 4; 7; 12 a scale other than TAI, a day before 0; 13."""
-    return _write("vrk_cryosat_write", 8, out, handed(time))
+    return _write("vrk_cryosat_write", out, handed(time))
 
 
 def cryosat_fields_read(data: Bytes) -> CryosatFields:
@@ -140,7 +187,7 @@ def cryosat_fields_read(data: Bytes) -> CryosatFields:
 
 def cryosat_fields_write(day: int, millisecond: int, microsecond: int, out: Lent = None) -> bytes:
     """The fields' bytes, exactly. Refused: 3; 13."""
-    return _write("vrk_cryosat_fields_write", 8, out, narrow(day), narrow(millisecond), narrow(microsecond))
+    return _write("vrk_cryosat_fields_write", out, narrow(day), narrow(millisecond), narrow(microsecond))
 
 
 def siral_read(data: Bytes) -> Tai:
@@ -150,7 +197,7 @@ def siral_read(data: Bytes) -> Tai:
 
 def siral_write(time: Handed, out: Lent = None) -> bytes:
     """The time, exactly, with the extra counter 0. Refused: 4; 7; 12 a scale other than TAI, a day before 0; 13."""
-    return _write("vrk_siral_write", 10, out, handed(time))
+    return _write("vrk_siral_write", out, handed(time))
 
 
 def siral_fields_read(data: Bytes) -> SiralFields:
@@ -162,7 +209,7 @@ def siral_fields_read(data: Bytes) -> SiralFields:
 def siral_fields_write(day: int, millisecond: int, microsecond: int, extra: int, out: Lent = None) -> bytes:
     """The fields' bytes, exactly. Refused: 3; 13."""
     given = narrow(day), narrow(millisecond), narrow(microsecond), narrow(extra)
-    return _write("vrk_siral_fields_write", 10, out, *given)
+    return _write("vrk_siral_fields_write", out, *given)
 
 
 def sbt_read(data: Bytes) -> int:
@@ -172,15 +219,21 @@ def sbt_read(data: Bytes) -> int:
 
 def sbt_write(tick: int, out: Lent = None) -> bytes:
     """The tick's bytes. Refused: 3 where the number is no tick; 13."""
-    return _write("vrk_sbt_write", 4, out, narrow(tick))
+    return _write("vrk_sbt_write", out, narrow(tick))
 
 
 def text_read(text: Union[str, Bytes], leap_list: LeapList) -> Time:
     """The time that an Envisat text stands for, in its own scale; without a prefix it is UTC, and only then or with UTC= is
-    the list looked at. Refused: 1; 3; 5; 7; 9; 10."""
+    the list looked at. Refused: 1; 3; 5; 7; 9; 10.
+
+    >>> text_read("31-DEC-2016 23:59:60", LeapList.PUBLISHED)
+    Utc(day=6209, micro=86400000000)
+    >>> text_read("GPS=01-JAN-2017 00:00:17.000015", LeapList.PUBLISHED)
+    Gps(day=6210, micro=17000015)
+    """
     # A character that has no byte of its own becomes a question mark, which is as bad a character as it was.
     data = text.encode("ascii", "replace") if isinstance(text, str) else text
-    read = answered(_sys.library().vrk_text_read(*_slice(data), *listed(leap_list)))
+    read = answered(library().vrk_text_read(*_slice(data), *listed(leap_list)))
     if read.scale == Tai.CODE:
         return Tai._of(read)
     return Utc._of(read) if read.scale == Utc.CODE else Gps._of(read)
@@ -189,6 +242,10 @@ def text_read(text: Union[str, Bytes], leap_list: LeapList) -> Time:
 def text_write(time: Handed, form: int, leap_list: LeapList, out: Lent = None) -> str:
     """A time as text in the form of that length: 20, 24 with a prefix, 27 with microseconds, 31 with both. Nothing is
     written that reading would refuse. Refused: 3 another form; 4; 5; 7; 9; 10; 12 a scale other than UTC without a prefix, a
-    microsecond that the form cannot show; 13."""
+    microsecond that the form cannot show; 13.
+
+    >>> text_write(Utc(6209, 86_400_000_000), 20, LeapList.PUBLISHED)
+    '31-DEC-2016 23:59:60'
+    """
     given = handed(time), *listed(leap_list), narrow(form)
-    return _write("vrk_text_write", 31, out, *given).decode("ascii")
+    return _write("vrk_text_write", out, *given).decode("ascii")

@@ -1,4 +1,4 @@
-"""Times of each scale, refusals, the leap list, and how each is handed to the library."""
+"""Times of each scale, the leap list, and how each is handed to the library."""
 
 from __future__ import annotations
 
@@ -8,49 +8,16 @@ from operator import index
 from typing import Any, ClassVar, Sequence, Tuple, Type, TypeVar, Union
 
 from . import _sys
+from ._library import library
+from ._refusals import FieldOver, Refused
 
-WORDS: Tuple[str, ...] = (
-    "answered",
-    "input length is none of the layout's",
-    "marker byte or zero bits wrong",
-    "a field over its limit, bad character, date not in the calendar",
-    "decimal day infinite or not a number",
-    "leap list not accepted",
-    "correlation not accepted",
-    "input time or receipt outside its span",
-    "correlation not in force",
-    "leap list expired",
-    "UTC second that its day lacks",
-    "result outside its scale's span",
-    "time has no image",
-    "output slice shorter than the image",
-)
+__all__ = ["Decimal", "Gps", "Handed", "LeapList", "Tai", "Time", "Utc", "change"]
 
 _I64, _U64, _U32 = 2**63, 2**64, 2**32
 
 
-class Refused(Exception):
-    """A refusal: the first that applies in the paper's order. Lent memory keeps all its bytes.
-
-    number  the paper's number
-    words   what is wrong, in the paper's words
-    """
-
-    def __init__(self, number: int) -> None:
-        known = 0 < number < len(WORDS)
-        self.number: int = number
-        self.words: str = WORDS[number] if known else "a refusal that this version does not know"
-        super().__init__(number)
-
-    def __str__(self) -> str:
-        return f"refused {self.number}: {self.words}"
-
-
-Refused.__doc__ = f"{Refused.__doc__}\n" + "".join(f"{number:6}  {words}\n" for number, words in enumerate(WORDS) if number)
-
-
 def answered(answer: Any) -> Any:
-    """The answer, or Refused."""
+    """The answer; a refusal is raised."""
     if answer.refusal:
         raise Refused(answer.refusal)
     return answer
@@ -89,7 +56,7 @@ def due(value: Any, kinds: Any, what: str) -> Any:
 def narrow(value: int) -> int:
     """A tick or a field of 32 bits, whose every value may be an answer: another number is a field over its limit."""
     if not 0 <= index(value) < _U32:
-        raise Refused(3)
+        raise FieldOver()
     return index(value)
 
 
@@ -108,11 +75,11 @@ class _Time:
     @classmethod
     def from_decimal(cls: Type[T], day: float) -> T:
         """The microsecond nearest a decimal day, ties to the later. Refused: 4; 7."""
-        return cls._of(_sys.library().vrk_decimal_read(double(day), cls.CODE))
+        return cls._of(library().vrk_decimal_read(double(day), cls.CODE))
 
     def to_decimal(self) -> float:
         """The double nearest this time in days; it reads back as the same time. Refused: 7; 12 second 60."""
-        return answered(_sys.library().vrk_decimal_write(handed(self))).day
+        return answered(library().vrk_decimal_write(handed(self))).day
 
     @classmethod
     def _of(cls: Type[T], answer: Any) -> T:
@@ -226,8 +193,14 @@ class LeapList:
 
     def is_accepted(self) -> bool:
         """Whether it has 1 to 64 steps from (-10227, 10) on, days that rise strictly and are firsts of months, offsets that
-        count up by one, a last day from -10227 to 36524, and no step later than the day after it."""
-        return _sys.library().vrk_list_accepted(*self._given) == 1
+        count up by one, a last day from -10227 to 36524, and no step later than the day after it.
+
+        >>> LeapList.PUBLISHED.is_accepted()
+        True
+        >>> LeapList([-10227, -10044], [10, 11], 0).is_accepted()  # no first of a month
+        False
+        """
+        return library().vrk_list_accepted(*self._given) == 1
 
 
 def listed(leap_list: LeapList) -> Tuple[Any, ...]:
@@ -247,6 +220,10 @@ LeapList.PUBLISHED = LeapList(
 
 def change(time: Handed, scale: Type[T], leap_list: LeapList) -> T:
     """The same instant in another scale; in its own scale a time stays as it is. The list is looked at only where UTC is one
-    of the two. Refused: 4; 5; 7; 9; 10; 11."""
-    answer = _sys.library().vrk_change(handed(time), code(scale), *listed(leap_list))
+    of the two. Refused: 4; 5; 7; 9; 10; 11.
+
+    >>> change(Decimal(6209.5, Utc), Tai, LeapList.PUBLISHED)
+    Tai(day=6209, micro=43236000000)
+    """
+    answer = library().vrk_change(handed(time), code(scale), *listed(leap_list))
     return scale._of(answer)

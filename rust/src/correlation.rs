@@ -13,7 +13,7 @@ pub struct Tick(pub u32);
 /// Any correlation can be built. One that is not accepted is refused with 6 by each function.
 ///
 /// ```
-/// use vrikshonem::{Correlation, Tick, Utc};
+/// use vrikshonem::{Correlation, Error, Tick, Utc};
 /// let autumn = Correlation {
 ///     tick: Tick(0xFFFF_FFFF),
 ///     reference: Utc::new(640, 36_000_000_000),
@@ -23,7 +23,7 @@ pub struct Tick(pub u32);
 /// };
 /// assert_eq!(autumn.date(Tick(0), autumn.reference), Ok(Utc::new(640, 36_000_003_906)));
 /// // received in March: the correlation is no longer in force
-/// assert_eq!(autumn.date(Tick(0), Utc::new(786, 9_600_000_000)).unwrap_err().number, 8);
+/// assert_eq!(autumn.date(Tick(0), Utc::new(786, 9_600_000_000)), Err(Error::NOT_IN_FORCE));
 /// ```
 #[derive(Clone, Copy, PartialEq, Eq, Debug)]
 pub struct Correlation<T> {
@@ -72,7 +72,7 @@ impl<T: Scaled> Correlation<T> {
 /// Any correlation can be built. One that is not accepted is refused with 6 by each function.
 ///
 /// ```
-/// use vrikshonem::{GoceCorrelation, Utc};
+/// use vrikshonem::{Error, GoceCorrelation, Utc};
 /// // a second before the counter's wrap; UTC0 and Offset together are 17 March 2009, 16:00:00
 /// let launch = GoceCorrelation {
 ///     obt0: 0xFFFF_FFFF_0000,
@@ -86,7 +86,7 @@ impl<T: Scaled> Correlation<T> {
 /// assert_eq!(launch.date(1, received), Ok(Utc::new(3363, 57_601_000_015)));
 /// assert_eq!(launch.count_of(Utc::new(3363, 57_601_000_015)), Ok(1));
 /// // received in May: the correlation is no longer in force
-/// assert_eq!(launch.date(1, Utc::new(3410, 0)).unwrap_err().number, 8);
+/// assert_eq!(launch.date(1, Utc::new(3410, 0)), Err(Error::NOT_IN_FORCE));
 /// ```
 #[derive(Clone, Copy, PartialEq, Eq, Debug)]
 pub struct GoceCorrelation {

@@ -2,52 +2,33 @@
 
 use std::fmt;
 
-const WORDS: [&str; 14] = [
-    "answered",
-    "input length is none of the layout's",
-    "marker byte or zero bits wrong",
-    "a field over its limit, bad character, date not in the calendar",
-    "decimal day infinite or not a number",
-    "leap list not accepted",
-    "correlation not accepted",
-    "input time or receipt outside its span",
-    "correlation not in force",
-    "leap list expired",
-    "UTC second that its day lacks",
-    "result outside its scale's span",
-    "time has no image",
-    "output slice shorter than the image",
-];
-
 /// A refusal: the first that applies in the paper's order. Lent memory keeps all its bytes.
 ///
-/// | `number` | given when |
-/// |---|---|
-/// | 1 | input length is none of the layout's |
-/// | 2 | marker byte or zero bits wrong |
-/// | 3 | a field over its limit, bad character, date not in the calendar |
-/// | 4 | decimal day infinite or not a number |
-/// | 5 | leap list not accepted |
-/// | 6 | correlation not accepted |
-/// | 7 | input time or receipt outside its span |
-/// | 8 | correlation not in force |
-/// | 9 | leap list expired |
-/// | 10 | UTC second that its day lacks |
-/// | 11 | result outside its scale's span |
-/// | 12 | time has no image |
-/// | 13 | output slice shorter than the image |
+/// Each has a name, and in a `match` that name is a pattern:
+///
+/// ```
+/// use vrikshonem::{Correlation, Error, Tick, Utc};
+///
+/// fn said(correlation: &Correlation<Utc>, tick: Tick, receipt: Utc) -> String {
+///     match correlation.date(tick, receipt) {
+///         Ok(time) => format!("day {}, microsecond {}", time.day, time.micro),
+///         Err(Error::NOT_IN_FORCE) => "a new correlation is needed".to_string(),
+///         Err(refused) => refused.to_string(),
+///     }
+/// }
+///
+/// let reference = Utc::new(640, 36_000_000_000);
+/// let autumn = Correlation { tick: Tick(7), reference, period: 3_906_250_000, back: 0, ahead: 663_552_000 };
+/// assert_eq!(said(&autumn, Tick(8), reference), "day 640, microsecond 36000003906");
+/// assert_eq!(said(&autumn, Tick(6), reference), "a new correlation is needed");
+/// let slow = Correlation { period: 0, ..autumn };
+/// assert_eq!(said(&slow, Tick(8), reference), Error::CORRELATION_NOT_ACCEPTED.to_string());
+/// ```
 #[derive(Clone, Copy, PartialEq, Eq, Hash, Debug)]
 #[non_exhaustive]
 pub struct Error {
     /// The paper's number.
     pub number: u32,
-}
-
-impl Error {
-    /// What is wrong, in the paper's words.
-    pub fn words(self) -> &'static str {
-        WORDS.get(self.number as usize).copied().unwrap_or("a refusal that this version does not know")
-    }
 }
 
 impl fmt::Display for Error {

@@ -14,7 +14,7 @@ pub mod cuc {
     use crate::time::{at, Handed, Gps};
 
     /// The bytes of an image.
-    pub const LENGTH: usize = 6;
+    pub const LENGTH: usize = sys::image::CUC_WRITE;
 
     /// The fields. A field over its limit, or wider than its bits, is refused with 3.
     #[derive(Clone, Copy, PartialEq, Eq, Hash, Debug)]
@@ -51,7 +51,7 @@ pub mod goce {
     use super::*;
 
     /// The bytes of an image.
-    pub const LENGTH: usize = 6;
+    pub const LENGTH: usize = sys::image::GOCE_WRITE;
 
     /// The count. Refused: 1.
     pub fn read(bytes: &[u8]) -> Result<u64, Error> {
@@ -70,7 +70,7 @@ pub mod obet {
     use super::*;
 
     /// The bytes of an image.
-    pub const LENGTH: usize = 8;
+    pub const LENGTH: usize = sys::image::OBET_WRITE;
 
     /// The count. Refused: 1; 2.
     pub fn read(bytes: &[u8]) -> Result<u64, Error> {
@@ -90,7 +90,7 @@ pub mod proteus {
     use crate::time::{Handed, Utc};
 
     /// The bytes of an image.
-    pub const LENGTH: usize = 8;
+    pub const LENGTH: usize = sys::image::PROTEUS_WRITE;
 
     /// The fields. A field over its limit, or wider than its bits, is refused with 3.
     #[derive(Clone, Copy, PartialEq, Eq, Hash, Debug)]
@@ -133,7 +133,7 @@ pub mod cryosat {
     use crate::time::{at, Handed, Tai};
 
     /// The bytes of an image.
-    pub const LENGTH: usize = 8;
+    pub const LENGTH: usize = sys::image::CRYOSAT_WRITE;
 
     /// The fields. A field over its limit, or wider than its bits, is refused with 3.
     #[derive(Clone, Copy, PartialEq, Eq, Hash, Debug)]
@@ -172,7 +172,7 @@ pub mod siral {
     use crate::time::{at, Handed, Tai};
 
     /// The bytes of an image.
-    pub const LENGTH: usize = 10;
+    pub const LENGTH: usize = sys::image::SIRAL_WRITE;
 
     /// The fields. A field over its limit, or wider than its bits, is refused with 3.
     #[derive(Clone, Copy, PartialEq, Eq, Hash, Debug)]
@@ -214,7 +214,7 @@ pub mod sbt {
     use crate::correlation::Tick;
 
     /// The bytes of an image.
-    pub const LENGTH: usize = 4;
+    pub const LENGTH: usize = sys::image::SBT_WRITE;
 
     /// The tick. Refused: 1.
     pub fn read(bytes: &[u8]) -> Result<Tick, Error> {

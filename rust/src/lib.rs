@@ -3,10 +3,10 @@
 //! The library behind this crate is proved: each reading is the exact time to the microsecond, each writing the bytes whose
 //! reading is that time or the last not later, and each refusal the first that applies in the paper's order. The crate adds
 //! types: [`Tai`], [`Utc`] and [`Gps`] times cannot be mistaken for each other, a [`LeapList`] is borrowed, and a refusal is
-//! an [`Error`] that carries its number and says in words what is wrong.
+//! an [`Error`] that has a name and a number, and says in words what is wrong.
 //!
 //! ```
-//! use vrikshonem::{cuc, text, Form, LeapList};
+//! use vrikshonem::{cuc, text, Error, Form, LeapList};
 //!
 //! let list = LeapList::PUBLISHED;
 //! let gps = cuc::read(&[0x45, 0x93, 0x09, 0x11, 0x00, 0x01])?;
@@ -14,6 +14,7 @@
 //! assert_eq!(text::string(utc, Form::PrefixedMicros, &list)?, "UTC=31-DEC-2016 23:59:60.000015");
 //!
 //! let refused = cuc::read(&[0; 5]).unwrap_err();
+//! assert_eq!(refused, Error::LENGTH_IS_NONE);
 //! assert_eq!(refused.number, 1);
 //! assert_eq!(refused.to_string(), "refused 1: input length is none of the layout's");
 //! # Ok::<(), vrikshonem::Error>(())
@@ -33,6 +34,7 @@ mod correlation;
 mod error;
 mod layouts;
 mod leap;
+mod refusals;
 mod sys;
 pub mod text;
 mod time;

@@ -39,7 +39,7 @@ pub fn write(time: impl Into<Handed>, form: Form, list: &LeapList<'_>, out: &mut
 
 /// The same as a new string; 13 cannot be.
 pub fn string(time: impl Into<Handed>, form: Form, list: &LeapList<'_>) -> Result<String, Error> {
-    let mut text = [0; 31];
+    let mut text = [0; sys::image::TEXT_WRITE];
     let length = write(time, form, list, &mut text)?;
     Ok(text[..length].iter().map(|&byte| char::from(byte)).collect())
 }

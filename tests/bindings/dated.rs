@@ -17,23 +17,13 @@ const JULY: [i64; 11] = [1972, 1981, 1982, 1983, 1985, 1992, 1993, 1994, 1997, 2
 
 const NAMES: [&str; 7] = ["?", "CUC", "Proteus", "CryoSat", "SIRAL", "SBT", "GOCE"];
 
-// Document 01's table.
-const WORDS: [&str; 14] = [
-    "answered",
-    "input length is none of the layout's",
-    "marker byte or zero bits wrong",
-    "a field over its limit, bad character, date not in the calendar",
-    "decimal day infinite or not a number",
-    "leap list not accepted",
-    "correlation not accepted",
-    "input time or receipt outside its span",
-    "correlation not in force",
-    "leap list expired",
-    "UTC second that its day lacks",
-    "result outside its scale's span",
-    "time has no image",
-    "output slice shorter than the image",
-];
+/// The words of a refusal: in the one list after its number, place and name.
+fn words_of(refusal: Number) -> String {
+    let refusal = refusal.to_string();
+    let line = include_str!("../../refusals.txt").lines().find(|line| line.split_whitespace().next() == Some(&refusal));
+    let columns = line.expect("the refusal is listed").split_whitespace().skip(3);
+    columns.take_while(|column| !column.starts_with('#')).collect::<Vec<_>>().join(" ")
+}
 
 fn day_of(year: i64, month: u64) -> i64 {
     independent::calendar::day_of(&independent::calendar::Date { day: 1, month, year }).expect("a date")
@@ -84,7 +74,7 @@ fn main() {
             .and_then(|utc| text::write(Handed::Record(Scale::Utc, utc), 31, &list));
         let said = match line {
             Ok(text) => String::from_utf8(text).expect("letters"),
-            Err(number) => format!("refused {number}: {}", WORDS[number as usize]),
+            Err(refusal) => format!("refused {refusal}: {}", words_of(refusal)),
         };
         println!("{:2} {:7} {said}", k + 1, NAMES[layout as usize]);
     }

@@ -1,4 +1,4 @@
-"""The header and both packages' declarations are the Rattle source's, as text and compiled; and a wrong one is reported."""
+"""The header's and both packages' declarations are the Rattle source's, as text and compiled; and a wrong one is reported."""
 
 import ctypes
 import importlib
@@ -6,11 +6,12 @@ import os
 import re
 import shutil
 
-import interface
+from declarations import c_checks, differences, expected, header, layout, rust_checks
+from interface import PREFIX, rattle
 from room import HEADER, ROOM, ROOT, SYS, WARNINGS, changed, good, run, skipped, tally, written
 from source import read
 
-C_CHECKS = ["gcc", "-std=c11", *WARNINGS, "-fsyntax-only", "-I"]
+C_CHECKS = ["gcc", "-std=c11", *WARNINGS, "-fsyntax-only", "-I", "include"]
 RUST_CHECKS = ["rustc", "--edition", "2021", "--crate-type", "lib", "--emit=metadata", "-o", f"{ROOM}/checks.rmeta"]
 MODULE = importlib.import_module("vrikshonem._sys")
 STANDARDS = [("gcc", "c", "c99"), ("gcc", "c", "c11"), ("g++", "cc", "c++98"), ("g++", "cc", "c++17")]
@@ -26,7 +27,7 @@ FAULTS = [
     ("lent bytes as given ones", "goce_write(uint64_t value, uint8_t *", "goce_write(uint64_t value, const uint8_t *", True),
 ]
 RUST_FAULTS = [
-    ("a function left out", "    pub fn vrk_goce_read(bytes: *const u8, count: usize) -> VrkCount;\n", ""),
+    ("a function left out", "    pub fn vrk_goce_read(bytes: *const u8, bytes_count: usize) -> VrkCount;\n", ""),
     ("fields in another order", "    pub obt0: u64,\n    pub utc0: u64,\n", "    pub utc0: u64,\n    pub obt0: u64,\n"),
     ("a field of another width", "    pub length: u64,", "    pub length: u32,"),
     ("another result", "-> VrkDecimal;", "-> VrkCount;"),
@@ -36,30 +37,27 @@ RUST_FAULTS = [
 def library(truth):
     """The library that was built has these functions and needs no other library."""
     inner = {"VrkIn": [("x", "u8"), ("y", "u64"), ("z", "u16")]}
-    laid = interface.layout([("a", "u8"), ("b", "VrkIn"), ("c", "u32")], inner)
+    laid = layout([("a", "u8"), ("b", "VrkIn"), ("c", "u32")], inner)
     tally.expect("a struct in a struct is laid out as in C", laid == (40, [("a", 0), ("b", 8), ("c", 32)]), str(laid))
     tally.expect("the Rattle source exports functions and structs", truth.functions and truth.structs)
     for what, *words in [("shared library", "-D", "--defined-only", "libvrikshonem.so"), ("archive", "libvrikshonem.a")]:
         names = run("nm", *words[:-1], f"target/dist/lib/{words[-1]}")[1]
-        differ = set(re.findall(r" T (\w+)", names)) ^ set(truth.functions)
+        differ = set(re.findall(r" T (\w+)", names)) ^ {PREFIX + name for name in truth.functions}
         tally.expect(f"the {what} has these functions", not differ, str(differ))
     needed = run("readelf", "-d", "target/dist/lib/libvrikshonem.so")[1]
-    tally.expect("the shared library needs no other", "SONAME" in needed and "NEEDED" not in needed, needed)
+    tally.expect("the shared library needs no other", "NEEDED" not in needed, needed)
+    name = "libvrikshonem.so." + ".".join(read("VERSION").split(".")[:2])
+    tally.expect("the shared library's name carries the version", f"[{name}]" in needed and MODULE.LIBRARY == name, needed)
 
 
 def compared(truth):
-    """The declarations as text; Python's sizes and offsets too."""
-    for what, other, loose in [
-        ("header", interface.header(read(HEADER)), False),
-        ("Rust declarations", interface.rust(read(SYS)), False),
-        ("Python declarations", interface.python(MODULE), True),
-    ]:
-        found = interface.differences(truth, other, loose)
-        tally.expect(f"the {what} are the Rattle source's", not found, "\n".join(found))
+    """The header as text; Python's sizes and offsets."""
+    found = differences(expected(truth), header(read(HEADER)))
+    tally.expect("the header's declarations are the Rattle source's", not found, "\n".join(found))
     for name, fields in truth.structs.items():
         kind = getattr(MODULE, name)
         laid = ctypes.sizeof(kind), [(field, getattr(kind, field).offset) for field, _ in fields]
-        tally.expect(f"Python lays {name} out as C does", laid == interface.layout(fields, truth.structs), str(laid))
+        tally.expect(f"Python lays {name} out as C does", laid == layout(fields, truth.structs), str(laid))
 
 
 def compiled(truth):
@@ -71,9 +69,9 @@ def compiled(truth):
             good(f"the header compiles as {standard}", compiler, *words)
         else:
             skipped(f"the header as {standard}", f"there is no {compiler}")
-    checks = written("checks.c", interface.c_checks(truth))
-    good("sizes, offsets and functions of the header, compiled", *C_CHECKS, "include", checks)
-    checks_rs = written("checks.rs", interface.rust_checks(truth, os.path.join(ROOT, SYS)))
+    checks = written("checks.c", c_checks(truth))
+    good("sizes, offsets and functions of the header, compiled", *C_CHECKS, checks)
+    checks_rs = written("checks.rs", rust_checks(truth, os.path.join(ROOT, SYS)))
     good("sizes, offsets and functions of the Rust declarations, compiled", *RUST_CHECKS, checks_rs)
     return checks
 
@@ -81,29 +79,18 @@ def compiled(truth):
 def faults(truth, checks):
     for what, old, new, compiles in FAULTS:
         wrong = changed(read(HEADER), old, new)
-        tally.expect(f"a header with {what} is reported", interface.differences(truth, interface.header(wrong)))
+        tally.expect(f"a header with {what} is reported", differences(expected(truth), header(wrong)))
         if compiles:
             written("wrong/vrikshonem.h", wrong)
-            tally.expect(f"a header with {what} does not compile", run(*C_CHECKS, f"{ROOM}/wrong", checks)[0] != 0)
+            tally.expect(f"a header with {what} does not compile", run(*C_CHECKS[:-2], "-I", f"{ROOM}/wrong", *C_CHECKS[-2:], checks)[0] != 0)
     for what, old, new in RUST_FAULTS:
-        wrong = changed(read(SYS), old, new)
-        tally.expect(f"Rust declarations with {what} are reported", interface.differences(truth, interface.rust(wrong)))
-        path = written("wrong/sys.rs", wrong)
-        wrong_rs = written("wrong/checks.rs", interface.rust_checks(truth, os.path.join(ROOT, path)))
+        path = written("wrong/sys.rs", changed(read(SYS), old, new))
+        wrong_rs = written("wrong/checks.rs", rust_checks(truth, os.path.join(ROOT, path)))
         tally.expect(f"Rust declarations with {what} do not compile", run(*RUST_CHECKS, wrong_rs)[0] != 0)
-    functions = dict(MODULE.FUNCTIONS)
-    result, given = functions["vrk_sbt_tick"]
-    MODULE.FUNCTIONS["vrk_sbt_tick"] = result, given[::-1]
-    found = interface.differences(truth, interface.python(MODULE), True)
-    tally.expect("Python parameters in another order are reported", found)
-    MODULE.FUNCTIONS.update(functions)
-    del MODULE.FUNCTIONS["vrk_goce_write"]
-    tally.expect("a Python function left out is reported", interface.differences(truth, interface.python(MODULE), True))
-    MODULE.FUNCTIONS.update(functions)
 
 
 def check():
-    truth = interface.rattle(ROOT)
+    truth = rattle(ROOT)
     library(truth)
     compared(truth)
     faults(truth, compiled(truth))

@@ -1,6 +1,6 @@
 //! The library behind a pipe: serve.c says what is sent.
 
-use crate::calls::{Answer, Call, ANSWER};
+use crate::calls::{words_of, Answer, Call, ANSWER};
 use std::io::{BufReader, Read, Write};
 use std::process::{Child, ChildStdin, ChildStdout, Command, Stdio};
 
@@ -23,19 +23,19 @@ impl Server {
         Server { input, output, child }
     }
 
-    pub fn ask(&mut self, function: u32, calls: &[Call]) -> Vec<Answer> {
+    pub fn ask(&mut self, calls: &[Call]) -> Vec<Answer> {
         let mut sent = Vec::new();
         for call in calls {
-            let sizes = [function, call.words.len() as u32, call.input.len() as u32, call.lent.len() as u32];
-            sizes.iter().for_each(|n| sent.extend(n.to_le_bytes()));
-            call.words.iter().for_each(|n| sent.extend(n.to_le_bytes()));
-            sent.extend(&call.input);
-            sent.extend(&call.lent);
+            let mut send = |word: u64| sent.extend(word.to_le_bytes());
+            send(call.function as u64);
+            call.words.iter().for_each(|&word| send(word));
+            call.function.shape().slices().zip(&call.slices).for_each(|((_, width, _), slice)| send((slice.len() / width) as u64));
+            call.slices.iter().for_each(|slice| sent.extend(slice));
         }
         let mut input = self.input.take().expect("it is given back below");
         // A thread of its own sends, so that two full pipes cannot wait for each other.
         let sender = std::thread::spawn(move || input.write_all(&sent).map(|()| input));
-        let answers = calls.iter().map(|call| self.answer(call.lent.len())).collect();
+        let answers = calls.iter().map(|call| self.answer(call)).collect();
         match sender.join().expect("it does not panic") {
             Ok(input) => self.input = Some(input),
             Err(e) => self.dead(&e),
@@ -43,16 +43,21 @@ impl Server {
         answers
     }
 
-    fn answer(&mut self, lent: usize) -> Answer {
-        let mut bytes = vec![0; ANSWER * 8 + lent];
+    fn answer(&mut self, call: &Call) -> Answer {
+        let words = words_of(&self.read(ANSWER * 8));
+        let lent = call.lent().iter().map(|slice| self.read(slice.len())).collect();
+        Answer { words, lent }
+    }
+
+    fn read(&mut self, count: usize) -> Vec<u8> {
+        let mut bytes = vec![0; count];
         if let Err(e) = self.output.read_exact(&mut bytes) {
             self.dead(&e);
         }
-        let words = bytes[..ANSWER * 8].chunks(8).map(|b| u64::from_le_bytes(b.try_into().expect("eight"))).collect();
-        Answer { words, lent: bytes.split_off(ANSWER * 8) }
+        bytes
     }
 
-    /// Status 3: a byte beside the lent ones was written.
+    /// Status 3: a byte before a slice was written.
     fn dead(&mut self, e: &std::io::Error) -> ! {
         let status = self.child.wait();
         crate::stop(&format!("the server ended: {e}, {status:?}"))

@@ -15,5 +15,5 @@ pub mod lines;
 pub mod text;
 pub mod time;
 
-/// A refusal's number, 1 to 13.
+/// A refusal's number.
 pub type Number = u64;

@@ -1,6 +1,6 @@
 //! Windows, receipts and times to be turned back, for the clocks of SBT and of GOCE.
 
-use super::{handed, Random};
+use super::{handed, Call, Random};
 use crate::independent::time::{moment_at, Moment};
 
 /// How far a window reaches one way, `most` being the farthest.
@@ -39,6 +39,10 @@ pub fn moment(random: &mut Random, window: &[u64], time: impl Fn(i128) -> i128) 
 /// The receipt: that moment, or any day and microsecond.
 pub fn receipt(random: &mut Random, moment: Moment) -> [u64; 2] {
     if random.one_in(12) { [handed::day(random) as u64, handed::micro(random)] } else { [moment.day as u64, moment.micro] }
+}
+
+pub fn received(call: &Call) -> Moment {
+    Moment { day: call.number("receipt_day") as i64, micro: call.number("receipt_micro") }
 }
 
 /// The five words of a vrk_handed: that moment, or anything.

@@ -1,6 +1,11 @@
-use super::{answered, clock, counted, handed, timed, Answer, Call, Random};
+use super::{answered, clock, counted, handed, timed, Answer, Call, Function, Pair, Random};
 use crate::independent::correlation::Correlation;
 use crate::independent::time::{since_day_0, Moment, Scale};
+
+pub const PAIRS: &[Pair] = &[
+    (Function::SbtDate, make_date, model_date),
+    (Function::SbtTick, make_tick, model_tick),
+];
 
 /// The seven words of a vrk_correlation: tick, scale, day, micro, period, back, ahead.
 fn words(random: &mut Random) -> Vec<u64> {
@@ -42,7 +47,7 @@ fn moment(random: &mut Random, words: &[u64]) -> Moment {
     clock::moment(random, &words[5..], |k| reference + (k * period).div_euclid(1_000_000))
 }
 
-pub fn make_date(random: &mut Random) -> Call {
+fn make_date(function: Function, random: &mut Random) -> Call {
     let correlation = words(random);
     let at = i128::from(correlation[0]) + clock::count(random, &correlation[5..]);
     let tick = if random.one_in(8) { random.next() as u32 } else { at as u32 };
@@ -50,25 +55,24 @@ pub fn make_date(random: &mut Random) -> Call {
     let mut all = vec![u64::from(tick)];
     all.extend(correlation);
     all.extend(clock::receipt(random, moment));
-    Call::of(all)
+    Call::of(function, all)
 }
 
-pub fn model_date(call: &Call) -> Answer {
-    let Some(correlation) = of(&call.words[1..8]) else { return answered(call, &[6]) };
-    let receipt = Moment { day: call.words[8] as i64, micro: call.words[9] };
-    timed(call, correlation.scale, correlation.date(call.words[0] as u32, receipt))
+fn model_date(call: &Call) -> Answer {
+    let Some(correlation) = of(call.numbers("correlation")) else { return answered(call, &[6]) };
+    timed(call, correlation.scale, correlation.date(call.number("tick") as u32, clock::received(call)))
 }
 
-pub fn make_tick(random: &mut Random) -> Call {
+fn make_tick(function: Function, random: &mut Random) -> Call {
     let correlation = words(random);
     let moment = moment(random, &correlation);
     let mut all = clock::handed(random, correlation[1], moment);
     all.extend(correlation);
-    Call::of(all)
+    Call::of(function, all)
 }
 
-pub fn model_tick(call: &Call) -> Answer {
-    let tick = match (handed::of(&call.words), of(&call.words[5..])) {
+fn model_tick(call: &Call) -> Answer {
+    let tick = match (handed::of(call), of(call.numbers("correlation"))) {
         (None, _) => Err(3),
         // an unknown scale is a correlation that is not accepted
         (Some(handed), None) => handed.finite().and(Err(6)),

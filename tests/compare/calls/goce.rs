@@ -1,7 +1,12 @@
-use super::{clock, counted, handed, timed, Answer, Call, Random};
+use super::{clock, counted, handed, timed, Answer, Call, Function, Pair, Random};
 use crate::independent::clock::Clock;
 use crate::independent::goce::Correlation;
 use crate::independent::time::{Moment, Scale};
+
+pub const PAIRS: &[Pair] = &[
+    (Function::GoceDate, make_date, model_date),
+    (Function::GoceCount, make_count, model_count),
+];
 
 const WRAP: u64 = 1 << 48;
 /// A day in counts, and where the span begins and ends.
@@ -68,7 +73,7 @@ fn moment(random: &mut Random, words: &[u64]) -> Moment {
     clock::moment(random, &words[4..], |k| of(words).time(k))
 }
 
-pub fn make_date(random: &mut Random) -> Call {
+fn make_date(function: Function, random: &mut Random) -> Call {
     let correlation = words(random);
     let at = (i128::from(correlation[0]) + clock::count(random, &correlation[4..])).rem_euclid(i128::from(WRAP)) as u64;
     let obt = match random.below(24) {
@@ -83,22 +88,21 @@ pub fn make_date(random: &mut Random) -> Call {
     let mut all = vec![obt];
     all.extend(correlation);
     all.extend(clock::receipt(random, moment));
-    Call::of(all)
+    Call::of(function, all)
 }
 
-pub fn model_date(call: &Call) -> Answer {
-    let receipt = Moment { day: call.words[7] as i64, micro: call.words[8] };
-    timed(call, Scale::Utc, of(&call.words[1..7]).date(call.words[0], receipt))
+fn model_date(call: &Call) -> Answer {
+    timed(call, Scale::Utc, of(call.numbers("correlation")).date(call.number("obt"), clock::received(call)))
 }
 
-pub fn make_count(random: &mut Random) -> Call {
+fn make_count(function: Function, random: &mut Random) -> Call {
     let correlation = words(random);
     let moment = moment(random, &correlation);
     let mut all = clock::handed(random, Scale::Utc.code(), moment);
     all.extend(correlation);
-    Call::of(all)
+    Call::of(function, all)
 }
 
-pub fn model_count(call: &Call) -> Answer {
-    counted(call, handed::of(&call.words).ok_or(3).and_then(|handed| of(&call.words[5..]).count_of(handed)))
+fn model_count(call: &Call) -> Answer {
+    counted(call, handed::of(call).ok_or(3).and_then(|handed| of(call.numbers("correlation")).count_of(handed)))
 }

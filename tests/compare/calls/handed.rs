@@ -1,6 +1,6 @@
 //! Times handed in: records and decimal days, in the span, at its edges, and beyond.
 
-use super::Random;
+use super::{Call, Random};
 use crate::independent::time::{Handed, Moment, Scale};
 
 const DAY: u64 = 86_400_000_000;
@@ -63,8 +63,9 @@ pub fn words(random: &mut Random) -> Vec<u64> {
     vec![kind, scale_code(random), day(random) as u64, micro(random), decimal(random).to_bits()]
 }
 
-/// What the words stand for, if they stand for anything.
-pub fn of(words: &[u64]) -> Option<Handed> {
+/// What the time of a call stands for, if it stands for anything.
+pub fn of(call: &Call) -> Option<Handed> {
+    let words = call.numbers("time");
     let scale = Scale::coded(words[1])?;
     match words[0] {
         0 => Some(Handed::Record(scale, Moment { day: words[2] as i64, micro: words[3] })),

@@ -1,7 +1,23 @@
-use super::{answered, counted, handed, timed, Answer, Call, Random};
+use super::{answered, counted, handed, lent, timed, written, Answer, Call, Function, Pair, Random};
 use crate::independent::layouts::{cryosat, cuc, field, goce, obet, proteus, sbt, siral};
 use crate::independent::time::Scale;
-use crate::independent::Number;
+
+pub const PAIRS: &[Pair] = &[
+    (Function::CucRead, make_cuc_read, model_cuc_read),
+    (Function::CucWrite, make_cuc_write, model_cuc_write),
+    (Function::GoceRead, make_goce_read, model_goce_read),
+    (Function::GoceWrite, make_goce_write, model_goce_write),
+    (Function::ObetRead, make_obet_read, model_obet_read),
+    (Function::ObetWrite, make_obet_write, model_obet_write),
+    (Function::ProteusRead, make_proteus_read, model_proteus_read),
+    (Function::ProteusWrite, make_proteus_write, model_proteus_write),
+    (Function::CryosatRead, make_cryosat_read, model_cryosat_read),
+    (Function::CryosatWrite, make_cryosat_write, model_cryosat_write),
+    (Function::SiralRead, make_siral_read, model_siral_read),
+    (Function::SiralWrite, make_siral_write, model_siral_write),
+    (Function::SbtRead, make_sbt_read, model_sbt_read),
+    (Function::SbtWrite, make_sbt_write, model_sbt_write),
+];
 
 // ---- bytes in
 
@@ -90,15 +106,11 @@ fn with_widths(values: Vec<u64>, widths: &[usize]) -> Vec<(usize, u64)> {
     widths.iter().copied().zip(values).collect()
 }
 
-fn of_bytes(input: Vec<u8>) -> Call {
-    Call { words: Vec::new(), input, lent: Vec::new() }
-}
-
 macro_rules! readers {
     ($($make:ident $parts:expr;)*) => {
-        $(pub fn $make(random: &mut Random) -> Call {
+        $(pub fn $make(function: Function, random: &mut Random) -> Call {
             let parts: Vec<(usize, u64)> = $parts(random);
-            of_bytes(bytes(random, &parts))
+            Call { function, words: Vec::new(), slices: vec![bytes(random, &parts)] }
         })*
     };
 }
@@ -115,63 +127,41 @@ readers! {
 
 // ---- what the readers give
 
-pub fn model_cuc_read(call: &Call) -> Answer {
-    timed(call, Scale::Gps, cuc::read(&call.input))
+fn model_cuc_read(call: &Call) -> Answer {
+    timed(call, Scale::Gps, cuc::read(call.slice("bytes")))
 }
 
-pub fn model_cryosat_read(call: &Call) -> Answer {
-    timed(call, Scale::Tai, cryosat::read(&call.input))
+fn model_cryosat_read(call: &Call) -> Answer {
+    timed(call, Scale::Tai, cryosat::read(call.slice("bytes")))
 }
 
-pub fn model_siral_read(call: &Call) -> Answer {
-    timed(call, Scale::Tai, siral::read(&call.input))
+fn model_siral_read(call: &Call) -> Answer {
+    timed(call, Scale::Tai, siral::read(call.slice("bytes")))
 }
 
-pub fn model_proteus_read(call: &Call) -> Answer {
-    match proteus::read(&call.input) {
+fn model_proteus_read(call: &Call) -> Answer {
+    match proteus::read(call.slice("bytes")) {
         Ok((moment, h3)) => answered(call, &[0, Scale::Utc.code(), moment.day as u64, moment.micro, h3]),
         Err(number) => answered(call, &[number, Scale::Utc.code()]),
     }
 }
 
-pub fn model_goce_read(call: &Call) -> Answer {
-    counted(call, goce::read(&call.input))
+fn model_goce_read(call: &Call) -> Answer {
+    counted(call, goce::read(call.slice("bytes")))
 }
 
-pub fn model_obet_read(call: &Call) -> Answer {
-    counted(call, obet::read(&call.input))
+fn model_obet_read(call: &Call) -> Answer {
+    counted(call, obet::read(call.slice("bytes")))
 }
 
-pub fn model_sbt_read(call: &Call) -> Answer {
-    counted(call, sbt::read(&call.input))
+fn model_sbt_read(call: &Call) -> Answer {
+    counted(call, sbt::read(call.slice("bytes")))
 }
 
 // ---- writing into a lent slice
 
-pub fn lent(random: &mut Random, image: u64) -> Vec<u8> {
-    let length = match random.below(6) {
-        0 => random.below(image),
-        1 => image,
-        _ => random.below(41),
-    };
-    (0..length).map(|_| random.next() as u8).collect()
-}
-
-/// The image on the front of the lent bytes, or 13 where it has no room; every byte stays on a refusal.
-pub fn written(call: &Call, image: Result<Vec<u8>, Number>) -> Answer {
-    let fits = image.and_then(|image| if image.len() <= call.lent.len() { Ok(image) } else { Err(13) });
-    match fits {
-        Ok(image) => {
-            let mut answer = answered(call, &[0, image.len() as u64]);
-            answer.lent[..image.len()].copy_from_slice(&image);
-            answer
-        }
-        Err(number) => answered(call, &[number]),
-    }
-}
-
 /// A handed time of one scale most of the time.
-fn of_scale(random: &mut Random, scale: Scale, image: u64) -> Call {
+fn of_scale(function: Function, random: &mut Random, scale: Scale) -> Call {
     let mut words = handed::words(random);
     if !random.one_in(6) && words[1] < 3 {
         words[1] = scale.code();
@@ -180,78 +170,78 @@ fn of_scale(random: &mut Random, scale: Scale, image: u64) -> Call {
         // where Proteus' weeks end
         words[2] = random.near(21371, 1) as u64;
     }
-    let lent = lent(random, image);
-    Call { words, input: Vec::new(), lent }
+    let slices = vec![lent(function, random)];
+    Call { function, words, slices }
 }
 
-pub fn make_cuc_write(random: &mut Random) -> Call {
-    of_scale(random, Scale::Gps, 6)
+fn make_cuc_write(function: Function, random: &mut Random) -> Call {
+    of_scale(function, random, Scale::Gps)
 }
 
-pub fn make_cryosat_write(random: &mut Random) -> Call {
-    of_scale(random, Scale::Tai, 8)
+fn make_cryosat_write(function: Function, random: &mut Random) -> Call {
+    of_scale(function, random, Scale::Tai)
 }
 
-pub fn make_siral_write(random: &mut Random) -> Call {
-    of_scale(random, Scale::Tai, 10)
+fn make_siral_write(function: Function, random: &mut Random) -> Call {
+    of_scale(function, random, Scale::Tai)
 }
 
-pub fn make_proteus_write(random: &mut Random) -> Call {
-    let mut call = of_scale(random, Scale::Utc, 8);
+fn make_proteus_write(function: Function, random: &mut Random) -> Call {
+    let mut call = of_scale(function, random, Scale::Utc);
     call.words.push(if random.one_in(20) { 2 + random.below(9) } else { random.below(2) });
     call
 }
 
-pub fn model_cuc_write(call: &Call) -> Answer {
-    written(call, handed::of(&call.words).ok_or(3).and_then(cuc::write))
+fn model_cuc_write(call: &Call) -> Answer {
+    written(call, handed::of(call).ok_or(3).and_then(cuc::write))
 }
 
-pub fn model_cryosat_write(call: &Call) -> Answer {
-    written(call, handed::of(&call.words).ok_or(3).and_then(cryosat::write))
+fn model_cryosat_write(call: &Call) -> Answer {
+    written(call, handed::of(call).ok_or(3).and_then(cryosat::write))
 }
 
-pub fn model_siral_write(call: &Call) -> Answer {
-    written(call, handed::of(&call.words).ok_or(3).and_then(siral::write))
+fn model_siral_write(call: &Call) -> Answer {
+    written(call, handed::of(call).ok_or(3).and_then(siral::write))
 }
 
-pub fn model_proteus_write(call: &Call) -> Answer {
-    let h3 = call.words[5];
-    let handed = if h3 < 2 { handed::of(&call.words).ok_or(3) } else { Err(3) };
+fn model_proteus_write(call: &Call) -> Answer {
+    let h3 = call.number("h3");
+    let handed = if h3 < 2 { handed::of(call).ok_or(3) } else { Err(3) };
     written(call, handed.and_then(|handed| proteus::write(handed, h3)))
 }
 
-fn count(random: &mut Random, bits: u32, image: u64) -> Call {
+fn count(function: Function, random: &mut Random, bits: u32) -> Call {
     let words = vec![match random.below(6) {
         0 => random.near(1 << bits, 2) as u64,
         1 => random.next(),
         _ => random.next() >> (64 - bits),
     }];
-    let lent = lent(random, image);
-    Call { words, input: Vec::new(), lent }
+    let slices = vec![lent(function, random)];
+    Call { function, words, slices }
 }
 
-pub fn make_goce_write(random: &mut Random) -> Call {
-    count(random, 48, 6)
+fn make_goce_write(function: Function, random: &mut Random) -> Call {
+    count(function, random, 48)
 }
 
-pub fn make_obet_write(random: &mut Random) -> Call {
-    count(random, 56, 8)
+fn make_obet_write(function: Function, random: &mut Random) -> Call {
+    count(function, random, 56)
 }
 
-pub fn make_sbt_write(random: &mut Random) -> Call {
+fn make_sbt_write(function: Function, random: &mut Random) -> Call {
     let words = vec![random.next() >> 32];
-    let lent = lent(random, 4);
-    Call { words, input: Vec::new(), lent }
+    let slices = vec![lent(function, random)];
+    Call { function, words, slices }
 }
 
-pub fn model_goce_write(call: &Call) -> Answer {
-    written(call, goce::write(call.words[0]))
+fn model_goce_write(call: &Call) -> Answer {
+    written(call, goce::write(call.number("count")))
 }
 
-pub fn model_obet_write(call: &Call) -> Answer {
-    written(call, obet::write(call.words[0]))
+fn model_obet_write(call: &Call) -> Answer {
+    written(call, obet::write(call.number("count")))
 }
 
-pub fn model_sbt_write(call: &Call) -> Answer {
-    written(call, Ok(sbt::write(call.words[0])))
+fn model_sbt_write(call: &Call) -> Answer {
+    written(call, Ok(sbt::write(call.number("tick"))))
 }

@@ -1,8 +1,13 @@
-use super::{answered, handed, timed, Answer, Call, Random};
+use super::{answered, bytes_of, handed, timed, Answer, Call, Function, Pair, Random};
 use crate::independent::calendar::{day_of, Date};
 use crate::independent::leap::{change, List};
 use crate::independent::lines::steps as published;
 use crate::independent::time::Scale;
+
+pub const PAIRS: &[Pair] = &[
+    (Function::ListAccepted, make_accepted, model_accepted),
+    (Function::Change, make_change, model_change),
+];
 
 /// Firsts of months, rising, from January 1972 on.
 fn made_up(random: &mut Random, steps: u64) -> Vec<i64> {
@@ -79,28 +84,31 @@ pub fn made(random: &mut Random, faulty: u64) -> Made {
     list
 }
 
-pub fn push(words: &mut Vec<u64>, list: &Made) {
-    words.extend([list.last as u64, list.days.len() as u64, list.offsets.len() as u64]);
-    words.extend(list.days.iter().map(|&day| day as u64));
-    words.extend(&list.offsets);
+impl Made {
+    /// The last day, as a word.
+    pub fn last(&self) -> u64 {
+        self.last as u64
+    }
+
+    /// The slices of days and of offsets.
+    pub fn slices(&self) -> [Vec<u8>; 2] {
+        [self.days.iter().flat_map(|day| day.to_le_bytes()).collect(), bytes_of(&self.offsets)]
+    }
 }
 
-/// Reads back what push wrote.
-pub fn with<T>(words: &[u64], use_it: impl FnOnce(&List) -> T) -> T {
-    let (days, offsets) = (words[1] as usize, words[2] as usize);
-    let signed: Vec<i64> = words[3..3 + days].iter().map(|&day| day as i64).collect();
-    use_it(&List { days: &signed, offsets: &words[3 + days..3 + days + offsets], last: words[0] as i64 })
+/// The list of a call.
+pub fn with<T>(call: &Call, use_it: impl FnOnce(&List) -> T) -> T {
+    let days: Vec<i64> = call.list("days").iter().map(|&day| day as i64).collect();
+    use_it(&List { days: &days, offsets: &call.list("offsets"), last: call.number("last") as i64 })
 }
 
-pub fn make_accepted(random: &mut Random) -> Call {
+fn make_accepted(function: Function, random: &mut Random) -> Call {
     let list = made(random, 2);
-    let mut words = Vec::new();
-    push(&mut words, &list);
-    Call::of(words)
+    Call { function, words: vec![list.last()], slices: list.slices().into() }
 }
 
-pub fn model_accepted(call: &Call) -> Answer {
-    answered(call, &[u64::from(with(&call.words, |list| list.accepted()))])
+fn model_accepted(call: &Call) -> Answer {
+    answered(call, &[u64::from(with(call, |list| list.accepted()))])
 }
 
 /// A time near a step or near the list's end, as a record.
@@ -120,7 +128,7 @@ pub fn near_step(random: &mut Random, list: &Made) -> (i64, u64) {
     }
 }
 
-pub fn make_change(random: &mut Random) -> Call {
+fn make_change(function: Function, random: &mut Random) -> Call {
     let list = made(random, 8);
     let mut words = handed::words(random);
     if !random.one_in(3) {
@@ -136,13 +144,12 @@ pub fn make_change(random: &mut Random) -> Call {
         words[2] = day as u64;
         words[3] = micro + random.below(2);
     }
-    words.push(handed::scale_code(random));
-    push(&mut words, &list);
-    Call::of(words)
+    words.extend([handed::scale_code(random), list.last()]);
+    Call { function, words, slices: list.slices().into() }
 }
 
-pub fn model_change(call: &Call) -> Answer {
-    let (handed, to) = (handed::of(&call.words), Scale::coded(call.words[5]));
+fn model_change(call: &Call) -> Answer {
+    let (handed, to) = (handed::of(call), Scale::coded(call.number("to_scale")));
     let (Some(handed), Some(to)) = (handed, to) else { return answered(call, &[3, to.map_or(0, Scale::code)]) };
-    timed(call, to, with(&call.words[6..], |list| change(handed, to, list)))
+    timed(call, to, with(call, |list| change(handed, to, list)))
 }

@@ -1,8 +1,12 @@
-use super::layouts::{lent, written};
-use super::leap::{made, near_step, push, with};
-use super::{answered, handed, Answer, Call, Random};
+use super::leap::{made, near_step, with};
+use super::{answered, handed, lent, written, Answer, Call, Function, Pair, Random};
 use crate::independent::text::{read, spelled, write};
 use crate::independent::time::{Moment, Scale};
+
+pub const PAIRS: &[Pair] = &[
+    (Function::TextRead, make_read, model_read),
+    (Function::TextWrite, make_write, model_write),
+];
 
 const FORMS: [u64; 4] = [20, 24, 27, 31];
 const SECOND: u64 = 1_000_000;
@@ -21,25 +25,24 @@ fn damaged(random: &mut Random, mut text: Vec<u8>) -> Vec<u8> {
     text
 }
 
-pub fn make_read(random: &mut Random) -> Call {
+fn make_read(function: Function, random: &mut Random) -> Call {
     let list = made(random, 8);
     let (day, micro) = if random.one_in(3) { (random.near(13148, 23_500), handed::micro(random)) } else { near_step(random, &list) };
     let moment = Moment { day: day.clamp(-10_300, 36_600), micro: micro % (86_401 * SECOND) };
     let prefix: &[u8] = random.pick(&[b"".as_slice(), b"UTC=", b"TAI=", b"GPS=", b"UTC=", b""]);
     let text = [prefix, &spelled(moment, random.one_in(2))].concat();
-    let mut words = Vec::new();
-    push(&mut words, &list);
-    Call { words, input: damaged(random, text), lent: Vec::new() }
+    let [days, offsets] = list.slices();
+    Call { function, words: vec![list.last()], slices: vec![damaged(random, text), days, offsets] }
 }
 
-pub fn model_read(call: &Call) -> Answer {
-    match with(&call.words, |list| read(&call.input, list)) {
+fn model_read(call: &Call) -> Answer {
+    match with(call, |list| read(call.slice("text"), list)) {
         Ok((scale, moment)) => answered(call, &[0, scale.code(), moment.day as u64, moment.micro]),
         Err(number) => answered(call, &[number, Scale::Tai.code()]),
     }
 }
 
-pub fn make_write(random: &mut Random) -> Call {
+fn make_write(function: Function, random: &mut Random) -> Call {
     let list = made(random, 8);
     let mut words = handed::words(random);
     if !random.one_in(3) {
@@ -49,15 +52,16 @@ pub fn make_write(random: &mut Random) -> Call {
         words[2] = day as u64;
         words[3] = if random.one_in(2) { micro } else { micro / SECOND * SECOND };
     }
-    words.push(if random.one_in(16) { random.pick(&[0, 19, 21, 32, u64::from(u32::MAX)]) } else { random.pick(&FORMS) });
-    push(&mut words, &list);
-    Call { words, input: Vec::new(), lent: lent(random, 31) }
+    let form = if random.one_in(16) { random.pick(&[0, 19, 21, 32, u64::from(u32::MAX)]) } else { random.pick(&FORMS) };
+    words.extend([list.last(), form]);
+    let [days, offsets] = list.slices();
+    Call { function, words, slices: vec![days, offsets, lent(function, random)] }
 }
 
-pub fn model_write(call: &Call) -> Answer {
-    let form = call.words[5];
-    match handed::of(&call.words) {
-        Some(handed) if FORMS.contains(&form) => written(call, with(&call.words[6..], |list| write(handed, form as usize, list))),
+fn model_write(call: &Call) -> Answer {
+    let form = call.number("form");
+    match handed::of(call) {
+        Some(handed) if FORMS.contains(&form) => written(call, with(call, |list| write(handed, form as usize, list))),
         _ => answered(call, &[3]),
     }
 }
