@@ -13,8 +13,8 @@ sys.dont_write_bytecode = True
 ROOT = os.path.normpath(os.path.join(os.path.dirname(os.path.abspath(__file__)), ".."))
 STORED = os.path.join(ROOT, "tests/answers.txt")
 SERVE = "target/compare/serve"
-SAID = """# Made by tools/answers.py --write; not by hand. Of each function a digest of 4,000 fixed calls, among them every refusal that it gives,
-# and a digest of their answers, lent bytes included. A line that changes is told in the note of the request that changes it.
+SAID = """# Made by tools/answers.py --write; not by hand. Of each function a digest of 4,000 fixed calls, among them every refusal that it
+# gives, and a digest of their answers, lent bytes included. A line that changes is told in the note of the request that changes it.
 """
 
 

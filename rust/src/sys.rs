@@ -1,8 +1,8 @@
 // Made by tools/interface.py --write; not by hand.
 //! The interface for C, and the only unsafe code of this crate.
 //!
-//! Each call below is safe for every argument: the library judges every value, keeps no pointer, reads only the slices it
-//! is given and writes only into those it is lent, and a `&mut` slice overlaps no other.
+//! Each call below is safe for every argument: the library judges every value, keeps no pointer, reads only the slices
+//! that it is given and writes only into those that it is lent, and a `&mut` slice overlaps no other.
 #![allow(unsafe_code)]
 
 #[repr(C)]

@@ -11,7 +11,7 @@ from interface import PREFIX, rattle
 from room import HEADER, ROOM, ROOT, SYS, WARNINGS, changed, good, run, skipped, tally, written
 from source import read
 
-C_CHECKS = ["gcc", "-std=c11", *WARNINGS, "-fsyntax-only", "-I", "include"]
+C_CHECKS = ["gcc", "-std=c11", *WARNINGS, "-fsyntax-only"]
 RUST_CHECKS = ["rustc", "--edition", "2021", "--crate-type", "lib", "--emit=metadata", "-o", f"{ROOM}/checks.rmeta"]
 MODULE = importlib.import_module("vrikshonem._sys")
 STANDARDS = [("gcc", "c", "c99"), ("gcc", "c", "c11"), ("g++", "cc", "c++98"), ("g++", "cc", "c++17")]
@@ -70,7 +70,7 @@ def compiled(truth):
         else:
             skipped(f"the header as {standard}", f"there is no {compiler}")
     checks = written("checks.c", c_checks(truth))
-    good("sizes, offsets and functions of the header, compiled", *C_CHECKS, checks)
+    good("sizes, offsets and functions of the header, compiled", *C_CHECKS, "-I", "include", checks)
     checks_rs = written("checks.rs", rust_checks(truth, os.path.join(ROOT, SYS)))
     good("sizes, offsets and functions of the Rust declarations, compiled", *RUST_CHECKS, checks_rs)
     return checks
@@ -82,7 +82,8 @@ def faults(truth, checks):
         tally.expect(f"a header with {what} is reported", differences(expected(truth), header(wrong)))
         if compiles:
             written("wrong/vrikshonem.h", wrong)
-            tally.expect(f"a header with {what} does not compile", run(*C_CHECKS[:-2], "-I", f"{ROOM}/wrong", *C_CHECKS[-2:], checks)[0] != 0)
+            status, _ = run(*C_CHECKS, "-I", f"{ROOM}/wrong", "-I", "include", checks)
+            tally.expect(f"a header with {what} does not compile", status != 0)
     for what, old, new in RUST_FAULTS:
         path = written("wrong/sys.rs", changed(read(SYS), old, new))
         wrong_rs = written("wrong/checks.rs", rust_checks(truth, os.path.join(ROOT, path)))

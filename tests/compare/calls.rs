@@ -41,7 +41,8 @@ type Model = fn(&Call) -> Answer;
 type Pair = (Function, Make, Model);
 
 /// Each module lists the functions whose inputs it makes, and what the independent program says of each.
-const PAIRS: &[&[Pair]] = &[correlation::PAIRS, decimal::PAIRS, fields::PAIRS, goce::PAIRS, layouts::PAIRS, leap::PAIRS, text::PAIRS];
+const PAIRS: &[&[Pair]] =
+    &[correlation::PAIRS, decimal::PAIRS, fields::PAIRS, goce::PAIRS, layouts::PAIRS, leap::PAIRS, text::PAIRS];
 
 impl Function {
     fn pair(self) -> &'static Pair {

@@ -23,14 +23,16 @@ def found(texts):
     yield "Refusal's number", re.findall(r"\bRefusal::(\w+) => (\d+),", code), numbers
     yield "numberOf", re.findall(r"^numberOf R\.(\w+) = (\d+)$", meaning, re.M), numbers
     order = re.search(r"^order = (.*) ∷ \[\]$", meaning, re.M)
-    yield "the order", order[1].split(" ∷ ") if order else [], lambda all: [str(one.number) for one in judged(all)]
+    numbered = lambda all: [str(one.number) for one in judged(all)]
+    yield "the order", order[1].split(" ∷ ") if order else [], numbered
     rows = re.findall(r"^  -- \"(\d+) (.*)\"\n  abbrev pub (\w+) : Bool\n  (\w+) = applies j (\d+)$", promises, re.M)
     # The paper's words may say more than the list's.
     short = [(number, words.split(", where")[0], name, again, judged) for number, words, name, again, judged in rows]
     due = lambda all: [(str(one.number), one.words, _small(one.name), _small(one.name), str(one.number)) for one in all]
     yield "the rows of the slip", short, due
     listed = re.search(r"^  rows =\s(.*?) ∷ \[\]$", promises, re.M | re.S)
-    yield "their table", re.split(r"\s+∷\s+", listed[1].strip()) if listed else [], lambda all: [_small(one.name) for one in judged(all)]
+    named = lambda all: [_small(one.name) for one in judged(all)]
+    yield "their table", re.split(r"\s+∷\s+", listed[1].strip()) if listed else [], named
 
 
 # Changes of the source, each of which must be reported: the file's place in the texts, a pattern and what stands there instead.

@@ -47,8 +47,8 @@ def sys(interface, table):
         f"// {SAID}",
         "//! The interface for C, and the only unsafe code of this crate.",
         "//!",
-        "//! Each call below is safe for every argument: the library judges every value, keeps no pointer, reads only the slices it",
-        "//! is given and writes only into those it is lent, and a `&mut` slice overlaps no other.",
+        "//! Each call below is safe for every argument: the library judges every value, keeps no pointer, reads only the slices",
+        "//! that it is given and writes only into those that it is lent, and a `&mut` slice overlaps no other.",
         "#![allow(unsafe_code)]",
         "",
     ]
@@ -58,7 +58,8 @@ def sys(interface, table):
     lines.append('extern "C" {')
     for one in interface.functions.values():
         lines.append(f"    pub fn vrk_{one.name}({_declared(one)}) -> {one.result};")
-    lines += ["}", "", "/// The bytes of each writer's image, or the most that it has.", "#[allow(dead_code)]", "pub(crate) mod image {"]
+    lines += ["}", "", "/// The bytes of each writer's image, or the most that it has.", "#[allow(dead_code)]"]
+    lines.append("pub(crate) mod image {")
     for name, refuses in table.items():
         if refuses.image:
             lines.append(f"    pub const {name.upper()}: usize = {refuses.image.length};")

@@ -24,8 +24,9 @@ def header(listed):
     for one in listed:
         comma = "," if one != listed[-1] else ""
         lines.append(f"    VRK_{one.constant} = {one.number}{comma} /* {one.words} */")
-    lines += ["};", "", "/* What is wrong, in the paper's words. */", "static inline const char *vrk_words(uint32_t refusal) {"]
-    lines += ["    switch (refusal) {", '    case VRK_ANSWERED: return "answered";']
+    lines += ["};", "", "/* What is wrong, in the paper's words. */"]
+    lines += ["static inline const char *vrk_words(uint32_t refusal) {", "    switch (refusal) {"]
+    lines.append('    case VRK_ANSWERED: return "answered";')
     lines += [f'    case VRK_{one.constant}: return "{one.words}";' for one in listed]
     return "\n".join([*lines, f'    default: return "{UNKNOWN}";', "    }", "}", "", "#endif"]) + "\n"
 
