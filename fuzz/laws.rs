@@ -2,7 +2,7 @@
 //! reads back and what is read is written again, and that a wider window changes nothing but an 8. The parts of a call are found by
 //! their names, so that these laws hold of a new pair of functions without a line here.
 
-use crate::calls::{Answer, Call, Function, Shape};
+use crate::calls::{refusal, Answer, Call, Function, Shape};
 use crate::library::named;
 
 const DAY: u64 = 86_400_000_000;
@@ -238,11 +238,9 @@ fn back(call: &Call, answer: &Answer) -> Option<Again> {
 
 /// The same call with the widest window.
 fn wider(call: &Call, answer: &Answer) -> Option<Again> {
-    const CORRELATION_NOT_ACCEPTED: u64 = 6;
-    const NOT_IN_FORCE: u64 = 8;
     let half = clock(call.function)?.half;
     // one that is not accepted may have a window that is wider
-    if [CORRELATION_NOT_ACCEPTED, NOT_IN_FORCE].contains(&answer.words[0]) {
+    if [refusal::CORRELATION_NOT_ACCEPTED, refusal::NOT_IN_FORCE].contains(&answer.words[0]) {
         return None;
     }
     let mut call = call.clone();

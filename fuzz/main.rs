@@ -5,7 +5,6 @@
 //!     fuzz replay FILE
 
 #[path = "../tests/compare"]
-#[allow(unused_imports)]
 mod compare {
     pub mod calls;
     pub mod server;

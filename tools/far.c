@@ -15,7 +15,7 @@
 struct slice { const void *at; size_t count, width; int written; };
 
 static uint64_t bits_of(double x) { uint64_t bits; memcpy(&bits, &x, 8); return bits; }
-static inline double double_of(uint64_t bits) { double x; memcpy(&x, &bits, 8); return x; }
+static double double_of(uint64_t bits) { double x; memcpy(&x, &bits, 8); return x; }
 
 #include "far_calls.h"
 

@@ -147,7 +147,7 @@ def made(root):
     table = by_function(root, interface, listed)
     version = read(os.path.join(root, "VERSION")).strip()
     files = bindings.made(interface, table, version) | server.made(interface) | benched.made(interface)
-    return files | shapes.made(interface, table) | slips.made(table, listed)
+    return files | shapes.made(interface, table, listed) | slips.made(table, listed)
 
 
 def stale(root):

@@ -15,10 +15,13 @@ mod text;
 
 use crate::independent::time::{Moment, Scale};
 use crate::independent::Number;
-pub use interface::{Function, ANSWER, FUNCTIONS};
-pub use random::{digest, Random};
+// Each program that calls uses its own part.
 #[allow(unused_imports)]
-pub use shape::Shape;
+pub use self::{
+    interface::{refusal, Function, ANSWER, FUNCTIONS},
+    random::{digest, Random},
+    shape::Shape,
+};
 
 /// The numbers that a function takes, one after the other, and its slices, each as its bytes.
 #[derive(Clone, Debug)]

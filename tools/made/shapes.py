@@ -40,7 +40,7 @@ def _shape(interface, function, refuses):
     ]
 
 
-def made(interface, table):
+def made(interface, table, listed):
     functions = interface.functions
     answer = max(len(interface.numbers(one.result)) for one in functions.values())
     lines = [f"// {SAID} The functions of the interface.", "", "use super::shape::{given, lent, numbers, Image, Shape};", ""]
@@ -48,6 +48,8 @@ def made(interface, table):
     lines += [*(f"    {camel(name)}," for name in functions), "}", ""]
     lines += ["pub const FUNCTIONS: &[Function] = &[", *(f"    Function::{camel(name)}," for name in functions), "];", ""]
     lines += ["/// The words of every answer.", f"pub const ANSWER: usize = {answer};", ""]
+    lines += ["/// The refusals that are asked for by name.", "#[allow(dead_code)]", "pub mod refusal {"]
+    lines += [*(f"    pub const {one.constant}: u64 = {one.number};" for one in listed), "}", ""]
     lines += ["/// By the functions' numbers.", "pub const SHAPES: &[Shape] = &["]
     for name, function in functions.items():
         lines += _shape(interface, function, table[name])

@@ -76,6 +76,24 @@ pub const FUNCTIONS: &[Function] = &[
 /// The words of every answer.
 pub const ANSWER: usize = 5;
 
+/// The refusals that are asked for by name.
+#[allow(dead_code)]
+pub mod refusal {
+    pub const LENGTH_IS_NONE: u64 = 1;
+    pub const MARKER_WRONG: u64 = 2;
+    pub const FIELD_OVER: u64 = 3;
+    pub const DECIMAL_NOT_FINITE: u64 = 4;
+    pub const LIST_NOT_ACCEPTED: u64 = 5;
+    pub const CORRELATION_NOT_ACCEPTED: u64 = 6;
+    pub const OUTSIDE_SPAN: u64 = 7;
+    pub const NOT_IN_FORCE: u64 = 8;
+    pub const LIST_EXPIRED: u64 = 9;
+    pub const SECOND_LACKING: u64 = 10;
+    pub const RESULT_OUTSIDE: u64 = 11;
+    pub const NO_IMAGE: u64 = 12;
+    pub const OUTPUT_SHORTER: u64 = 13;
+}
+
 /// By the functions' numbers.
 pub const SHAPES: &[Shape] = &[
     Shape {
