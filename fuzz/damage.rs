@@ -238,6 +238,10 @@ pub fn call(random: &mut Random, function: Function, pool: &[Call]) -> Call {
     }
     let lengths: Vec<usize> = call.slices.iter().map(Vec::len).collect();
     let parts = parts(function);
+    // a function that takes nothing
+    if parts.is_empty() {
+        return call;
+    }
     let most = 1 + random.below(6);
     for _ in 0..1 + random.below(most) {
         once(random, &parts, &mut call, &other);
