@@ -116,7 +116,7 @@ def _functions(path, code, structs):
         result = re.compile(r"\s*->\s*(\w+)\s*(?=ensures\b|requires\b|\{)").match(code, end + 1)
         if not result or result[1] not in WIDTHS and result[1] not in structs:
             raise Unreadable(f"{where}: {PREFIX}{name}'s result is of an unknown shape")
-        yield Function(name, result[1], tuple(given))
+        yield where, Function(name, result[1], tuple(given))
 
 
 def rattle(root, folder=CRATE):
@@ -132,7 +132,10 @@ def rattle(root, folder=CRATE):
     structs = {name: [(field, kind) for field, kind, _ in fields] for name, fields in found.items()}
     functions = {}
     for path, code in codes.items():
-        functions.update((one.name, one) for one in _functions(path, code, structs))
+        for where, one in _functions(path, code, structs):
+            if one.name in functions:
+                raise Unreadable(f"{where}: {PREFIX}{one.name} is exported twice")
+            functions[one.name] = one
     if not functions:
         raise Unreadable(f"{folder}: no function is exported")
     return Interface(structs, functions)
