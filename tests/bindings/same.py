@@ -82,7 +82,10 @@ def version():
         ("target/dist/lib/pkgconfig/vrikshonem.pc", r"^Version: (.*)"),
     ]:
         tally.expect(f"{path} has the version", re.findall(pattern, read(path), re.M) == [stored])
-    tally.expect("the header has the version", f", version {stored.rsplit('.', 1)[0]}." in read(HEADER))
+    short = stored.rsplit(".", 1)[0]
+    tally.expect("the header has the version", f", version {short}." in read(HEADER))
+    named = set(re.findall(r"(?:libvrikshonem\.so\.|of version )(\d+(?:\.\d+)*)", read("docs/USE.md")))
+    tally.expect("docs/USE.md has the version", named == {short}, str(named))
     latest = re.search(r"^## (\S+)", read("CHANGELOG.md"), re.M)
     tally.expect("CHANGELOG.md begins with the version", latest and latest[1] == stored)
 
