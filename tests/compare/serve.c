@@ -5,8 +5,8 @@
  * written, as they are left. All is little-endian, as the machine's own.
  *
  * Each slice stands at the end of a page, before a page that nothing may touch, and the bytes in front of it are watched: a byte
- * read or written behind a slice ends the program, and one written before it ends it with status 3. So does a call that takes
- * more of the processor's time than SECONDS. */
+ * read or written behind a slice ends the program by a signal, and one written before it with status 3. A call that takes more
+ * of the processor's time than SECONDS ends it by a signal too. */
 #include "vrikshonem.h"
 
 extern long read(int, void *, size_t);
