@@ -17,7 +17,7 @@ struct leap_list {
 struct input {
     vrk_handed time; /* also a receipt's day and microsecond, and a decimal day with its scale */
     union {
-        vrk_correlation correlation;
+        vrk_sbt_correlation correlation;
         vrk_goce_correlation goce;
         uint8_t bytes[48];
         uint32_t part[4];

@@ -37,14 +37,14 @@ static int64_t far(int64_t day) { return day + (day < 0 ? 2 : -2); }
 
 enum { WINDOW = 1 << 20 };
 
-static vrk_correlation any_correlation(uint32_t scale) {
+static vrk_sbt_correlation any_correlation(uint32_t scale) {
     vrk_handed r = any_record(scale, FIRST_DAY + 1);
-    return (vrk_correlation){(uint32_t)below(UINT64_C(1) << 32), scale, r.day, r.micro, 3906000000 + below(500001), WINDOW, WINDOW};
+    return (vrk_sbt_correlation){(uint32_t)below(UINT64_C(1) << 32), scale, r.day, r.micro, 3906000000 + below(500001), WINDOW, WINDOW};
 }
 
-static vrk_handed near_tick(const vrk_correlation *c) { return near(c->scale, c->day * DAY + (int64_t)c->micro); }
+static vrk_handed near_tick(const vrk_sbt_correlation *c) { return near(c->scale, c->day * DAY + (int64_t)c->micro); }
 
-static void make_unaccepted(vrk_correlation *c, size_t which) {
+static void make_unaccepted(vrk_sbt_correlation *c, size_t which) {
     switch (which % 7) {
     case 0: c->period = 3905999999; break;
     case 1: c->period = 3906500001; break;

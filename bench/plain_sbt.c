@@ -2,17 +2,17 @@
 
 enum { LEAST_PERIOD = 3906000000u, MOST_PERIOD = 3906500000u };
 
-static inline int is_correlation(const vrk_correlation *c) {
+static inline int is_correlation(const vrk_sbt_correlation *c) {
     return c->scale <= VRK_GPS && spans_plainly(c->scale, c->day, c->micro) && c->period >= LEAST_PERIOD &&
            c->period <= MOST_PERIOD && c->back <= UINT64_C(1) << 31 && c->ahead < UINT64_C(1) << 31;
 }
 
 /* Microseconds since day 0 of the tick that is k after the reference, rounded down. No product is above 2^63. */
-static inline int64_t time_of_tick(const vrk_correlation *c, int64_t k) {
+static inline int64_t time_of_tick(const vrk_sbt_correlation *c, int64_t k) {
     return c->day * DAY + (int64_t)c->micro + floored(k * (int64_t)c->period, 1000000);
 }
 
-vrk_time plain_sbt_date(uint32_t tick, vrk_correlation c, int64_t receipt_day, uint64_t receipt_micro) {
+vrk_time plain_sbt_date(uint32_t tick, vrk_sbt_correlation c, int64_t receipt_day, uint64_t receipt_micro) {
     if (!is_correlation(&c)) return no_time(VRK_CORRELATION_NOT_ACCEPTED, c.scale <= VRK_GPS ? c.scale : 0);
     if (!spans_plainly(c.scale, receipt_day, receipt_micro)) return no_time(VRK_OUTSIDE_SPAN, c.scale);
     int64_t k = (int32_t)(tick - c.tick), back = -(int64_t)c.back, ahead = (int64_t)c.ahead;
@@ -23,7 +23,7 @@ vrk_time plain_sbt_date(uint32_t tick, vrk_correlation c, int64_t receipt_day, u
 }
 
 /* The last k with k * P < (t + 1) * 10^6, t being counted from the reference. */
-vrk_count plain_sbt_tick(vrk_handed time, vrk_correlation c) {
+vrk_count plain_sbt_tick(vrk_handed time, vrk_sbt_correlation c) {
     vrk_time taken_time = taken(time);
     if (taken_time.refusal && taken_time.refusal <= VRK_DECIMAL_NOT_FINITE) return (vrk_count){taken_time.refusal, 0};
     if (!is_correlation(&c)) return (vrk_count){VRK_CORRELATION_NOT_ACCEPTED, 0};

@@ -22,7 +22,7 @@ static const uint64_t OFFSETS[] = {10, 11, 12, 13, 14, 15, 16, 17, 18, 19, 20, 2
 #define LIST DAYS, STEPS, OFFSETS, STEPS, 9131
 
 /* 2 October 2001, 10:00:00 UTC; it may be relied on a day back and thirty days ahead. */
-static const vrk_correlation SBT_CORRELATION = {
+static const vrk_sbt_correlation SBT_CORRELATION = {
     .tick = 0xFFFFF000, .scale = VRK_UTC, .day = 640, .micro = 36000000000, .period = 3906250000,
     .back = 86400 * 256, .ahead = 30 * 86400 * 256,
 };

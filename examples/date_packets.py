@@ -14,7 +14,7 @@ PACKET = struct.Struct(">BB10siQ")
 LIST = vrk.LeapList.PUBLISHED
 NAMES = ["?", "CUC", "Proteus", "CryoSat", "SIRAL", "SBT", "GOCE"]
 # 2 October 2001, 10:00:00 UTC; it may be relied on a day back and thirty days ahead.
-SBT_CORRELATION = vrk.Correlation(
+SBT_CORRELATION = vrk.SbtCorrelation(
     tick=0xFFFFF000,
     reference=vrk.Utc(640, 36_000_000_000),
     period=3_906_250_000,

@@ -8,7 +8,7 @@ use std::io::{self, Write};
 use std::path::{Path, PathBuf};
 use std::process::ExitCode;
 use vrikshonem::{cryosat, cuc, goce, proteus, sbt, siral, text};
-use vrikshonem::{Correlation, Error, Form, GoceCorrelation, LeapList, Tick, Utc};
+use vrikshonem::{SbtCorrelation, Error, Form, GoceCorrelation, LeapList, Tick, Utc};
 
 const PACKET: usize = 24;
 const LONGEST: usize = 10;
@@ -16,7 +16,7 @@ const LIST: LeapList<'static> = LeapList::PUBLISHED;
 const NAMES: [&str; 7] = ["?", "CUC", "Proteus", "CryoSat", "SIRAL", "SBT", "GOCE"];
 
 // 2 October 2001, 10:00:00 UTC; it may be relied on a day back and thirty days ahead.
-const SBT_CORRELATION: Correlation<Utc> = Correlation {
+const SBT_CORRELATION: SbtCorrelation<Utc> = SbtCorrelation {
     tick: Tick(0xFFFF_F000),
     reference: Utc { day: 640, micro: 36_000_000_000 },
     period: 3_906_250_000,

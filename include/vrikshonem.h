@@ -105,20 +105,20 @@ typedef struct {
     uint64_t period;
     uint64_t back;
     uint64_t ahead;
-} vrk_correlation;
+} vrk_sbt_correlation;
 
 /* Given     a tick, a correlation, and the day and microsecond at which the packet was received, in the correlation's scale.
  * Returned  the tick's time in that scale, rounded down. Of the ticks with this number it is the one within half a wrap of
  *           the reference.
  * Refused   6; 7 for the receipt, from microsecond 86,400,000,000 on too; 8 where the tick lies outside the window or the
  *           receipt outside the window's times; 11. The empty record is of the correlation's scale. */
-vrk_time vrk_sbt_date(uint32_t tick, vrk_correlation correlation, int64_t receipt_day, uint64_t receipt_micro);
+vrk_time vrk_sbt_date(uint32_t tick, vrk_sbt_correlation correlation, int64_t receipt_day, uint64_t receipt_micro);
 
 /* Given     a time and a correlation.
  * Returned  the last tick of the window whose time is not later, below 2^32.
  * Refused   3 unknown kind or scale of the time; 4; 6; 7; 8 outside the window's times, not judged of a time that gets 12; 12
  *           another scale than the correlation's, or second 60. */
-vrk_count vrk_sbt_tick(vrk_handed time, vrk_correlation correlation);
+vrk_count vrk_sbt_tick(vrk_handed time, vrk_sbt_correlation correlation);
 
 /* ---- GOCE counts */
 

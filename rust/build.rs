@@ -6,7 +6,7 @@ fn main() {
     println!("cargo:rerun-if-env-changed=VRIKSHONEM_LIB");
     let named = std::env::var_os("VRIKSHONEM_LIB").filter(|named| !named.is_empty());
     // A path that is not whole begins here, wherever cargo was called; a warning shows it whole.
-    let folder = Path::new(env!("CARGO_MANIFEST_DIR")).join(named.unwrap_or_else(|| "../target/here/lib".into()));
+    let folder = Path::new(env!("CARGO_MANIFEST_DIR")).join(named.unwrap_or_else(|| "../target/host/lib".into()));
     let archive = folder.join("libvrikshonem.a");
     println!("cargo:rerun-if-changed={}", archive.display());
     if !archive.exists() {

@@ -17,7 +17,7 @@ sys.dont_write_bytecode = True
 
 from source import Unreadable, closing, parts, read, rt_code
 
-CRATE = "crates/rack/src"
+CRATE = "crates/c_api/src"
 PREFIX = "vrk_"
 # A number: its bytes. A struct is passed as its numbers, a slice as a pointer and how many elements it has.
 WIDTHS = {f"{sign}{bits}": bits // 8 for sign in "ui" for bits in (8, 16, 32, 64)} | {"f64": 8}

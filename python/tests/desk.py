@@ -2,7 +2,7 @@
 
 import unittest
 
-from vrikshonem import Correlation, GoceCorrelation, LeapList, Refused
+from vrikshonem import SbtCorrelation, GoceCorrelation, LeapList, Refused
 
 LIST = LeapList.PUBLISHED
 DAY = 86_400_000_000
@@ -10,7 +10,7 @@ SECOND = 1_000_000
 
 
 def correlation(tick, reference, back, ahead, period=3_906_250_000):
-    return Correlation(tick, reference, period, back, ahead)
+    return SbtCorrelation(tick, reference, period, back, ahead)
 
 
 def goce(obt0=0, utc0=0, offset=0, gradient=1_000_000_000, back=2**47, ahead=2**47 - 1):

@@ -16,7 +16,7 @@ Times are Tai, Utc and Gps; none is accepted where another is due. A refusal is 
 NotInForce; each is a Refused, which has .number and .words.
 
     >>> utc = vrikshonem.Utc(640, 36_000_000_000)
-    >>> autumn = vrikshonem.Correlation(tick=7, reference=utc, period=3_906_250_000, back=0, ahead=663_552_000)
+    >>> autumn = vrikshonem.SbtCorrelation(tick=7, reference=utc, period=3_906_250_000, back=0, ahead=663_552_000)
     >>> for tick in 8, 6, -1:
     ...     try:
     ...         print(autumn.date(tick, receipt=utc))

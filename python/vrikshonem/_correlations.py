@@ -10,11 +10,11 @@ from . import _sys
 from ._library import library
 from ._times import SCALES, Handed, T, Utc, answered, due, handed, narrow, signed, unsigned
 
-__all__ = ["Correlation", "GoceCorrelation"]
+__all__ = ["SbtCorrelation", "GoceCorrelation"]
 
 
 @dataclass(frozen=True)
-class Correlation(Generic[T]):
+class SbtCorrelation(Generic[T]):
     """One tick, the time it stood for, and how long it may be relied on. One that is not accepted is refused with 6.
 
     tick       the reference tick
@@ -30,11 +30,11 @@ class Correlation(Generic[T]):
     back: int
     ahead: int
 
-    def _given(self) -> _sys.VrkCorrelation:
+    def _given(self) -> _sys.VrkSbtCorrelation:
         due(self.reference, SCALES, "a Tai, Utc or Gps as reference")
         # A reference tick that is none cannot be accepted, as a period of 0 cannot.
         known = 0 <= index(self.tick) < 2**32
-        return _sys.VrkCorrelation(
+        return _sys.VrkSbtCorrelation(
             self.tick if known else 0,
             self.reference.CODE,
             signed(self.reference.day),

@@ -64,7 +64,7 @@ class VrkDecimal(ctypes.Structure):
     ]
 
 
-class VrkCorrelation(ctypes.Structure):
+class VrkSbtCorrelation(ctypes.Structure):
     _fields_ = [
         ("tick", ctypes.c_uint32),
         ("scale", ctypes.c_uint32),
@@ -140,8 +140,8 @@ FUNCTIONS: Dict[str, Tuple[Any, Tuple[Any, ...]]] = {
     "vrk_goce_count": (VrkCount, (VrkHanded, VrkGoceCorrelation)),
     "vrk_decimal_read": (VrkTime, (ctypes.c_double, ctypes.c_uint32)),
     "vrk_decimal_write": (VrkDecimal, (VrkHanded,)),
-    "vrk_sbt_date": (VrkTime, (ctypes.c_uint32, VrkCorrelation, ctypes.c_int64, ctypes.c_uint64)),
-    "vrk_sbt_tick": (VrkCount, (VrkHanded, VrkCorrelation)),
+    "vrk_sbt_date": (VrkTime, (ctypes.c_uint32, VrkSbtCorrelation, ctypes.c_int64, ctypes.c_uint64)),
+    "vrk_sbt_tick": (VrkCount, (VrkHanded, VrkSbtCorrelation)),
     "vrk_list_accepted": (ctypes.c_uint32, (ctypes.POINTER(ctypes.c_int64), ctypes.c_size_t, ctypes.POINTER(ctypes.c_uint64), ctypes.c_size_t, ctypes.c_int64)),
     "vrk_change": (VrkTime, (VrkHanded, ctypes.c_uint32, ctypes.POINTER(ctypes.c_int64), ctypes.c_size_t, ctypes.POINTER(ctypes.c_uint64), ctypes.c_size_t, ctypes.c_int64)),
     "vrk_cuc_fields_read": (VrkCucFields, (ctypes.POINTER(ctypes.c_uint8), ctypes.c_size_t)),

@@ -4,7 +4,7 @@ use crate::error::{answered, Error};
 use crate::sys;
 use crate::time::{at, Handed, Scaled, Utc};
 
-/// An SBT tick, a counter of 32 bits. It means nothing without its [`Correlation`].
+/// An SBT tick, a counter of 32 bits. It means nothing without its [`SbtCorrelation`].
 #[derive(Clone, Copy, PartialEq, Eq, Hash, Debug)]
 pub struct Tick(pub u32);
 
@@ -13,8 +13,8 @@ pub struct Tick(pub u32);
 /// Any correlation can be built. One that is not accepted is refused with 6 by each function.
 ///
 /// ```
-/// use vrikshonem::{Correlation, Error, Tick, Utc};
-/// let autumn = Correlation {
+/// use vrikshonem::{SbtCorrelation, Error, Tick, Utc};
+/// let autumn = SbtCorrelation {
 ///     tick: Tick(0xFFFF_FFFF),
 ///     reference: Utc::new(640, 36_000_000_000),
 ///     period: 3_906_250_000,
@@ -26,7 +26,7 @@ pub struct Tick(pub u32);
 /// assert_eq!(autumn.date(Tick(0), Utc::new(786, 9_600_000_000)), Err(Error::NOT_IN_FORCE));
 /// ```
 #[derive(Clone, Copy, PartialEq, Eq, Debug)]
-pub struct Correlation<T> {
+pub struct SbtCorrelation<T> {
     /// The reference tick.
     pub tick: Tick,
     /// The time that it stood for, below microsecond 86,400,000,000.
@@ -39,9 +39,9 @@ pub struct Correlation<T> {
     pub ahead: u64,
 }
 
-impl<T: Scaled> Correlation<T> {
-    fn given(&self) -> sys::VrkCorrelation {
-        sys::VrkCorrelation {
+impl<T: Scaled> SbtCorrelation<T> {
+    fn given(&self) -> sys::VrkSbtCorrelation {
+        sys::VrkSbtCorrelation {
             tick: self.tick.0,
             scale: T::SCALE.code(),
             day: self.reference.day(),

@@ -7,9 +7,9 @@ use std::fmt;
 /// Each has a name, and in a `match` that name is a pattern:
 ///
 /// ```
-/// use vrikshonem::{Correlation, Error, Tick, Utc};
+/// use vrikshonem::{SbtCorrelation, Error, Tick, Utc};
 ///
-/// fn said(correlation: &Correlation<Utc>, tick: Tick, receipt: Utc) -> String {
+/// fn said(correlation: &SbtCorrelation<Utc>, tick: Tick, receipt: Utc) -> String {
 ///     match correlation.date(tick, receipt) {
 ///         Ok(time) => format!("day {}, microsecond {}", time.day, time.micro),
 ///         Err(Error::NOT_IN_FORCE) => "a new correlation is needed".to_string(),
@@ -18,10 +18,10 @@ use std::fmt;
 /// }
 ///
 /// let reference = Utc::new(640, 36_000_000_000);
-/// let autumn = Correlation { tick: Tick(7), reference, period: 3_906_250_000, back: 0, ahead: 663_552_000 };
+/// let autumn = SbtCorrelation { tick: Tick(7), reference, period: 3_906_250_000, back: 0, ahead: 663_552_000 };
 /// assert_eq!(said(&autumn, Tick(8), reference), "day 640, microsecond 36000003906");
 /// assert_eq!(said(&autumn, Tick(6), reference), "a new correlation is needed");
-/// let slow = Correlation { period: 0, ..autumn };
+/// let slow = SbtCorrelation { period: 0, ..autumn };
 /// assert_eq!(said(&slow, Tick(8), reference), Error::CORRELATION_NOT_ACCEPTED.to_string());
 /// ```
 #[derive(Clone, Copy, PartialEq, Eq, Hash, Debug)]

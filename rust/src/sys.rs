@@ -61,7 +61,7 @@ pub struct VrkDecimal {
 
 #[repr(C)]
 #[derive(Clone, Copy)]
-pub struct VrkCorrelation {
+pub struct VrkSbtCorrelation {
     pub tick: u32,
     pub scale: u32,
     pub day: i64,
@@ -134,8 +134,8 @@ extern "C" {
     pub fn vrk_goce_count(time: VrkHanded, correlation: VrkGoceCorrelation) -> VrkCount;
     pub fn vrk_decimal_read(day: f64, scale: u32) -> VrkTime;
     pub fn vrk_decimal_write(time: VrkHanded) -> VrkDecimal;
-    pub fn vrk_sbt_date(tick: u32, correlation: VrkCorrelation, receipt_day: i64, receipt_micro: u64) -> VrkTime;
-    pub fn vrk_sbt_tick(time: VrkHanded, correlation: VrkCorrelation) -> VrkCount;
+    pub fn vrk_sbt_date(tick: u32, correlation: VrkSbtCorrelation, receipt_day: i64, receipt_micro: u64) -> VrkTime;
+    pub fn vrk_sbt_tick(time: VrkHanded, correlation: VrkSbtCorrelation) -> VrkCount;
     pub fn vrk_list_accepted(days: *const i64, days_count: usize, offsets: *const u64, offsets_count: usize, last: i64) -> u32;
     pub fn vrk_change(time: VrkHanded, to_scale: u32, days: *const i64, days_count: usize, offsets: *const u64, offsets_count: usize, last: i64) -> VrkTime;
     pub fn vrk_cuc_fields_read(bytes: *const u8, bytes_count: usize) -> VrkCucFields;
@@ -239,11 +239,11 @@ pub(crate) fn decimal_write(time: VrkHanded) -> VrkDecimal {
     unsafe { vrk_decimal_write(time) }
 }
 
-pub(crate) fn sbt_date(tick: u32, correlation: VrkCorrelation, receipt_day: i64, receipt_micro: u64) -> VrkTime {
+pub(crate) fn sbt_date(tick: u32, correlation: VrkSbtCorrelation, receipt_day: i64, receipt_micro: u64) -> VrkTime {
     unsafe { vrk_sbt_date(tick, correlation, receipt_day, receipt_micro) }
 }
 
-pub(crate) fn sbt_tick(time: VrkHanded, correlation: VrkCorrelation) -> VrkCount {
+pub(crate) fn sbt_tick(time: VrkHanded, correlation: VrkSbtCorrelation) -> VrkCount {
     unsafe { vrk_sbt_tick(time, correlation) }
 }
 

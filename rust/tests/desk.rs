@@ -6,8 +6,8 @@ const LIST: LeapList<'static> = LeapList::PUBLISHED;
 const DAY: u64 = 86_400_000_000;
 const SECOND: u64 = 1_000_000;
 
-fn correlation<T>(tick: u32, reference: T, back: u64, ahead: u64) -> Correlation<T> {
-    Correlation { tick: Tick(tick), reference, period: 3_906_250_000, back, ahead }
+fn correlation<T>(tick: u32, reference: T, back: u64, ahead: u64) -> SbtCorrelation<T> {
+    SbtCorrelation { tick: Tick(tick), reference, period: 3_906_250_000, back, ahead }
 }
 
 // GOCE's clock, exactly as fast as UTC, with its widest window.

@@ -78,14 +78,14 @@ def examples():
         words = [f"{ROOM}/x86-64", "examples/date_packets.c", *libraries]
         if good(f"the kit compiles the example with the {what}", "tools/x86-64-cc", *words, **flags):
             dates(f"C with the x86-64 {what}", cases, "tools/x86-64", f"{ROOM}/x86-64")
-    words = ["-std=c99", *WARNINGS, "-I", "target/here/include", "-o", f"{ROOM}/here", "examples/date_packets.c"]
-    if good("gcc compiles the example", "gcc", *words, "target/here/lib/libvrikshonem.a", "-pthread"):
-        dates("C on this machine", cases, f"{ROOM}/here")
+    words = ["-std=c99", *WARNINGS, "-I", "target/host/include", "-o", f"{ROOM}/host", "examples/date_packets.c"]
+    if good("gcc compiles the example", "gcc", *words, "target/host/lib/libvrikshonem.a", "-pthread"):
+        dates("C on this machine", cases, f"{ROOM}/host")
     if CARGO and good("cargo builds the example", "cargo", "build", *CRATE, "--example", "date_packets"):
         dates("Rust on this machine", cases, f"{ROOM}/rust/debug/examples/date_packets")
     dates("Python on this machine", cases, sys.executable, "examples/date_packets.py", **PYTHON)
     if platform.machine() != "x86_64":
-        why = f"this machine is {platform.machine()}; they ran through target/far"
+        why = f"this machine is {platform.machine()}; they ran through target/emulated"
         skipped("Rust and Python with the x86-64 library itself", why)
 
 
@@ -96,14 +96,14 @@ def block(language):
 def use():
     """docs/USE.md, as a reader would type it."""
     expected, installed = read(LINES), f"{ROOM}/prefix"
-    good("docs/USE.md: the folder is copied", "sh", "-euc", f"rm -rf {installed} && cp -R target/here/. {installed}/")
+    good("docs/USE.md: the folder is copied", "sh", "-euc", f"rm -rf {installed} && cp -R target/host/. {installed}/")
     tally.expect("docs/USE.md has blocks for C, Rust and Python", len(block("sh")) == 4, str(len(block("sh"))))
     for typed in block("sh"):
         title = typed.strip().splitlines()[-1]
         if "pkg-config" in typed and not shutil.which("pkg-config"):
             skipped(title, "there is no pkg-config")
             continue
-        for each in dict.fromkeys([typed, typed.replace("target/here", installed)]):
+        for each in dict.fromkeys([typed, typed.replace("target/host", installed)]):
             status, said = run("sh", "-euc", each)
             tally.expect(f"docs/USE.md: {each}", (status, said) == (0, expected), said)
     status, said = run(sys.executable, written("own.py", block("python")[0]), **PYTHON)

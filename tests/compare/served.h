@@ -64,8 +64,8 @@ static vrk_goce_correlation goce_correlation_at(const uint64_t *a) {
     return made;
 }
 
-static vrk_correlation correlation_at(const uint64_t *a) {
-    vrk_correlation made = {(uint32_t)a[0], (uint32_t)a[1], (int64_t)a[2], a[3], a[4], a[5], a[6]};
+static vrk_sbt_correlation sbt_correlation_at(const uint64_t *a) {
+    vrk_sbt_correlation made = {(uint32_t)a[0], (uint32_t)a[1], (int64_t)a[2], a[3], a[4], a[5], a[6]};
     return made;
 }
 
@@ -125,8 +125,8 @@ static int call(uint64_t function) {
     case GOCE_COUNT: count_is(vrk_goce_count(handed_at(w), goce_correlation_at(w + 5))); return 1;
     case DECIMAL_READ: time_is(vrk_decimal_read(double_of(w[0]), (uint32_t)w[1])); return 1;
     case DECIMAL_WRITE: decimal_is(vrk_decimal_write(handed_at(w))); return 1;
-    case SBT_DATE: time_is(vrk_sbt_date((uint32_t)w[0], correlation_at(w + 1), (int64_t)w[8], w[9])); return 1;
-    case SBT_TICK: count_is(vrk_sbt_tick(handed_at(w), correlation_at(w + 5))); return 1;
+    case SBT_DATE: time_is(vrk_sbt_date((uint32_t)w[0], sbt_correlation_at(w + 1), (int64_t)w[8], w[9])); return 1;
+    case SBT_TICK: count_is(vrk_sbt_tick(handed_at(w), sbt_correlation_at(w + 5))); return 1;
     case LIST_ACCEPTED: answer[0] = vrk_list_accepted(GIVEN(int64_t, 0), GIVEN(uint64_t, 1), (int64_t)w[0]); return 1;
     case CHANGE: time_is(vrk_change(handed_at(w), (uint32_t)w[5], GIVEN(int64_t, 0), GIVEN(uint64_t, 1), (int64_t)w[6])); return 1;
     case CUC_FIELDS_READ: cuc_fields_is(vrk_cuc_fields_read(GIVEN(uint8_t, 0))); return 1;

@@ -18,7 +18,7 @@ C = ["gcc", "-std=c11", "-O1", "-Wall", "-Wextra", "-Werror", "-I", f"{ROOM}/inc
 RUST = ["rustc", "--edition", "2021"]
 # What the tree has by hand, beside which the small interface's own files are made.
 BY_HAND = [
-    "tests/compare/serve.c", "tests/compare/calls/shape.rs", "tools/far.c",
+    "tests/compare/serve.c", "tests/compare/calls/shape.rs", "tools/emulated.c",
     "tests/interface/library.c", "tests/interface/shapes.rs", "tests/interface/words.c",
 ]
 SHAPES = """5 functions, answers of 4 words
@@ -53,15 +53,15 @@ def _laid_out():
 
 
 def _compiled(tally):
-    truth, here = interface.rattle(ROOM), os.path.join(os.getcwd(), ROOM)
+    truth, room = interface.rattle(ROOM), os.path.join(os.getcwd(), ROOM)
     _write("checks.c", c_checks(truth))
-    _write("checks.rs", rust_checks(truth, f"{here}/rust/src/sys.rs"))
+    _write("checks.rs", rust_checks(truth, f"{room}/rust/src/sys.rs"))
     library, shared = f"{ROOM}/tests/interface/library.c", ["-shared", "-fPIC"]
-    reached = ["-pthread", "-D_GNU_SOURCE", '-DRUN="/usr/bin/env"', f'-DSERVE="{here}/serve"']
+    reached = ["-pthread", "-D_GNU_SOURCE", '-DRUN="/usr/bin/env"', f'-DSERVE="{room}/serve"']
     programs = {
         "the server": [*C, "-o", f"{ROOM}/serve", f"{ROOM}/tests/compare/serve.c", library],
-        "the library": [*C, *shared, "-o", f"{ROOM}/near.so", library],
-        "the library behind the server": [*C, *shared, *reached, "-o", f"{ROOM}/far.so", f"{ROOM}/tools/far.c"],
+        "the library": [*C, *shared, "-o", f"{ROOM}/host.so", library],
+        "the library behind the server": [*C, *shared, *reached, "-o", f"{ROOM}/emulated.so", f"{ROOM}/tools/emulated.c"],
         "the refusals": [*C, "-o", f"{ROOM}/words", f"{ROOM}/tests/interface/words.c"],
         "C's sizes, offsets and functions": [*C, "-fsyntax-only", f"{ROOM}/checks.c"],
         "Rust's": [*RUST, "--crate-type", "lib", "--emit=metadata", "-o", f"{ROOM}/checks.rmeta", f"{ROOM}/checks.rs"],
@@ -105,12 +105,12 @@ def _called(tally):
     module = _module("_sys")
     tally.expect("interface: the library's name has the first two numbers", module.LIBRARY == "libvrikshonem.so.3.14")
     tally.expect("interface: an image's most bytes", module.IMAGES == {"vrk_sum": 9})
-    near, far = _loaded("near.so", module), _loaded("far.so", module)
+    host, emulated = _loaded("host.so", module), _loaded("emulated.so", module)
     for lengths in [(0, 0, 0, 0, 0), (1, 2, 3, 4, 5), (9, 128, 129, 130, 300), (70_000, 3, 100_000, 65_536, 200_001)]:
-        tally.expect(f"interface: slices of {lengths}", _slices(near, lengths) == _slices(far, lengths))
-    written = _slices(far, (0, 2, 3, 0, 1))[4:]
+        tally.expect(f"interface: slices of {lengths}", _slices(host, lengths) == _slices(emulated, lengths))
+    written = _slices(emulated, (0, 2, 3, 0, 1))[4:]
     tally.expect("interface: a lent slice is written", written == ([-2, -9, 17], [254]), str(written))
-    for library in near, far:
+    for library in host, emulated:
         turned = library.vrk_turn(module.VrkOuter(1, module.VrkInner(255, 1.5), -(2**63) + 1), -2, 65535)
         got = turned.first, turned.inner.a, turned.inner.b, turned.last
         tally.expect("interface: a struct in a struct", got == (65536, 0, -3.0, 2**63 - 1), str(got))

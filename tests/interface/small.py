@@ -86,14 +86,14 @@ touch    -         40
 """
 
 FILES = {
-    "crates/rack/src/lib.rt": SOURCE,
+    "crates/c_api/src/lib.rt": SOURCE,
     "include/vrikshonem.h": HEADER,
     "refusals.txt": REFUSALS,
     "refusals_by_function.txt": TABLE,
     "VERSION": "3.14.15\n",
 }
 
-RT, LIST, BY = "crates/rack/src/lib.rt", "refusals.txt", "refusals_by_function.txt"
+RT, LIST, BY = "crates/c_api/src/lib.rt", "refusals.txt", "refusals_by_function.txt"
 
 # What is wrong: the file, a place in it, what stands there instead, and the error.
 WRONG = {

@@ -1,10 +1,10 @@
-"""The functions as tests/compare/serve.c calls them, and as tools/far.c hands them on."""
+"""The functions as tests/compare/serve.c calls them, and as tools/emulated.c hands them on."""
 
 from interface import WIDTHS, Slice
 from made import SAID
 from made.in_c import bare, from_word, numbered, snake, taken, to_word, type_of, used
 
-SERVED, FAR = "tests/compare/served.h", "tools/far_calls.h"
+SERVED, EMULATED = "tests/compare/served.h", "tools/emulated_calls.h"
 
 
 def _struct_at(interface, struct):
@@ -96,7 +96,7 @@ def _handed_on(interface, function):
     return [*lines, f"    {snake(function.result)} the_result = {{{inside}}};", "    return the_result;", "}", ""]
 
 
-def far(interface):
+def emulated(interface):
     lines = [f"/* {SAID} Each function, as it hands its call on. */", *numbered(interface), ""]
     lines += ["static void ask(uint64_t function, const uint64_t *words, size_t word_count, const struct slice *slices,"]
     lines += ["                size_t slice_count, uint64_t *answer);", ""]
@@ -106,4 +106,4 @@ def far(interface):
 
 
 def made(interface):
-    return {SERVED: served(interface), FAR: far(interface)}
+    return {SERVED: served(interface), EMULATED: emulated(interface)}

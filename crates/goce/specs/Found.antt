@@ -11,7 +11,7 @@ use Rattle.axis.specs.Diff.{sub-mul}
 use Rattle.scales.specs.Meaning.{dated, refused, answer, Outcome, outcome, Moment}
 use Rattle.scales.specs.declared.Scale.the-variants as S
 use Rattle.scales.specs.declared.Handed.{Handed}
-use Rattle.fields.specs.Meaning.{valued}
+use Rattle.layout_fields.specs.Meaning.{valued}
 use Rattle.clock.specs.Meaning as K
 use Rattle.clock.specs.Places as C
 use Rattle.clock.specs.Stage.{covering, unacceptedBy, found, none}

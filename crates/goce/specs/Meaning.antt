@@ -8,7 +8,7 @@ use lib.Signed.{leZ, ltZ}
 use Rattle.scales.specs.Meaning.{first, last, Judged, given, outcome, Moment, Slip, dated}
 use Rattle.scales.specs.declared.Scale.the-variants as S
 use Rattle.scales.specs.declared.Handed.{Handed}
-use Rattle.fields.specs.Meaning.{Valued, valued}
+use Rattle.layout_fields.specs.Meaning.{Valued, valued}
 use Rattle.clock.specs.Meaning as C
 use Rattle.goce.specs.declared.Correlation.{Correlation}
 

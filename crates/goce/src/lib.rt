@@ -3,13 +3,13 @@
 ghost use mathlib.Core.Path.{_≡_};
 ghost use Prim.Native.Nat.{_<_};
 ghost use Rattle.scales.specs.Meaning.{slip};
-ghost use Rattle.fields.specs.Meaning.{countSlip};
+ghost use Rattle.layout_fields.specs.Meaning.{countSlip};
 ghost use Rattle.goce.specs.Meaning.{inLimits, dateOf, obtOf};
 ghost use Rattle.goce.specs.Places.{placeOf, timeAt, endsAt, countFrom, lastAt, obtFrom, Based, Windowed, Near};
 use clock::inner::Ends;
 use clock::inner::Place;
 use clock::inner::Turned;
-use fields::Counting;
+use layout_fields::Counting;
 use scales::Dated;
 use scales::Handed;
 use scales::Refusal;

@@ -12,7 +12,7 @@ use Rattle.scales.specs.declared.Scale.the-variants as S
 use Rattle.scales.specs.declared.Handed.{Handed}
 use Rattle.scales.specs.declared.Handed.the-variants as H
 use Rattle.decimal.specs.Meaning.{isFinite, isInSpan}
-use Rattle.fields.specs.Meaning.{Valued, valued}
+use Rattle.layout_fields.specs.Meaning.{Valued, valued}
 use Rattle.clock.specs.Meaning.{Clock, elapsed, clock, time, inWindow, within, covers, inForce, latest, lastCount, countAt, instantOf, hasImage}
 use Rattle.clock_laws.proofs.Desks.{dateBy, windowIgnored, receiptIgnored, unsigned, towardsZero, countBy, scaleIgnored, secondIgnored}
 use Rattle.goce.specs.Meaning.{inLimits, isOffset, accepted, clockOf, dateOf, obtOf}

@@ -11,11 +11,11 @@ use Rattle.scales.specs.declared.Handed.the-variants as H
 use Rattle.decimal.specs.Meaning.{readOf}
 use Rattle.leap.specs.Meaning.{publishedDays, publishedOffsets, publishedLast}
 use Rattle.changes.specs.Meaning.{changeOf}
-use Rattle.layouts.specs.Cuc as Cuc
-use Rattle.layouts.specs.Proteus as Proteus
-use Rattle.layouts.specs.Siral as Siral
-use Rattle.correlation.specs.Meaning.{dateOf}
-use Rattle.correlation.specs.declared.Correlation.{Correlation}
+use Rattle.layout_times.specs.Cuc as Cuc
+use Rattle.layout_times.specs.Proteus as Proteus
+use Rattle.layout_times.specs.Siral as Siral
+use Rattle.sbt.specs.Meaning.{dateOf}
+use Rattle.sbt.specs.declared.Correlation.{Correlation}
 
 pub record Row : Type 0 where
   pub case : ℕ

@@ -5,13 +5,13 @@ use Rattle.decimal_laws.proofs.Trip.{later as decimal-laws-trip-later, trip}
 use Rattle.decimal_laws.proofs.Unique.{nearest-one}
 use Rattle.leap.specs.Published.{published}
 use Rattle.leap_laws.proofs.Changes.{later as leap-laws-changes-later, only, round, the-one}
-use Rattle.correlation_laws.proofs.Answers.{dates as correlation-laws-answers-dates, exact as correlation-laws-answers-exact, turns as correlation-laws-answers-turns}
-use Rattle.correlation_laws.proofs.Trips.{little-earlier as correlation-laws-trips-little-earlier, never-later as correlation-laws-trips-never-later, record-back as correlation-laws-trips-record-back, same-tick}
+use Rattle.sbt_laws.proofs.Answers.{dates as sbt-laws-answers-dates, exact as sbt-laws-answers-exact, turns as sbt-laws-answers-turns}
+use Rattle.sbt_laws.proofs.Trips.{little-earlier as sbt-laws-trips-little-earlier, never-later as sbt-laws-trips-never-later, record-back as sbt-laws-trips-record-back, same-tick}
 use Rattle.goce_laws.proofs.Answers.{dates as goce-laws-answers-dates, exact as goce-laws-answers-exact, turns as goce-laws-answers-turns}
 use Rattle.goce_laws.proofs.Trips.{little-earlier as goce-laws-trips-little-earlier, never-later as goce-laws-trips-never-later, record-back as goce-laws-trips-record-back, same-count}
-use Rattle.layouts_laws.proofs.Back.{cryosat-again, cuc-again, proteus-again, siral-again}
-use Rattle.layouts_laws.proofs.Fields.{cryosat-exact, cuc-exact, goce-exact, obet-exact, proteus-exact, sbt-exact, siral-exact}
-use Rattle.layouts_laws.proofs.Times.{cryosat-same, cuc-last, proteus-last, siral-same}
+use Rattle.layout_laws.proofs.Back.{cryosat-again, cuc-again, proteus-again, siral-again}
+use Rattle.layout_laws.proofs.Fields.{cryosat-exact, cuc-exact, goce-exact, obet-exact, proteus-exact, sbt-exact, siral-exact}
+use Rattle.layout_laws.proofs.Times.{cryosat-same, cuc-last, proteus-last, siral-same}
 use Rattle.text_laws.specs.Back.{none-refused, read-back}
 use Rattle.lines_laws.specs.Each.{one-each}
 use Rattle.lines_laws.specs.Run.{any-blocks, block, kept-is}

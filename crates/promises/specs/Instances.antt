@@ -16,15 +16,15 @@ use Rattle.leap.specs.Meaning.{publishedDays, publishedOffsets, publishedLast}
 use Rattle.leap.specs.Published.{published}
 use Rattle.changes.specs.Meaning.{changeOf}
 use Rattle.leap_laws.proofs.Computed.{published-6209, extended, computed}
-use Rattle.layouts.specs.Cuc as Cuc
-use Rattle.layouts.specs.Cryosat as Cryosat
+use Rattle.layout_times.specs.Cuc as Cuc
+use Rattle.layout_times.specs.Cryosat as Cryosat
 use Rattle.text_read.specs.Meaning.{readText}
 use Rattle.text_write.specs.Meaning.{writeText}
 use Rattle.text_laws.specs.Computed.{reads, sixty, read-early, blank, write-early}
-use Rattle.correlation.specs.Meaning as Correlation
-use Rattle.correlation_laws.proofs.Cases.{marked, either-side}
-use Rattle.correlation_laws.proofs.Wider.{widened}
-use Rattle.fields.specs.Meaning.{valued}
+use Rattle.sbt.specs.Meaning as Correlation
+use Rattle.sbt_laws.proofs.Cases.{marked, either-side}
+use Rattle.sbt_laws.proofs.Wider.{widened}
+use Rattle.layout_fields.specs.Meaning.{valued}
 use Rattle.goce.specs.Meaning as Goce
 use Rattle.goce_laws.proofs.Cases as GoceCases
 use Rattle.goce_laws.proofs.Wider as GoceWider
@@ -32,13 +32,13 @@ use Rattle.promises.specs.Meaning.{lengthIsNone}
 use Rattle.promises.specs.First.{exactly}
 use Rattle.promises.specs.One.{cuc-read, cuc-write}
 use Rattle.promises.specs.Two.{cuc-time, proteus-time, cryosat-time, siral-time}
-use Rattle.rack.specs.Meaning as Rack
-use Rattle.rack.specs.Bytes as Bytes
-use Rattle.rack.specs.Counts as Counts
-use Rattle.rack.specs.Texts as Texts
-use Rattle.rack.specs.declared.VrkHanded.{VrkHanded}
-use Rattle.rack.specs.declared.VrkCorrelation.{VrkCorrelation}
-use Rattle.rack.specs.declared.counts.VrkGoceCorrelation.{VrkGoceCorrelation}
+use Rattle.c_api.specs.Meaning as Rack
+use Rattle.c_api.specs.Bytes as Bytes
+use Rattle.c_api.specs.Counts as Counts
+use Rattle.c_api.specs.Texts as Texts
+use Rattle.c_api.specs.declared.VrkHanded.{VrkHanded}
+use Rattle.c_api.specs.declared.VrkSbtCorrelation.{VrkSbtCorrelation}
+use Rattle.c_api.specs.declared.counts.VrkGoceCorrelation.{VrkGoceCorrelation}
 use Rattle.promises.specs.Three.{FreshPaper, old-dates-stay, widenedForC, goceWidenedForC, change-for-c, text-read-for-c, text-write-for-c, date-for-c, tick-for-c, goce-date-for-c, goce-count-for-c}
 
 -- ---- demand 1: CUC of no bytes is refused 1, with day 0 of GPS; a CryoSat time is no image of CUC, and the slice keeps its byte
@@ -132,7 +132,7 @@ text-write-for-c-instance =
     ∙ written-early
 
 -- marked case 8: tick 0 adds 3,906, and the time gives the tick
-abbrev reference : VrkCorrelation
+abbrev reference : VrkSbtCorrelation
 reference = record { tick = 4294967295; scale = 0; day = pos 0; micro = 0; period = 3906250000; back = 10; ahead = 10 }
 
 dated-before : Rack.sbtDate 0 reference (pos 0) 3906 ≡ record { refusal = 0; scale = 0; day = pos 0; micro = 3906 }

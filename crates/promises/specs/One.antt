@@ -16,26 +16,26 @@ use Rattle.calendar.specs.declared.Date.{Date}
 use Rattle.decimal.specs.Meaning as Decimal
 use Rattle.changes.specs.Meaning as Changes
 use Rattle.leap_laws.proofs.Order.{any}
-use Rattle.correlation.specs.Meaning as Correlation
-use Rattle.correlation.specs.declared.Correlation.{Correlation}
+use Rattle.sbt.specs.Meaning as Correlation
+use Rattle.sbt.specs.declared.Correlation.{Correlation}
 use Rattle.goce.specs.Meaning as Goce
 use Rattle.goce.specs.declared.Correlation as GoceDeclared
-use Rattle.fields.specs.Meaning.{Valued, valued}
-use Rattle.fields.specs.Cuc as CucFields
-use Rattle.fields.specs.Goce as GoceFields
-use Rattle.fields.specs.Obet as ObetFields
-use Rattle.fields.specs.Proteus as ProteusFields
-use Rattle.fields.specs.Cryosat as CryosatFields
-use Rattle.fields.specs.Siral as SiralFields
-use Rattle.fields.specs.Sbt as SbtFields
-use Rattle.fields.specs.declared.cuc.Fields as CucDeclared
-use Rattle.fields.specs.declared.proteus.Fields as ProteusDeclared
-use Rattle.fields.specs.declared.cryosat.Fields as CryosatDeclared
-use Rattle.fields.specs.declared.siral.Fields as SiralDeclared
-use Rattle.layouts.specs.Cuc as Cuc
-use Rattle.layouts.specs.Proteus as Proteus
-use Rattle.layouts.specs.Cryosat as Cryosat
-use Rattle.layouts.specs.Siral as Siral
+use Rattle.layout_fields.specs.Meaning.{Valued, valued}
+use Rattle.layout_fields.specs.Cuc as CucFields
+use Rattle.layout_fields.specs.Goce as GoceFields
+use Rattle.layout_fields.specs.Obet as ObetFields
+use Rattle.layout_fields.specs.Proteus as ProteusFields
+use Rattle.layout_fields.specs.Cryosat as CryosatFields
+use Rattle.layout_fields.specs.Siral as SiralFields
+use Rattle.layout_fields.specs.Sbt as SbtFields
+use Rattle.layout_fields.specs.declared.cuc.Fields as CucDeclared
+use Rattle.layout_fields.specs.declared.proteus.Fields as ProteusDeclared
+use Rattle.layout_fields.specs.declared.cryosat.Fields as CryosatDeclared
+use Rattle.layout_fields.specs.declared.siral.Fields as SiralDeclared
+use Rattle.layout_times.specs.Cuc as Cuc
+use Rattle.layout_times.specs.Proteus as Proteus
+use Rattle.layout_times.specs.Cryosat as Cryosat
+use Rattle.layout_times.specs.Siral as Siral
 use Rattle.text_read.specs.Meaning as TextRead
 use Rattle.text_write.specs.Meaning as TextWrite
 use Rattle.text_write.specs.declared.Form.{Form}

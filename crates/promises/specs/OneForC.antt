@@ -11,36 +11,36 @@ use Rattle.scales.specs.declared.Scale.the-variants as S
 use Rattle.scales.specs.declared.Tick.{Tick}
 use Rattle.decimal.specs.Meaning as Decimal
 use Rattle.leap_laws.proofs.Order.{any}
-use Rattle.correlation.specs.Meaning as Correlation
+use Rattle.sbt.specs.Meaning as Correlation
 use Rattle.goce.specs.Meaning as Goce
-use Rattle.fields.specs.Meaning.{valued}
-use Rattle.fields.specs.Cuc as CucFields
-use Rattle.fields.specs.Goce as GoceFields
-use Rattle.fields.specs.Obet as ObetFields
-use Rattle.fields.specs.Proteus as ProteusFields
-use Rattle.fields.specs.Cryosat as CryosatFields
-use Rattle.fields.specs.Siral as SiralFields
-use Rattle.fields.specs.Sbt as SbtFields
-use Rattle.layouts.specs.Cuc as Cuc
-use Rattle.layouts.specs.Proteus as Proteus
-use Rattle.layouts.specs.Cryosat as Cryosat
-use Rattle.layouts.specs.Siral as Siral
+use Rattle.layout_fields.specs.Meaning.{valued}
+use Rattle.layout_fields.specs.Cuc as CucFields
+use Rattle.layout_fields.specs.Goce as GoceFields
+use Rattle.layout_fields.specs.Obet as ObetFields
+use Rattle.layout_fields.specs.Proteus as ProteusFields
+use Rattle.layout_fields.specs.Cryosat as CryosatFields
+use Rattle.layout_fields.specs.Siral as SiralFields
+use Rattle.layout_fields.specs.Sbt as SbtFields
+use Rattle.layout_times.specs.Cuc as Cuc
+use Rattle.layout_times.specs.Proteus as Proteus
+use Rattle.layout_times.specs.Cryosat as Cryosat
+use Rattle.layout_times.specs.Siral as Siral
 use Rattle.text_read.specs.Meaning as TextRead
-use Rattle.rack.specs.Meaning as Rack
-use Rattle.rack.specs.Bytes as Bytes
-use Rattle.rack.specs.Counts as CountsForC
-use Rattle.rack.specs.Parts as Parts
-use Rattle.rack.specs.Texts as Texts
-use Rattle.rack.specs.declared.VrkHanded.{VrkHanded}
-use Rattle.rack.specs.declared.VrkTime.{VrkTime}
-use Rattle.rack.specs.declared.VrkCount.{VrkCount}
-use Rattle.rack.specs.declared.VrkCorrelation.{VrkCorrelation}
-use Rattle.rack.specs.declared.counts.VrkGoceCorrelation.{VrkGoceCorrelation}
-use Rattle.rack.specs.declared.bytes.VrkProteus.{VrkProteus}
-use Rattle.rack.specs.declared.parts.VrkCucFields.{VrkCucFields}
-use Rattle.rack.specs.declared.parts.VrkProteusFields.{VrkProteusFields}
-use Rattle.rack.specs.declared.parts.VrkCryosatFields.{VrkCryosatFields}
-use Rattle.rack.specs.declared.parts.VrkSiralFields.{VrkSiralFields}
+use Rattle.c_api.specs.Meaning as Rack
+use Rattle.c_api.specs.Bytes as Bytes
+use Rattle.c_api.specs.Counts as CountsForC
+use Rattle.c_api.specs.Parts as Parts
+use Rattle.c_api.specs.Texts as Texts
+use Rattle.c_api.specs.declared.VrkHanded.{VrkHanded}
+use Rattle.c_api.specs.declared.VrkTime.{VrkTime}
+use Rattle.c_api.specs.declared.VrkCount.{VrkCount}
+use Rattle.c_api.specs.declared.VrkSbtCorrelation.{VrkSbtCorrelation}
+use Rattle.c_api.specs.declared.counts.VrkGoceCorrelation.{VrkGoceCorrelation}
+use Rattle.c_api.specs.declared.bytes.VrkProteus.{VrkProteus}
+use Rattle.c_api.specs.declared.parts.VrkCucFields.{VrkCucFields}
+use Rattle.c_api.specs.declared.parts.VrkProteusFields.{VrkProteusFields}
+use Rattle.c_api.specs.declared.parts.VrkCryosatFields.{VrkCryosatFields}
+use Rattle.c_api.specs.declared.parts.VrkSiralFields.{VrkSiralFields}
 use Rattle.promises.specs.Meaning.{Promise}
 use Rattle.promises.specs.First.{promised}
 use Rattle.promises.specs.One.{Writes, writes}
@@ -66,11 +66,11 @@ pub change : (h : VrkHanded) (c : ℕ) (ds : List ℤ) (os : List ℕ) (e : ℤ)
 unfolding Rack.changed
 change h c ds os e = times (scaleAt c) (Rack.changingOf h c ds os e) (any (Rack.handedOf h) (scaleAt c) ds os e)
 
-pub sbt-date : (t : ℕ) (c : VrkCorrelation) (d : ℤ) (u : ℕ) → Times (Rack.correlationOf c .scale) (Rack.sbtDate t c d u) (Correlation.dating (Rack.correlationOf c) t d u)
+pub sbt-date : (t : ℕ) (c : VrkSbtCorrelation) (d : ℤ) (u : ℕ) → Times (Rack.correlationOf c .scale) (Rack.sbtDate t c d u) (Correlation.dating (Rack.correlationOf c) t d u)
 unfolding Rack.sbtDate Correlation.dateOf
 sbt-date t c d u = times (Rack.correlationOf c .scale) (Correlation.dating (Rack.correlationOf c) t d u) refl
 
-pub sbt-tick : (h : VrkHanded) (c : VrkCorrelation) → Promise (λ (o : Outcome ℕ). Rack.tickOut (Correlation.ticked o)) (λ (x : VrkCount). x .refusal) (Rack.sbtTick h c) (given (Rack.known h) 3 (Correlation.turning (Rack.correlationOf c) (Rack.handedOf h)))
+pub sbt-tick : (h : VrkHanded) (c : VrkSbtCorrelation) → Promise (λ (o : Outcome ℕ). Rack.tickOut (Correlation.ticked o)) (λ (x : VrkCount). x .refusal) (Rack.sbtTick h c) (given (Rack.known h) 3 (Correlation.turning (Rack.correlationOf c) (Rack.handedOf h)))
 unfolding Rack.sbtTick
 sbt-tick h c = promised (record { of-refusal = λ n. refl; of-answer = λ a. refl }) (given (Rack.known h) 3 (Correlation.turning (Rack.correlationOf c) (Rack.handedOf h))) refl
 

@@ -10,10 +10,10 @@ use Rattle.scales.specs.declared.Scale.the-variants as S
 use Rattle.scales.specs.declared.Handed.{Handed}
 use Rattle.leap.specs.Meaning as Leap
 use Rattle.leap_laws.proofs.Promises.{Fresh, fresh}
-use Rattle.correlation.specs.Meaning as Correlation
-use Rattle.correlation.specs.declared.Correlation.{Correlation}
-use Rattle.correlation_laws.proofs.Wider.{widened, date-kept, tick-kept}
-use Rattle.fields.specs.Meaning.{valued}
+use Rattle.sbt.specs.Meaning as Correlation
+use Rattle.sbt.specs.declared.Correlation.{Correlation}
+use Rattle.sbt_laws.proofs.Wider.{widened, date-kept, tick-kept}
+use Rattle.layout_fields.specs.Meaning.{valued}
 use Rattle.goce.specs.Meaning as Goce
 use Rattle.goce.specs.declared.Correlation as GoceDeclared
 use Rattle.goce_laws.proofs.Wider as GoceWider
@@ -21,16 +21,16 @@ use Rattle.changes.specs.Meaning.{changing, changeOf}
 use Rattle.text_read.specs.Meaning.{readText}
 use Rattle.text_write.specs.Meaning.{writing, writeText}
 use Rattle.text_laws.specs.Fresh.{Again, again}
-use Rattle.rack.specs.Meaning as Rack
-use Rattle.rack.specs.Bytes as Bytes
-use Rattle.rack.specs.Counts as Counts
-use Rattle.rack.specs.Texts as Texts
-use Rattle.rack.specs.declared.VrkHanded.{VrkHanded}
-use Rattle.rack.specs.declared.VrkCorrelation.{VrkCorrelation}
-use Rattle.rack.specs.declared.counts.VrkGoceCorrelation.{VrkGoceCorrelation}
+use Rattle.c_api.specs.Meaning as Rack
+use Rattle.c_api.specs.Bytes as Bytes
+use Rattle.c_api.specs.Counts as Counts
+use Rattle.c_api.specs.Texts as Texts
+use Rattle.c_api.specs.declared.VrkHanded.{VrkHanded}
+use Rattle.c_api.specs.declared.VrkSbtCorrelation.{VrkSbtCorrelation}
+use Rattle.c_api.specs.declared.counts.VrkGoceCorrelation.{VrkGoceCorrelation}
 
 -- the correlations for C with another window
-abbrev pub widenedForC : VrkCorrelation → ℕ → ℕ → VrkCorrelation
+abbrev pub widenedForC : VrkSbtCorrelation → ℕ → ℕ → VrkSbtCorrelation
 widenedForC c b a = record { tick = c .tick; scale = c .scale; day = c .day; micro = c .micro; period = c .period; back = b; ahead = a }
 
 abbrev pub goceWidenedForC : VrkGoceCorrelation → ℕ → ℕ → VrkGoceCorrelation
@@ -99,7 +99,7 @@ module _ (ds : List ℤ) (os : List ℕ) (e : ℤ) (cs : List ℤ) (ps : List �
       go true false n = refl
       go false l n = refl
 
-module _ (c : VrkCorrelation) (b a : ℕ) (l : c .back ≤ b) (m : c .ahead ≤ a)
+module _ (c : VrkSbtCorrelation) (b a : ℕ) (l : c .back ≤ b) (m : c .ahead ≤ a)
     (y : Correlation.accepted (Rack.correlationOf c) ≡ true) (z : Correlation.accepted (Rack.correlationOf (widenedForC c b a)) ≡ true) where
   pub date-for-c : (t : ℕ) (d : ℤ) (u : ℕ) → (Rack.sbtDate t c d u .refusal ≡ 8 → ⊥) → Rack.sbtDate t (widenedForC c b a) d u ≡ Rack.sbtDate t c d u
   unfolding Rack.sbtDate Rack.correlationOf Correlation.dateOf

@@ -10,16 +10,16 @@ use Rattle.scales.specs.Meaning.{answer, outcome, Moment}
 use Rattle.scales.specs.Order.{ends}
 use Rattle.decimal.specs.Meaning.{dayMicros, since}
 use Rattle.decimal.proofs.Image.{since-at}
-use Rattle.fields.specs.Cuc as CucFields
-use Rattle.fields.specs.Proteus as ProteusFields
-use Rattle.fields.specs.Cryosat as CryosatFields
-use Rattle.fields.specs.Siral as SiralFields
-use Rattle.layouts.specs.Meaning.{fractionMicros, momentFrom}
-use Rattle.layouts.specs.Days.{day-is}
-use Rattle.layouts.specs.Cuc as Cuc
-use Rattle.layouts.specs.Proteus as Proteus
-use Rattle.layouts.specs.Cryosat as Cryosat
-use Rattle.layouts.specs.Siral as Siral
+use Rattle.layout_fields.specs.Cuc as CucFields
+use Rattle.layout_fields.specs.Proteus as ProteusFields
+use Rattle.layout_fields.specs.Cryosat as CryosatFields
+use Rattle.layout_fields.specs.Siral as SiralFields
+use Rattle.layout_times.specs.Meaning.{fractionMicros, momentFrom}
+use Rattle.layout_times.specs.Days.{day-is}
+use Rattle.layout_times.specs.Cuc as Cuc
+use Rattle.layout_times.specs.Proteus as Proteus
+use Rattle.layout_times.specs.Cryosat as Cryosat
+use Rattle.layout_times.specs.Siral as Siral
 
 -- n microseconds after the beginning of the day at a place
 after : (p n : ℕ) → since (momentFrom (dayAt p) n .day) (momentFrom (dayAt p) n .micro) ≡ since (dayAt p) n

@@ -7,7 +7,7 @@ pub const PAIRS: &[Pair] = &[
     (Function::SbtTick, make_tick, model_tick),
 ];
 
-/// The seven words of a vrk_correlation: tick, scale, day, micro, period, back, ahead.
+/// The seven words of a vrk_sbt_correlation: tick, scale, day, micro, period, back, ahead.
 fn words(random: &mut Random) -> Vec<u64> {
     let tick = if random.one_in(4) { random.pick(&[0, 1, 0xffff_ffff, 0xffff_fffe]) } else { random.next() >> 32 };
     let scale = if random.one_in(60) { random.pick(&[3, 7, u64::from(u32::MAX)]) } else { random.below(3) };

@@ -1,0 +1,44 @@
+-- `rack::parts::vrk_proteus_fields_write` meets its contract. Assumes nothing.
+use mathlib.Core.Path.{_∙_}
+use mathlib.Core.Logic.{⊎-elim}
+use native.Mathlib.Omega.{arith}
+use borrow.Author.Tests.{le-leb, lt-leb, le-ltb, lt-ltb, ltb-true, ltb-false, leb-true, leb-false}
+use denote.Ref.{now}
+use Rattle.scales.specs.Order.{here}
+use Rattle.scales.specs.Place.{and-false}
+use Rattle.layout_fields.specs.Proteus.{write}
+use Rattle.c_api.specs.Parts.{proteusFieldsWriting}
+use Rattle.c_api.proofs.Layouts.{done, on, three, past}
+use borrow.Author.Needs.{needs}
+use Rattle.c_api.proofs.parts.vrk_proteus_fields_write.Statement.{statement}
+use Rattle.c_api.proofs.parts.vrk_proteus_fields_write.Tie as tie
+
+returns : tie.Need-returns
+returns c =
+    let a = c .before .before .args in
+    three (proteusFieldsWriting (a .week) (a .h3) (a .second) (a .fraction)) (now (a .out))
+    (here (⊎-elim (λ w. rw (le-ltb (a .week) 65536 (w .taken)))
+    (⊎-elim (λ w. rw (lt-leb (a .h3) 1 (ltb-true 1 (a .h3) (w .1 .taken)), and-false))
+    (λ w. rw (le-ltb (a .fraction) 65536 (leb-true 65536 (a .fraction) (w .2 .taken)), and-false, and-false)))
+    (c .if1 .came)))
+
+returns-2 : tie.Need-returns-2
+unfolding write
+returns-2 c =
+    let w = c .before .before .before in
+    let a = w .before .before .before .before .before .before .args in
+    c .written-out .ensures (w .write .last .1 .0) ∙ w .write .ensures
+    ∙ past (proteusFieldsWriting (a .week) (a .h3) (a .second) (a .fraction)) (now (a .out))
+    (on (rw (lt-ltb (a .week) 65536 (omega arith), le-leb (a .h3) 1 (omega (arith, ltb-false)), lt-ltb (a .fraction) 65536 (omega (arith, leb-false)))) done)
+
+pub vrk-proteus-fields-write-spec : {M : Type 1} → statement M
+vrk-proteus-fields-write-spec =
+    tie.close
+    (tie.spec
+    returns
+    (λ c. search needs)
+    (λ c. search needs)
+    (λ c κs. search needs)
+    (λ c κs. search needs)
+    (λ c. search needs)
+    returns-2)

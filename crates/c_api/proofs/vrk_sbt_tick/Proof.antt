@@ -1,0 +1,39 @@
+-- `rack::vrk_sbt_tick` meets its contract. Assumes nothing.
+use mathlib.Core.Path.{ap, sym, _∙_}
+use Rattle.sbt.specs.Meaning.{tickOf}
+use Rattle.sbt.specs.declared.Correlation.{Correlation}
+use Rattle.c_api.specs.Meaning.{tickOut}
+use Rattle.c_api.proofs.Ways.{tick-known, tick-unknown}
+use borrow.Author.Needs.{needs}
+use Rattle.c_api.proofs.vrk_sbt_tick.Statement.{statement}
+use Rattle.c_api.proofs.vrk_sbt_tick.Tie as tie
+
+returns : tie.Need-returns
+returns c =
+    let t = c .before in
+    let r = t .before in
+    let k = r .before .before in
+    let b = k .before .before in
+    let a = b .before .args in
+    c .tick-out .ensures
+    ∙ ap tickOut (t .tick-of .ensures ∙ ap (λ (x : Correlation). tickOf x (k .h .given .0 .0)) (r .correlate .ensures))
+    ∙ tick-known (a .time) (a .correlation) (k .h .given .0 .0) (sym (b .hand .ensures) ∙ k .h .given .1)
+
+returns-2 : tie.Need-returns-2
+returns-2 c =
+    let b = c .before .before in
+    let a = b .before .args in
+    tick-unknown (a .time) (a .correlation) (sym (b .hand .ensures) ∙ c .enum-told .given .1)
+
+pub vrk-sbt-tick-spec : {M : Type 1} → statement M
+vrk-sbt-tick-spec =
+    tie.close
+    (tie.spec
+    (λ c κs. search needs)
+    (λ c. search needs)
+    (λ c κs. search needs)
+    (λ c κs. search needs)
+    (λ c κs. search needs)
+    (λ c. search needs)
+    returns
+    returns-2)

@@ -1,0 +1,65 @@
+-- What the functions on bytes of the C interface mean. Assumes nothing.
+use mathlib.Core.Bool.{Bool, cond}
+use mathlib.Core.List.{List}
+use Prim.Native.Nat.{ℕ}
+use lib.Dec.{eqb, leb}
+use Rattle.scales.specs.Meaning.{codeOf, Judged, given, outcome, Wrote, written}
+use Rattle.scales.specs.declared.Tick.{Tick}
+use Rattle.scales.specs.declared.Handed.{Handed}
+use Rattle.layout_fields.specs.Meaning.{Valued}
+use Rattle.layout_times.specs.Cuc as Cuc
+use Rattle.layout_times.specs.Cryosat as Cryosat
+use Rattle.layout_times.specs.Siral as Siral
+use Rattle.layout_times.specs.Proteus as Proteus
+use Rattle.c_api.specs.Meaning.{known, handedOf}
+use Rattle.c_api.specs.declared.VrkHanded.{VrkHanded}
+use Rattle.c_api.specs.declared.VrkCount.{VrkCount}
+use Rattle.c_api.specs.declared.bytes.VrkWritten.{VrkWritten}
+use Rattle.c_api.specs.declared.bytes.VrkProteus.{VrkProteus}
+use Rattle.c_api.specs.declared.bytes.Layout.{Layout}
+use Rattle.c_api.specs.declared.bytes.Layout.the-variants as L
+
+-- ---- what is handed out
+abbrev pub countOut : Valued ℕ → VrkCount
+countOut v = record { refusal = v .number; count = v .value }
+
+abbrev pub sbtOut : Valued Tick → VrkCount
+sbtOut v = record { refusal = v .number; count = v .value .0 }
+
+abbrev pub bitOf : Bool → ℕ
+bitOf b = cond b 1 0
+
+abbrev pub proteusOut : Proteus.Stamped → VrkProteus
+proteusOut s =
+    record {
+      refusal = s .slip .number;
+      scale = codeOf (s .slip .scale);
+      day = s .slip .day;
+      micro = s .slip .micro;
+      h3 = bitOf (s .h3);
+    }
+
+-- the second argument is the lent slice as the writer leaves it
+abbrev pub wroteOf : VrkWritten → List ℕ → Wrote
+wroteOf r out = record { number = r .refusal; length = r .length; bytes = out }
+
+-- ---- writers: a number that stands for nothing is refused 3, before what the library judges
+unfoldable pub writes : (List ℕ → Judged (List ℕ)) → List ℕ → Wrote
+writes m out = written out (outcome (m out))
+
+abbrev pub handedWriting : (Handed → List ℕ → Judged (List ℕ)) → VrkHanded → List ℕ → Judged (List ℕ)
+handedWriting m h out =
+    given (known h) 3
+    (m (handedOf h) out)
+
+abbrev pub proteusWriting : ℕ → Handed → List ℕ → Judged (List ℕ)
+proteusWriting h3 t out =
+    given (leb h3 1) 3
+    (Proteus.writing t (eqb h3 1) out)
+
+-- ---- the inner answers
+abbrev pub writingOf : Layout → Handed → List ℕ → Judged (List ℕ)
+writingOf L.Cuc t = Cuc.writing t
+writingOf L.Cryosat t = Cryosat.writing t
+writingOf L.Siral t = Siral.writing t
+writingOf (L.Proteus h3) t = Proteus.writing t h3

@@ -1,0 +1,23 @@
+-- What the functions on GOCE's counts of the C interface mean. Assumes nothing.
+use Prim.Native.Nat.{ℕ}
+use lib.IntN.{ℤ}
+use Rattle.scales.specs.Meaning.{given, outcome}
+use Rattle.layout_fields.specs.Meaning.{valued}
+use Rattle.goce.specs.Meaning.{dateOf, turning}
+use Rattle.goce.specs.declared.Correlation.{Correlation}
+use Rattle.c_api.specs.Meaning.{known, handedOf, timeOut}
+use Rattle.c_api.specs.Bytes.{countOut}
+use Rattle.c_api.specs.declared.VrkCount.{VrkCount}
+use Rattle.c_api.specs.declared.VrkHanded.{VrkHanded}
+use Rattle.c_api.specs.declared.VrkTime.{VrkTime}
+use Rattle.c_api.specs.declared.counts.VrkGoceCorrelation.{VrkGoceCorrelation}
+
+abbrev pub goceOf : VrkGoceCorrelation → Correlation
+goceOf c =
+    record { obt0 = c .obt0; utc0 = c .utc0; offset = c .offset; gradient = c .gradient; back = c .back; ahead = c .ahead }
+
+unfoldable pub goceDate : ℕ → VrkGoceCorrelation → ℤ → ℕ → VrkTime
+goceDate t c d u = timeOut (dateOf (goceOf c) t d u)
+
+unfoldable pub goceCount : VrkHanded → VrkGoceCorrelation → VrkCount
+goceCount h c = countOut (valued 0 (outcome (given (known h) 3 (turning (goceOf c) (handedOf h)))))

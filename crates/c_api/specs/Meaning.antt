@@ -1,0 +1,92 @@
+-- What the structs and codes of the C interface stand for. A code that stands for nothing is refused 3, before all else.
+-- Assumes nothing.
+use mathlib.Core.Bool.{Bool, cond, _&&_}
+use mathlib.Core.List.{List}
+use Prim.Native.Nat.{ℕ}
+use lib.Dec.{eqb, leb}
+use lib.IntN.{ℤ}
+use lib.Ieee.{Float}
+use Rattle.scales.specs.declared.Handed.{Handed}
+use Rattle.scales.specs.declared.Handed.the-variants as H
+use Rattle.scales.specs.Meaning.{codeOf, scaleAt, given, outcome, Slip, dated, recordOf, Judged, Moment}
+use Rattle.decimal.specs.Meaning.{reading, writing, DecimalSlip, Allowed}
+use Rattle.sbt.specs.Meaning.{TickSlip, ticked, dateOf, turning}
+use Rattle.sbt.specs.declared.Correlation.{Correlation}
+use Rattle.leap.specs.Meaning.{accepted}
+use Rattle.changes.specs.Meaning.{changing}
+use Rattle.c_api.specs.declared.VrkSbtCorrelation.{VrkSbtCorrelation}
+use Rattle.c_api.specs.declared.VrkCount.{VrkCount}
+use Rattle.c_api.specs.declared.VrkTime.{VrkTime}
+use Rattle.c_api.specs.declared.VrkHanded.{VrkHanded}
+use Rattle.c_api.specs.declared.VrkDecimal.{VrkDecimal}
+use Rattle.c_api.specs.declared.Given.{Given}
+use Rattle.c_api.specs.declared.Given.the-variants as G
+use Rattle.c_api.specs.declared.Named.{Named}
+use Rattle.c_api.specs.declared.Named.the-variants as N
+
+-- ---- scales by code: 0 TAI, 1 UTC, 2 GPS; one that is unknown stands for scale 0 in the empty record
+abbrev pub knownScale : ℕ → Bool
+knownScale c = leb c 2
+
+-- ---- what is handed in: kind 0 a record, kind 1 a decimal day
+abbrev pub known : VrkHanded → Bool
+known h = knownScale (h .scale) && leb (h .kind) 1
+
+abbrev pub handedOf : VrkHanded → Handed
+handedOf h =
+    cond (eqb (h .kind) 0) (H.Record (recordOf (scaleAt (h .scale)) (h .day) (h .micro)))
+    (H.Decimal (h .decimal) (scaleAt (h .scale)))
+
+-- ---- what is handed out
+abbrev pub timeOut : Slip → VrkTime
+timeOut s = record { refusal = s .number; scale = codeOf (s .scale); day = s .day; micro = s .micro }
+
+abbrev pub decimalOut : DecimalSlip → VrkDecimal
+decimalOut w = record { refusal = w .number; day = w .day }
+
+-- ---- the functions
+unfoldable pub decimalRead : Float → ℕ → VrkTime
+decimalRead x c = timeOut (dated (scaleAt c) (outcome (given (knownScale c) 3 (reading x (scaleAt c)))))
+
+unfoldable pub DecimalWrote : VrkHanded → VrkDecimal → Type 0
+DecimalWrote h r = Allowed (outcome (given (known h) 3 (writing (handedOf h)))) (record { number = r .refusal; day = r .day })
+
+-- a correlation of an unknown scale is one that is not accepted: its period is 0
+unfoldable pub correlationOf : VrkSbtCorrelation → Correlation
+correlationOf c =
+    record {
+      tick = record { 0 = c .tick };
+      scale = scaleAt (c .scale);
+      day = c .day;
+      micro = c .micro;
+      period = cond (knownScale (c .scale)) (c .period) 0;
+      back = c .back;
+      ahead = c .ahead;
+    }
+
+abbrev pub tickOut : TickSlip → VrkCount
+tickOut s = record { refusal = s .number; count = s .tick }
+
+unfoldable pub sbtDate : ℕ → VrkSbtCorrelation → ℤ → ℕ → VrkTime
+sbtDate t c d u = timeOut (dateOf (correlationOf c) t d u)
+
+unfoldable pub sbtTick : VrkHanded → VrkSbtCorrelation → VrkCount
+sbtTick h c = tickOut (ticked (outcome (given (known h) 3 (turning (correlationOf c) (handedOf h)))))
+
+abbrev pub listAccepted : List ℤ → List ℕ → ℤ → ℕ
+listAccepted ds os e = cond (accepted ds os e) 1 0
+
+abbrev pub changingOf : VrkHanded → ℕ → List ℤ → List ℕ → ℤ → Judged Moment
+changingOf h c ds os e =
+    given (knownScale c && known h) 3
+    (changing (handedOf h) (scaleAt c) ds os e)
+
+unfoldable pub changed : VrkHanded → ℕ → List ℤ → List ℕ → ℤ → VrkTime
+changed h c ds os e = timeOut (dated (scaleAt c) (outcome (changingOf h c ds os e)))
+
+-- ---- the inner answers
+unfoldable pub namedBy : ℕ → Named
+namedBy c = cond (knownScale c) (N.Scale (scaleAt c)) N.Unknown
+
+unfoldable pub givenOf : VrkHanded → Given
+givenOf h = cond (known h) (G.Handed (handedOf h)) G.Unknown

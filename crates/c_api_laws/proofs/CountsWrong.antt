@@ -1,0 +1,62 @@
+-- Wrong covers for C of GOCE's counts, each shut out by an input at which its answer is not the meaning's. Assumes nothing.
+use mathlib.Core.Path.{refl}
+use Prim.Native.Nat.{ℕ, _%_, _^_}
+use native.Mathlib.Omega.{arith}
+use lib.IntN.{ℤ, pos}
+use Rattle.evidence.specs.ShutOut.{ShutOut, differ}
+use Rattle.scales.specs.Meaning.{outcome}
+use Rattle.decimal.specs.Meaning.{plusZero}
+use Rattle.layout_fields.specs.Meaning.{valued}
+use Rattle.clock.specs.Meaning.{inWindow, within, clock}
+use Rattle.goce.specs.Meaning.{accepted, dateOf, turning}
+use Rattle.c_api.specs.Meaning.{handedOf}
+use Rattle.c_api.specs.Bytes.{countOut}
+use Rattle.c_api.specs.Counts.{goceOf, goceDate, goceCount}
+use Rattle.c_api.specs.declared.VrkCount.{VrkCount}
+use Rattle.c_api.specs.declared.VrkTime.{VrkTime}
+use Rattle.c_api.specs.declared.VrkHanded.{VrkHanded}
+use Rattle.c_api.specs.declared.counts.VrkGoceCorrelation.{VrkGoceCorrelation}
+
+abbrev correlated : ℕ → ℕ → VrkGoceCorrelation
+correlated obt0 utc0 = record { obt0 = obt0; utc0 = utc0; offset = pos 0; gradient = 1000000000; back = 65536; ahead = 65536 }
+
+abbrev timed : ℕ → ℕ → VrkTime
+timed n u = record { refusal = n; scale = 1; day = pos 0; micro = u }
+
+-- ---- vrk_goce_date
+-- OBT cut to 48 bits on its way in
+abbrev obtCut : ℕ → VrkGoceCorrelation → ℤ → ℕ → VrkTime
+obtCut t c d u = goceDate (t % 2 ^ 48) c d u
+
+pub goce-obt-cut : ShutOut (goceDate 281474976710656 (correlated 0 0) (pos 0) 0) (timed 3 0) (obtCut 281474976710656 (correlated 0 0) (pos 0) 0) (timed 0 0)
+unfolding goceDate dateOf accepted inWindow within clock
+goce-obt-cut = (refl, refl, differ (λ (t : VrkTime). t .refusal) (λ e. omega arith))
+
+-- OBT0 and UTC0 in each other's place
+abbrev fieldsSwapped : ℕ → VrkGoceCorrelation → ℤ → ℕ → VrkTime
+fieldsSwapped t c d u =
+    goceDate t (record { obt0 = c .utc0; utc0 = c .obt0; offset = c .offset; gradient = c .gradient; back = c .back; ahead = c .ahead }) d u
+
+pub goce-fields-swapped : ShutOut (goceDate 65536 (correlated 0 65536) (pos 0) 1000000) (timed 0 2000000) (fieldsSwapped 65536 (correlated 0 65536) (pos 0) 1000000) (timed 0 0)
+unfolding goceDate dateOf accepted inWindow within clock
+goce-fields-swapped = (refl, refl, differ (λ (t : VrkTime). t .micro) (λ e. omega arith))
+
+-- ---- vrk_goce_count
+abbrev strange : VrkHanded
+strange = record { kind = 2; scale = 1; day = pos 0; micro = 0; decimal = plusZero }
+
+-- an unknown kind judged after the correlation
+abbrev sixFirst : VrkHanded → VrkGoceCorrelation → VrkCount
+sixFirst h c = countOut (valued 0 (outcome (turning (goceOf c) (handedOf h))))
+
+pub goce-kind : ShutOut (goceCount strange (correlated 281474976710656 0)) (record { refusal = 3; count = 0 }) (sixFirst strange (correlated 281474976710656 0)) (record { refusal = 6; count = 0 })
+unfolding goceCount accepted
+goce-kind = (refl, refl, differ (λ (t : VrkCount). t .refusal) (λ e. omega arith))
+
+-- a refusal that hands back OBT0
+abbrev handsCount : VrkHanded → VrkGoceCorrelation → VrkCount
+handsCount h c = record { refusal = goceCount h c .refusal; count = c .obt0 }
+
+pub goce-count-handed : ShutOut (goceCount strange (correlated 7 0)) (record { refusal = 3; count = 0 }) (handsCount strange (correlated 7 0)) (record { refusal = 3; count = 7 })
+unfolding goceCount
+goce-count-handed = (refl, refl, differ (λ (t : VrkCount). t .count) (λ e. omega arith))

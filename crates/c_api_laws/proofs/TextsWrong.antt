@@ -1,0 +1,56 @@
+-- Wrong covers for C of the functions on texts, each shut out by an input at which its answer is not the meaning's. Assumes nothing.
+use mathlib.Core.Path.{refl}
+use mathlib.Core.List.{List, [], _∷_}
+use Prim.Native.Nat.{ℕ, _*_, _/_}
+use native.Mathlib.Omega.{arith}
+use lib.IntN.{pos}
+use Rattle.evidence.specs.ShutOut.{ShutOut, differ}
+use Rattle.scales.specs.Meaning.{Judged, Wrote}
+use Rattle.scales.specs.declared.Handed.{Handed}
+use Rattle.ground_laws.proofs.Desks.{keeps}
+use Rattle.calendar.specs.Meaning.{leap, monthLength, lengthOf, firstDay, isDate, dayAfter, daysTo, walk, dayOfDate, dateOfDay}
+use Rattle.decimal.specs.Meaning.{plusZero}
+use Rattle.text_read.specs.Meaning.{digitOf, twoOf, fourOf, names, letter, isNamed, seek, monthOf, hasMarks, microIn, stampIn, inLimits, prefixOf, hasPrefix, scaleIn, bodyIn, isPrefixRight, isBody, readText}
+use Rattle.text_write.specs.Meaning.{textOf, writing}
+use Rattle.text_laws.specs.Computed.{reads}
+use Rattle.text_laws.specs.Wrong.{capitals, ownScale, beforeGps}
+use Rattle.c_api.specs.Meaning.{timeOut}
+use Rattle.c_api.specs.Bytes.{writes, handedWriting}
+use Rattle.c_api.specs.Texts.{formAt, textWriting}
+use Rattle.c_api.specs.declared.VrkHanded.{VrkHanded}
+use Rattle.c_api.specs.declared.VrkTime.{VrkTime}
+
+-- ---- texts read: a refused text in the scale of its prefix, GPS=01-JAN-1972 00:00:00
+pub read-own-scale : ShutOut (timeOut (reads beforeGps)) (record { refusal = 7; scale = 0; day = pos 0; micro = 0 }) (timeOut (ownScale beforeGps)) (record { refusal = 7; scale = 2; day = pos 0; micro = 0 })
+unfolding readText isPrefixRight isBody scaleIn bodyIn hasPrefix prefixOf hasMarks stampIn microIn inLimits digitOf twoOf fourOf monthOf seek isNamed letter names isDate dayOfDate dayAfter firstDay lengthOf monthLength leap
+read-own-scale = (refl, refl, differ (λ (t : VrkTime). t .scale) (λ e. omega arith))
+
+-- months in small letters taken, TAI=01-jan-2000 00:00:00
+abbrev small : List ℕ
+small = 84 ∷ 65 ∷ 73 ∷ 61 ∷ 48 ∷ 49 ∷ 45 ∷ 106 ∷ 97 ∷ 110 ∷ 45 ∷ 50 ∷ 48 ∷ 48 ∷ 48 ∷ 32 ∷ 48 ∷ 48 ∷ 58 ∷ 48 ∷ 48 ∷ 58 ∷ 48 ∷ 48 ∷ []
+
+pub read-small : ShutOut (timeOut (readText small [] [] (pos 0))) (record { refusal = 3; scale = 0; day = pos 0; micro = 0 }) (timeOut (readText (capitals small) [] [] (pos 0))) (record { refusal = 0; scale = 0; day = pos 0; micro = 0 })
+unfolding readText isPrefixRight isBody scaleIn bodyIn hasPrefix prefixOf hasMarks stampIn microIn inLimits digitOf twoOf fourOf monthOf seek isNamed letter names isDate dayOfDate dayAfter firstDay lengthOf monthLength leap
+read-small = (refl, refl, differ (λ (t : VrkTime). t .refusal) (λ e. omega arith))
+
+-- ---- texts written: an unknown form taken for the longest
+abbrev tai : ℕ → VrkHanded
+tai u = record { kind = 0; scale = 0; day = pos 0; micro = u; decimal = plusZero }
+
+abbrev anyForm : ℕ → Handed → List ℕ → Judged (List ℕ)
+anyForm n h out = writing h (formAt n) [] [] (pos 0) out
+
+pub form-unknown : ShutOut (writes (handedWriting (textWriting 21 [] [] (pos 0)) (tai 0)) (9 ∷ [])) (keeps 3 (9 ∷ [])) (writes (handedWriting (anyForm 21) (tai 0)) (9 ∷ [])) (keeps 13 (9 ∷ []))
+unfolding writes textOf prefixOf
+form-unknown = (refl, refl, differ (λ (w : Wrote). w .number) (λ e. omega arith))
+
+-- a microsecond dropped where the form has none
+abbrev wholeSecond : VrkHanded → VrkHanded
+wholeSecond h = record { kind = h .kind; scale = h .scale; day = h .day; micro = h .micro / 1000000 * 1000000; decimal = h .decimal }
+
+abbrev blank : List ℕ
+blank = 9 ∷ 9 ∷ 9 ∷ 9 ∷ 9 ∷ 9 ∷ 9 ∷ 9 ∷ 9 ∷ 9 ∷ 9 ∷ 9 ∷ 9 ∷ 9 ∷ 9 ∷ 9 ∷ 9 ∷ 9 ∷ 9 ∷ 9 ∷ 9 ∷ 9 ∷ 9 ∷ 9 ∷ []
+
+pub micro-dropped : ShutOut (writes (handedWriting (textWriting 24 [] [] (pos 0)) (tai 5)) blank) (keeps 12 blank) (writes (handedWriting (textWriting 24 [] [] (pos 0)) (wholeSecond (tai 5))) blank) (record { number = 0; length = 24; bytes = 84 ∷ 65 ∷ 73 ∷ 61 ∷ 48 ∷ 49 ∷ 45 ∷ 74 ∷ 65 ∷ 78 ∷ 45 ∷ 50 ∷ 48 ∷ 48 ∷ 48 ∷ 32 ∷ 48 ∷ 48 ∷ 58 ∷ 48 ∷ 48 ∷ 58 ∷ 48 ∷ 48 ∷ [] })
+unfolding writes textOf prefixOf letter names dateOfDay daysTo dayAfter walk firstDay lengthOf monthLength leap
+micro-dropped = (refl, refl, differ (λ (w : Wrote). w .number) (λ e. omega arith))

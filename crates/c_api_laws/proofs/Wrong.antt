@@ -1,0 +1,140 @@
+-- Wrong covers for C, each shut out by an input at which its answer is not the meaning's. Assumes nothing.
+use mathlib.Core.Path.{_≡_, refl}
+use mathlib.Core.Bool.{cond, _&&_}
+use mathlib.Core.List.{List, [], _∷_}
+use Prim.Native.Nat.{ℕ}
+use native.Mathlib.Omega.{arith}
+use lib.IntN.{ℤ, pos, negsuc}
+use lib.Ieee.{Float, nan}
+use Rattle.evidence.specs.ShutOut.{ShutOut, differ}
+use Rattle.scales.specs.Meaning.{scaleAt, given, outcome, dated}
+use Rattle.decimal.specs.Meaning.{reading, plusZero}
+use Rattle.clock.specs.Meaning.{inWindow, within, clock}
+use Rattle.sbt.specs.Meaning.{accepted, dateOf, ticked, turning}
+use Rattle.calendar.specs.Meaning.{leap, monthLength, lengthOf, firstDay, dayAfter, daysTo, walk, isFirst}
+use Rattle.leap.specs.Meaning as L
+use Rattle.leap.specs.Meaning.{begins, risesFrom, rises, countsFrom, countsUp}
+use Rattle.changes.specs.Meaning.{changing}
+use Rattle.c_api.specs.Meaning.{knownScale, known, listAccepted, changed, handedOf, correlationOf, timeOut, tickOut, decimalRead, DecimalWrote, sbtDate, sbtTick}
+use Rattle.c_api.specs.declared.VrkSbtCorrelation.{VrkSbtCorrelation}
+use Rattle.c_api.specs.declared.VrkCount.{VrkCount}
+use Rattle.c_api.specs.declared.VrkTime.{VrkTime}
+use Rattle.c_api.specs.declared.VrkHanded.{VrkHanded}
+use Rattle.c_api.specs.declared.VrkDecimal.{VrkDecimal}
+use Rattle.c_api_laws.proofs.One.{decimal-one}
+
+-- ---- vrk_decimal_read
+-- an unknown scale taken for TAI
+abbrev unknownIsTai : Float → ℕ → VrkTime
+unknownIsTai x c = timeOut (dated (scaleAt c) (outcome (reading x (scaleAt c))))
+
+pub read-unknown : ShutOut (decimalRead plusZero 3) (record { refusal = 3; scale = 0; day = pos 0; micro = 0 }) (unknownIsTai plusZero 3) (record { refusal = 0; scale = 0; day = pos 0; micro = 0 })
+unfolding decimalRead
+read-unknown = (refl, refl, differ (λ (t : VrkTime). t .refusal) (λ e. omega arith))
+
+-- an unknown scale judged after what the day brings
+pub read-four-first : ShutOut (decimalRead nan 3) (record { refusal = 3; scale = 0; day = pos 0; micro = 0 }) (unknownIsTai nan 3) (record { refusal = 4; scale = 0; day = pos 0; micro = 0 })
+unfolding decimalRead
+read-four-first = (refl, refl, differ (λ (t : VrkTime). t .refusal) (λ e. omega arith))
+
+-- ---- vrk_decimal_write: its contract is a relation, which allows a; the wrong program answers b, which it does not
+abbrev strange : VrkHanded
+strange = record { kind = 2; scale = 0; day = pos 0; micro = 0; decimal = plusZero }
+
+right : DecimalWrote strange (record { refusal = 3; day = plusZero })
+unfolding DecimalWrote
+right = (refl, refl)
+
+abbrev ShutWrite : VrkHanded → VrkDecimal → VrkDecimal → VrkDecimal → Type 0
+ShutWrite h a wrong b = DecimalWrote h a × (wrong ≡ b) × (DecimalWrote h b → ⊥)
+
+forbidden : (b : VrkDecimal) → (_≡_ {A = ℕ} 3 (b .refusal) → ⊥) → DecimalWrote strange b → ⊥
+forbidden b d w = differ (λ (t : VrkDecimal). t .refusal) d (decimal-one strange (record { refusal = 3; day = plusZero }) b right w)
+
+-- an unknown kind taken for a record, which stands at day 0
+abbrev anyKind : VrkHanded → VrkDecimal
+anyKind h = record { refusal = 0; day = plusZero }
+
+pub write-unknown : ShutWrite strange (record { refusal = 3; day = plusZero }) (anyKind strange) (record { refusal = 0; day = plusZero })
+write-unknown = (right, refl, forbidden (record { refusal = 0; day = plusZero }) (λ e. omega arith))
+
+-- an unknown kind refused as not finite
+abbrev notFinite : VrkHanded → VrkDecimal
+notFinite h = record { refusal = 4; day = plusZero }
+
+pub write-four : ShutWrite strange (record { refusal = 3; day = plusZero }) (notFinite strange) (record { refusal = 4; day = plusZero })
+write-four = (right, refl, forbidden (record { refusal = 4; day = plusZero }) (λ e. omega arith))
+
+-- ---- vrk_sbt_date
+abbrev dead : ℕ → VrkSbtCorrelation
+dead scale = record { tick = 7; scale = scale; day = pos 0; micro = 0; period = 3906250000; back = 0; ahead = 0 }
+
+-- an unknown scale taken for TAI
+abbrev unknownDated : ℕ → VrkSbtCorrelation → ℤ → ℕ → VrkTime
+unknownDated t c d u = timeOut (dateOf (correlationOf (record { tick = c .tick; scale = 0; day = c .day; micro = c .micro; period = c .period; back = c .back; ahead = c .ahead })) t d u)
+
+pub date-unknown : ShutOut (sbtDate 7 (dead 3) (pos 0) 0) (record { refusal = 6; scale = 0; day = pos 0; micro = 0 }) (unknownDated 7 (dead 3) (pos 0) 0) (record { refusal = 0; scale = 0; day = pos 0; micro = 0 })
+unfolding sbtDate correlationOf dateOf accepted inWindow within clock
+date-unknown = (refl, refl, differ (λ (t : VrkTime). t .refusal) (λ e. omega arith))
+
+-- the window left to the caller
+pub date-window : ShutOut (sbtDate 8 (dead 0) (pos 0) 0) (record { refusal = 8; scale = 0; day = pos 0; micro = 0 }) (sbtDate 8 (record { tick = 7; scale = 0; day = pos 0; micro = 0; period = 3906250000; back = 1; ahead = 1 }) (pos 0) 0) (record { refusal = 0; scale = 0; day = pos 0; micro = 3906 })
+unfolding sbtDate correlationOf dateOf accepted inWindow within clock
+date-window = (refl, refl, differ (λ (t : VrkTime). t .refusal) (λ e. omega arith))
+
+-- ---- vrk_sbt_tick
+-- an unknown kind judged after the correlation
+abbrev sixFirst : VrkHanded → VrkSbtCorrelation → VrkCount
+sixFirst h c = tickOut (ticked (outcome (turning (correlationOf c) (handedOf h))))
+
+pub tick-kind : ShutOut (sbtTick strange (dead 3)) (record { refusal = 3; count = 0 }) (sixFirst strange (dead 3)) (record { refusal = 6; count = 0 })
+unfolding sbtTick correlationOf accepted
+tick-kind = (refl, refl, differ (λ (t : VrkCount). t .refusal) (λ e. omega arith))
+
+-- a refusal that hands back the reference tick
+abbrev handsTick : VrkHanded → VrkSbtCorrelation → VrkCount
+handsTick h c = record { refusal = sbtTick h c .refusal; count = c .tick }
+
+pub tick-handed : ShutOut (sbtTick strange (dead 0)) (record { refusal = 3; count = 0 }) (handsTick strange (dead 0)) (record { refusal = 3; count = 7 })
+unfolding sbtTick
+tick-handed = (refl, refl, differ (λ (t : VrkCount). t .count) (λ e. omega arith))
+
+-- ---- vrk_list_accepted
+-- any list taken that begins as it must
+abbrev headOnly : List ℤ → List ℕ → ℤ → ℕ
+headOnly ds os e = cond (begins ds os) 1 0
+
+pub list-head : ShutOut (listAccepted (negsuc 10226 ∷ []) (10 ∷ []) (pos 36525)) 0 (headOnly (negsuc 10226 ∷ []) (10 ∷ []) (pos 36525)) 1
+unfolding L.accepted begins rises risesFrom isFirst walk daysTo dayAfter firstDay lengthOf monthLength leap countsUp countsFrom
+list-head = (refl, refl, λ e. omega arith)
+
+-- a number for every answer but the right one
+abbrev swappedOnes : List ℤ → List ℕ → ℤ → ℕ
+swappedOnes ds os e = cond (L.accepted ds os e) 0 1
+
+pub list-swapped : ShutOut (listAccepted [] [] (pos 0)) 0 (swappedOnes [] [] (pos 0)) 1
+unfolding L.accepted
+list-swapped = (refl, refl, λ e. omega arith)
+
+-- ---- vrk_change
+-- the empty record of the scale that was handed in
+abbrev fromScaleEmpty : VrkHanded → ℕ → List ℤ → List ℕ → ℤ → VrkTime
+fromScaleEmpty h c ds os e = timeOut (dated (scaleAt (h .scale)) (outcome (given (knownScale c && known h) 3 (changing (handedOf h) (scaleAt c) ds os e))))
+
+abbrev late : VrkHanded
+late = record { kind = 0; scale = 0; day = pos 36525; micro = 0; decimal = plusZero }
+
+pub change-empty : ShutOut (changed late 2 [] [] (pos 0)) (record { refusal = 7; scale = 2; day = pos 0; micro = 0 }) (fromScaleEmpty late 2 [] [] (pos 0)) (record { refusal = 7; scale = 0; day = pos 0; micro = 0 })
+unfolding changed
+change-empty = (refl, refl, differ (λ (t : VrkTime). t .scale) (λ e. omega arith))
+
+-- an unknown scale wanted, taken for TAI
+abbrev wantsTai : VrkHanded → ℕ → List ℤ → List ℕ → ℤ → VrkTime
+wantsTai h c ds os e = timeOut (dated (scaleAt c) (outcome (given (known h) 3 (changing (handedOf h) (scaleAt c) ds os e))))
+
+abbrev today : VrkHanded
+today = record { kind = 0; scale = 0; day = pos 0; micro = 5; decimal = plusZero }
+
+pub change-wanted : ShutOut (changed today 3 [] [] (pos 0)) (record { refusal = 3; scale = 0; day = pos 0; micro = 0 }) (wantsTai today 3 [] [] (pos 0)) (record { refusal = 0; scale = 0; day = pos 0; micro = 5 })
+unfolding changed
+change-wanted = (refl, refl, differ (λ (t : VrkTime). t .refusal) (λ e. omega arith))

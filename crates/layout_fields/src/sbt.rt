@@ -1,0 +1,23 @@
+// SBT: 4 bytes, the tick.
+ghost use mathlib.Core.Path.{_≡_};
+ghost use Rattle.scales.specs.Meaning.{wrote};
+ghost use Rattle.layout_fields.specs.Sbt.{slip, read, write};
+use scales::Refusal;
+use scales::Tick;
+use scales::Ticked;
+use scales::Written;
+
+pub fn read(b: &[u8]) -> Ticked
+    ensures { λ r. ⌜ slip r ≡ read (now (b .entry)) ⌝ }
+{
+    if b.len() != 4 {
+        return Ticked::Refused(Refusal::LengthIsNone);
+    }
+    Ticked::Tick(Tick(crate::part(b, 0, 4) as u32))
+}
+
+pub fn write(tick: Tick, out: &mut [u8]) -> Written
+    ensures { λ r. ⌜ wrote r (now (out .exit)) ≡ write tick (now (out .entry)) ⌝ }
+{
+    crate::place(tick.0 as u64, 4, out)
+}

@@ -1,0 +1,222 @@
+-- Wrong readers and writers of times, each shut out by an input at which its answer is not the meaning's. Assumes nothing.
+use mathlib.Core.Path.{refl}
+use mathlib.Core.Bool.{Bool, true, false}
+use mathlib.Core.List.{List, [], _∷_}
+use Prim.Native.Nat.{ℕ, _+_, _-_, _*_, _/_, _%_}
+use native.Mathlib.Omega.{arith}
+use lib.IntN.{ℤ, pos, negsuc, natAbs}
+use Rattle.evidence.specs.ShutOut.{ShutOut, differ}
+use Rattle.octets.specs.Meaning.{number, field}
+use Rattle.scales.specs.Meaning.{andThen, sameScale, bound, given, gives, refused, answer, outcome, Slip, dated, recordOf, Wrote, written}
+use Rattle.scales.specs.Place.{firstAt}
+use Rattle.scales.specs.declared.Scale.the-variants as S
+use Rattle.scales.specs.declared.Handed.{Handed}
+use Rattle.scales.specs.declared.Handed.the-variants as H
+use Rattle.decimal.specs.Meaning.{scaleOf, dayOf, microOf}
+use Rattle.layout_fields.specs.Meaning.{placing}
+use Rattle.layout_fields.specs.Cuc as FC
+use Rattle.layout_fields.specs.Proteus as FP
+use Rattle.layout_fields.specs.Siral as FR
+use Rattle.layout_fields.specs.declared.cuc.Fields as C
+use Rattle.layout_fields.specs.declared.proteus.Fields as P
+use Rattle.layout_fields.specs.declared.siral.Fields as R
+use Rattle.layout_times.specs.Meaning.{nearest, standsFor, lastTo, momentFrom, microsFrom, judged}
+use Rattle.layout_times.specs.Cuc as Cuc
+use Rattle.layout_times.specs.Proteus as Proteus
+use Rattle.layout_times.specs.Cryosat as Cryosat
+use Rattle.layout_times.specs.Siral as Siral
+use Rattle.ground_laws.proofs.Desks.{got, keeps, bytesAt, writesNothing, madeUp, clearing, scribbling, answered, empty, byNumber, byMicro, sevens}
+
+-- a handed record
+abbrev utc : ℤ → ℕ → Handed
+utc d u = H.Record (recordOf S.Utc d u)
+
+abbrev gps : ℤ → ℕ → Handed
+gps d u = H.Record (recordOf S.Gps d u)
+
+abbrev tai : ℤ → ℕ → Handed
+tai d u = H.Record (recordOf S.Tai d u)
+
+-- ---- CUC read
+-- the fraction rounded to the nearest microsecond
+abbrev cucNearest : List ℕ → Slip
+cucNearest s = dated S.Gps
+    (outcome (andThen (FC.reading s) (λ (f : C.Fields). judged S.Gps (momentFrom Cuc.epoch (f .seconds * 1000000 + standsFor nearest 16 (f .fraction))))))
+
+pub cuc-nearest : ShutOut (Cuc.read (0 ∷ 0 ∷ 0 ∷ 0 ∷ 255 ∷ 255 ∷ [])) (answered S.Gps (negsuc 7299) 999984)
+    (cucNearest (0 ∷ 0 ∷ 0 ∷ 0 ∷ 255 ∷ 255 ∷ [])) (answered S.Gps (negsuc 7299) 999985)
+unfolding Cuc.read number
+cuc-nearest = (refl, refl, byMicro (λ e. omega arith))
+
+-- the span not judged
+abbrev cucEndless : List ℕ → Slip
+cucEndless s = dated S.Gps (outcome (andThen (FC.reading s) (λ (f : C.Fields). gives (momentFrom Cuc.epoch (Cuc.microsOf f)))))
+
+pub cuc-endless : ShutOut (Cuc.read (225 ∷ 177 ∷ 25 ∷ 128 ∷ 0 ∷ 0 ∷ [])) (empty 7 S.Gps)
+    (cucEndless (225 ∷ 177 ∷ 25 ∷ 128 ∷ 0 ∷ 0 ∷ [])) (answered S.Gps (pos 36525) 0)
+unfolding Cuc.read number
+cuc-endless = (refl, refl, byNumber (λ e. omega arith))
+
+-- ---- CUC write
+-- the fraction rounded down: 999,984 microseconds as FFFE, which is read as 999,969
+abbrev cucDown : Handed → List ℕ → Wrote
+cucDown h out =
+    let n = microsFrom Cuc.epoch (dayOf h) (microOf h) in
+    written out (outcome (placing (FC.imageOf (record { seconds = n / 1000000; fraction = n % 1000000 * 65536 / 1000000 })) out))
+
+pub cuc-down : ShutOut (Cuc.write (gps (negsuc 7299) 999984) (sevens 8)) (got 6 (0 ∷ 0 ∷ 0 ∷ 0 ∷ 255 ∷ 255 ∷ 7 ∷ 7 ∷ []))
+    (cucDown (gps (negsuc 7299) 999984) (sevens 8)) (got 6 (0 ∷ 0 ∷ 0 ∷ 0 ∷ 255 ∷ 254 ∷ 7 ∷ 7 ∷ []))
+unfolding Cuc.write field lastTo
+cuc-down = (refl, refl, differ (bytesAt 5) (λ e. omega arith))
+
+-- a time of another scale taken
+abbrev cucAnyScale : Handed → List ℕ → Wrote
+cucAnyScale h out = written out (outcome (placing (Cuc.imageAt (dayOf h) (microOf h)) out))
+
+pub cuc-any-scale : ShutOut (Cuc.write (tai (negsuc 7299) 999984) (sevens 8)) (keeps 12 (sevens 8)) (cucAnyScale (tai (negsuc 7299) 999984) (sevens 8))
+    (got 6 (0 ∷ 0 ∷ 0 ∷ 0 ∷ 255 ∷ 255 ∷ 7 ∷ 7 ∷ []))
+unfolding Cuc.write field lastTo
+cuc-any-scale = (refl, refl, differ (bytesAt 0) (λ e. omega arith))
+
+-- 12 before 7
+abbrev cucScaleFirst : Handed → List ℕ → Wrote
+cucScaleFirst h out = written out (outcome (given (sameScale S.Gps (scaleOf h)) 12 (Cuc.writing h out)))
+
+pub cuc-scale-first : ShutOut (Cuc.write (tai (pos 36525) 0) (sevens 8)) (keeps 7 (sevens 8)) (cucScaleFirst (tai (pos 36525) 0) (sevens 8)) (keeps 12 (sevens 8))
+unfolding Cuc.write field lastTo
+cuc-scale-first = (refl, refl, differ (λ (w : Wrote). w .number) (λ e. omega arith))
+
+pub cuc-clearing : ShutOut (Cuc.write (gps (negsuc 7299) 999984) (sevens 8)) (got 6 (0 ∷ 0 ∷ 0 ∷ 0 ∷ 255 ∷ 255 ∷ 7 ∷ 7 ∷ []))
+    (clearing (sevens 8) (Cuc.write (gps (negsuc 7299) 999984) (sevens 8))) (got 6 (0 ∷ 0 ∷ 0 ∷ 0 ∷ 255 ∷ 255 ∷ 0 ∷ 0 ∷ []))
+unfolding Cuc.write field lastTo
+cuc-clearing = (refl, refl, differ (bytesAt 6) (λ e. omega arith))
+
+-- the desk that writes nothing
+pub writes-nothing : ShutOut (Cuc.write (gps (negsuc 7299) 999984) (sevens 8)) (got 6 (0 ∷ 0 ∷ 0 ∷ 0 ∷ 255 ∷ 255 ∷ 7 ∷ 7 ∷ []))
+    (writesNothing (sevens 8) (Cuc.write (gps (negsuc 7299) 999984) (sevens 8))) (got 6 (sevens 8))
+unfolding Cuc.write field lastTo
+writes-nothing = (refl, refl, differ (bytesAt 0) (λ e. omega arith))
+
+-- ---- Proteus read
+-- through the leap list: the 18 steps from 1981 to 2017 taken off, as if the weeks counted them
+abbrev proteusListed : List ℕ → Proteus.Stamped
+proteusListed s =
+    Proteus.stamped
+    (outcome (andThen (FP.reading s) (λ (f : P.Fields). gives (record { moment = momentFrom Proteus.epoch (Proteus.microsOf f - 18000000); h3 = f .h3 }))))
+
+pub proteus-listed : ShutOut (Proteus.read (125 ∷ 0 ∷ 0 ∷ 0 ∷ 0 ∷ 18 ∷ 0 ∷ 0 ∷ []))
+    (Proteus.stamped (answer (record { moment = record { day = pos 6700; micro = 18000000 }; h3 = false })))
+    (proteusListed (125 ∷ 0 ∷ 0 ∷ 0 ∷ 0 ∷ 18 ∷ 0 ∷ 0 ∷ [])) (Proteus.stamped (answer (record { moment = record { day = pos 6700; micro = 0 }; h3 = false })))
+unfolding Proteus.read number
+proteus-listed = (refl, refl, differ (λ (t : Proteus.Stamped). t .slip .micro) (λ e. omega arith))
+
+-- H3 dropped
+abbrev proteusNoH3 : List ℕ → Proteus.Stamped
+proteusNoH3 s = record { slip = Proteus.read s .slip; h3 = false }
+
+bit : Bool → ℕ
+bit true = 1
+bit false = 0
+
+pub proteus-no-h3 : ShutOut (Proteus.read (0 ∷ 1 ∷ 0 ∷ 0 ∷ 0 ∷ 0 ∷ 0 ∷ 0 ∷ []))
+    (Proteus.stamped (answer (record { moment = record { day = negsuc 7299; micro = 0 }; h3 = true })))
+    (proteusNoH3 (0 ∷ 1 ∷ 0 ∷ 0 ∷ 0 ∷ 0 ∷ 0 ∷ 0 ∷ [])) (Proteus.stamped (answer (record { moment = record { day = negsuc 7299; micro = 0 }; h3 = false })))
+unfolding Proteus.read number bit
+proteus-no-h3 = (refl, refl, differ (λ (t : Proteus.Stamped). bit (t .h3)) (λ e. omega arith))
+
+-- ---- Proteus write
+-- second 60 taken as the first of the next day
+abbrev proteusSixty : Handed → Bool → List ℕ → Wrote
+proteusSixty h b out = written out (outcome (placing (Proteus.imageAt (dayOf h) (microOf h) b) out))
+
+pub proteus-sixty : ShutOut (Proteus.write (utc (pos 6209) 86400999984) true (sevens 8)) (keeps 12 (sevens 8))
+    (proteusSixty (utc (pos 6209) 86400999984) true (sevens 8)) (got 8 (120 ∷ 161 ∷ 0 ∷ 0 ∷ 0 ∷ 0 ∷ 255 ∷ 255 ∷ []))
+unfolding Proteus.write field lastTo
+proteus-sixty = (refl, refl, differ (bytesAt 0) (λ e. omega arith))
+
+-- through the leap list
+abbrev proteusAdded : Handed → Bool → List ℕ → Wrote
+proteusAdded h b out = written out (outcome (placing (FP.imageOf (Proteus.fieldsAt b (microsFrom Proteus.epoch (dayOf h) (microOf h) + 18000000))) out))
+
+pub proteus-added : ShutOut (Proteus.write (utc (pos 6700) 999984) true (sevens 8)) (got 8 (125 ∷ 1 ∷ 0 ∷ 0 ∷ 0 ∷ 0 ∷ 255 ∷ 255 ∷ []))
+    (proteusAdded (utc (pos 6700) 999984) true (sevens 8)) (got 8 (125 ∷ 1 ∷ 0 ∷ 0 ∷ 0 ∷ 18 ∷ 255 ∷ 255 ∷ []))
+unfolding Proteus.write field lastTo
+proteus-added = (refl, refl, differ (bytesAt 5) (λ e. omega arith))
+
+pub proteus-scribbling : ShutOut (Proteus.write (utc (pos 21372) 999984) true (sevens 8)) (keeps 12 (sevens 8))
+    (scribbling (Proteus.write (utc (pos 21372) 999984) true (sevens 8))) (keeps 12 (0 ∷ 7 ∷ 7 ∷ 7 ∷ 7 ∷ 7 ∷ 7 ∷ 7 ∷ []))
+unfolding Proteus.write field lastTo
+proteus-scribbling = (refl, refl, differ (bytesAt 0) (λ e. omega arith))
+
+-- ---- CryoSat read
+-- read as UTC
+abbrev cryosatUtc : List ℕ → Slip
+cryosatUtc s = dated S.Utc (outcome (Cryosat.reading s))
+
+pub cryosat-utc : ShutOut (Cryosat.read (0 ∷ 1 ∷ 0 ∷ 0 ∷ 0 ∷ 2 ∷ 0 ∷ 3 ∷ [])) (answered S.Tai (pos 1) 2003)
+    (cryosatUtc (0 ∷ 1 ∷ 0 ∷ 0 ∷ 0 ∷ 2 ∷ 0 ∷ 3 ∷ [])) (answered S.Utc (pos 1) 2003)
+unfolding Cryosat.read number
+cryosat-utc = (refl, refl, differ (λ (t : Slip). bound (t .scale)) (λ e. omega arith))
+
+-- a refusal in another scale
+abbrev cryosatElsewhere : List ℕ → Slip
+cryosatElsewhere s = dated S.Gps (refused (Cryosat.read s .number))
+
+pub cryosat-elsewhere : ShutOut (Cryosat.read (255 ∷ 255 ∷ 0 ∷ 0 ∷ 0 ∷ 0 ∷ 0 ∷ 0 ∷ [])) (empty 7 S.Tai)
+    (cryosatElsewhere (255 ∷ 255 ∷ 0 ∷ 0 ∷ 0 ∷ 0 ∷ 0 ∷ 0 ∷ [])) (empty 7 S.Gps)
+unfolding Cryosat.read number
+cryosat-elsewhere = (refl, refl, differ (λ (t : Slip). firstAt (t .scale)) (λ e. omega arith))
+
+-- ---- CryoSat write
+-- a day before 0 taken as day 0
+abbrev cryosatHeld : Handed → List ℕ → Wrote
+cryosatHeld h out = written out (outcome (placing (Cryosat.imageAt (dayOf h) (microOf h)) out))
+
+pub cryosat-held : ShutOut (Cryosat.write (tai (negsuc 0) 2003) (sevens 8)) (keeps 12 (sevens 8)) (cryosatHeld (tai (negsuc 0) 2003) (sevens 8)) (got 8 (0 ∷ 0 ∷ 0 ∷ 0 ∷ 0 ∷ 2 ∷ 0 ∷ 3 ∷ []))
+unfolding Cryosat.write field
+cryosat-held = (refl, refl, differ (bytesAt 0) (λ e. omega arith))
+
+-- the desk with a made-up length
+pub cryosat-made-up : ShutOut (Cryosat.write (tai (pos 1) 2003) (sevens 8)) (got 8 (0 ∷ 1 ∷ 0 ∷ 0 ∷ 0 ∷ 2 ∷ 0 ∷ 3 ∷ []))
+    (madeUp (Cryosat.write (tai (pos 1) 2003) (sevens 8))) (got 10 (0 ∷ 1 ∷ 0 ∷ 0 ∷ 0 ∷ 2 ∷ 0 ∷ 3 ∷ []))
+unfolding Cryosat.write field
+cryosat-made-up = (refl, refl, differ (λ (w : Wrote). w .length) (λ e. omega arith))
+
+-- ---- SIRAL read
+-- the carry dropped: the microsecond goes round within its day
+abbrev siralRound : List ℕ → Slip
+siralRound s =
+    dated S.Tai
+    (outcome (andThen (FR.reading s) (λ (f : R.Fields). judged S.Tai (record { day = pos (f .day); micro = Siral.microsOf f % 86400000000 }))))
+
+pub siral-round : ShutOut (Siral.read (0 ∷ 0 ∷ 5 ∷ 38 ∷ 91 ∷ 255 ∷ 3 ∷ 231 ∷ 0 ∷ 1 ∷ [])) (answered S.Tai (pos 1) 1)
+    (siralRound (0 ∷ 0 ∷ 5 ∷ 38 ∷ 91 ∷ 255 ∷ 3 ∷ 231 ∷ 0 ∷ 1 ∷ [])) (answered S.Tai (pos 0) 1)
+unfolding Siral.read number
+siral-round = (refl, refl, differ (λ (t : Slip). natAbs (t .day)) (λ e. omega arith))
+
+-- each unit rounded by itself
+abbrev siralTwos : List ℕ → Slip
+siralTwos s =
+    dated S.Tai
+    (outcome (andThen (FR.reading s)
+    (λ (f : R.Fields). judged S.Tai (momentFrom Cryosat.epoch (Siral.sixteenths (f .day) (f .millisecond) (f .microsecond) 0 / 16 + f .extra * 2)))))
+
+pub siral-twos : ShutOut (Siral.read (0 ∷ 1 ∷ 0 ∷ 0 ∷ 0 ∷ 0 ∷ 0 ∷ 0 ∷ 0 ∷ 16 ∷ [])) (answered S.Tai (pos 1) 33)
+    (siralTwos (0 ∷ 1 ∷ 0 ∷ 0 ∷ 0 ∷ 0 ∷ 0 ∷ 0 ∷ 0 ∷ 16 ∷ [])) (answered S.Tai (pos 1) 32)
+unfolding Siral.read number
+siral-twos = (refl, refl, byMicro (λ e. omega arith))
+
+-- ---- SIRAL write
+-- the extra counter left as it was
+abbrev siralEight : Handed → List ℕ → Wrote
+siralEight h out = Cryosat.write h out
+
+pub siral-eight : ShutOut (Siral.write (tai (pos 1) 2003) (sevens 11)) (got 10 (0 ∷ 1 ∷ 0 ∷ 0 ∷ 0 ∷ 2 ∷ 0 ∷ 3 ∷ 0 ∷ 0 ∷ 7 ∷ []))
+    (siralEight (tai (pos 1) 2003) (sevens 11)) (got 8 (0 ∷ 1 ∷ 0 ∷ 0 ∷ 0 ∷ 2 ∷ 0 ∷ 3 ∷ 7 ∷ 7 ∷ 7 ∷ []))
+unfolding Siral.write Cryosat.write field
+siral-eight = (refl, refl, differ (bytesAt 8) (λ e. omega arith))
+
+pub siral-scribbling : ShutOut (Siral.write (tai (pos 1) 2003) (sevens 8)) (keeps 13 (sevens 8)) (scribbling (Siral.write (tai (pos 1) 2003) (sevens 8)))
+    (keeps 13 (0 ∷ 7 ∷ 7 ∷ 7 ∷ 7 ∷ 7 ∷ 7 ∷ 7 ∷ []))
+unfolding Siral.write field
+siral-scribbling = (refl, refl, differ (bytesAt 0) (λ e. omega arith))

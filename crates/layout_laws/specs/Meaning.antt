@@ -1,0 +1,57 @@
+-- What is promised of a layout: bytes and fields are exact both ways, and what is written of a time is read as the last that is
+-- not later. Assumes nothing.
+use mathlib.Core.Path.{_≡_}
+use mathlib.Core.Bool.{Bool}
+use mathlib.Core.List.{List}
+use Prim.Native.Nat.{ℕ, _≤_}
+use lib.Dec.{T}
+use lib.Ieee.{binary64, fits}
+use lib.ListN.{length, take}
+use Rattle.octets.specs.Field.{Bytes}
+use Rattle.scales.specs.Meaning.{answer, Slip, dated, recordOf, Wrote, written}
+use Rattle.scales.specs.Place.{countOf}
+use Rattle.scales.specs.declared.Handed.{Handed}
+use Rattle.scales.specs.declared.Handed.the-variants as H
+use Rattle.decimal.specs.Meaning.{scaleOf, dayOf, microOf}
+use Rattle.decimal.specs.Told.{countIn}
+use Rattle.layout_fields.specs.Meaning.{Valued, valued}
+use Rattle.layout_times.specs.Proteus as Proteus
+
+-- the bytes that a writer answered with
+abbrev pub image : Wrote → List ℕ
+image w = take (w .length) (w .bytes)
+
+-- "Bytes to fields and back are exact in every layout", for every byte string and all fields that are answered: `zero` are the
+-- empty fields, and `Fits` says that a value fits the type of its field
+pub record Exact {A : Type 0} (zero : A) (Fits : A → Type 0) (read : List ℕ → Valued A) (write : A → List ℕ → Wrote) : Type 0 where
+  pub bytes-back : (s out : List ℕ) → Bytes s → read s .number ≡ 0 → length s ≤ length out → write (read s .value) out ≡ written out (answer s)
+  pub fields-back : (a : A) (out : List ℕ) → Fits a → write a out .number ≡ 0 → read (image (write a out)) ≡ valued zero (answer a)
+
+-- what is handed in as a decimal day is an f64
+abbrev pub Real : Handed → Type 0
+Real (H.Record r) = 0 ≤ 0
+Real (H.Decimal x s) = T (fits binary64 x)
+
+-- the record that an answered time is
+abbrev pub recordIn : Slip → Handed
+recordIn t = H.Record (recordOf (t .scale) (t .day) (t .micro))
+
+-- the place of an answered time among those of its scale
+abbrev pub placeAt : Slip → ℕ
+placeAt t = countOf (t .scale) (t .day) (t .micro)
+
+-- the bytes s are read as the handed time
+abbrev pub SameTime : (List ℕ → Slip) → Handed → List ℕ → Type 0
+SameTime read h s = read s ≡ dated (scaleOf h) (answer (record { day = dayOf h; micro = microOf h }))
+
+-- the bytes s are read as a time that is not later than the handed one, and no bytes are read as a time between
+pub record LastNotLater (read : List ℕ → Slip) (h : Handed) (s : List ℕ) : Type 0 where
+  pub answered : read s .number ≡ 0
+  pub scale : read s .scale ≡ scaleOf h
+  pub not-later : placeAt (read s) ≤ countIn h
+  pub last : (t : List ℕ) → Bytes t → read t .number ≡ 0 → placeAt (read t) ≤ countIn h → placeAt (read t) ≤ placeAt (read s)
+
+-- Proteus: the same of the record, and H3 as it was given
+pub record LastWithH3 (h : Handed) (b : Bool) (s : List ℕ) : Type 0 where
+  pub time : LastNotLater (λ (t : List ℕ). Proteus.read t .slip) h s
+  pub h3 : Proteus.read s .h3 ≡ b

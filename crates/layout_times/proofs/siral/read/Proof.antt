@@ -1,0 +1,45 @@
+-- `layouts::siral::read` meets its contract. Assumes nothing.
+use denote.Ref.{now}
+use mathlib.Core.Path.{refl, sym, ap, _∙_}
+use Rattle.scales.specs.declared.Scale.the-variants as S
+use Rattle.layout_fields.specs.Siral.{reading as fieldsReading, empty, slip as fieldsSlip, read as fieldsRead}
+use Rattle.layout_times.specs.Chain.{read-no, read-at}
+use Rattle.layout_times.specs.Cryosat.{epoch}
+use Rattle.layout_times.specs.Siral.{microsOf, read}
+use Rattle.layout_times.proofs.Ways.{siral-micros}
+use borrow.Author.Needs.{needs}
+use Rattle.layout_times.proofs.siral.read.Statement.{statement}
+use Rattle.layout_times.proofs.siral.read.Tie as tie
+
+returns : tie.Need-returns
+unfolding read fieldsRead
+returns c =
+    let m = c .before .before in
+    let k = m .before .before in
+    let f = k .f .given .0 .0 in
+    let b = k .before .before in
+    let s = now (b .before .before .args .b) in
+    c .since .ensures
+    ∙ read-at S.Tai epoch microsOf empty (fieldsReading s) refl f (sym (ap fieldsSlip (k .f .given .1)) ∙ b .read .ensures) _ (siral-micros (m .micros .result) _ (f .extra) (m .micros .ensures))
+
+returns-2 : tie.Need-returns-2
+unfolding read fieldsRead
+returns-2 c =
+    let k = c .before in
+    let b = k .before .before in
+    read-no S.Tai epoch microsOf empty (fieldsReading (now (b .before .before .args .b))) (k .r .given .0 .0) (sym (ap fieldsSlip (k .r .given .1)) ∙ b .read .ensures)
+
+pub read-spec : {M : Type 1} → statement M
+read-spec =
+    tie.close
+    (tie.spec
+    (λ c κs. search needs)
+    (λ c. search needs)
+    (λ c κs. search needs)
+    (λ c. search needs)
+    (λ c. search needs)
+    (λ c. search needs)
+    (λ c κs. search needs)
+    (λ c. search needs)
+    returns
+    returns-2)
