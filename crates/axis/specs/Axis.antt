@@ -1,11 +1,14 @@
--- The laws of the three axes in use, days, microseconds and counts, and how they meet. Assumes nothing.
-use mathlib.Core.Path.{_≡_}
-use Prim.Native.Nat.{ℕ, _/_, _%_, _≤_, _<_}
-use lib.Dec.{leb, lit<}
-use lib.IntN.{ℤ}
-use lib.Signed.{leZ}
-use Rattle.axis.specs.Meaning.{placeOfDay, dayAt, placeOfMicros, microsAt, placeOfCounts, countsAt, floorZ, modZ}
-use Rattle.axis.specs.Diff.{sub-floor, sub-mod, sub-le-same, sub-inj-same}
+-- The laws of the three axes in use, days, microseconds and counts, and how they meet: a day and a microsecond of day by the
+-- place of their microseconds since day 0. Assumes nothing.
+use mathlib.Core.Path.{_≡_, sym, ap, ap₂, _∙_}
+use Prim.Native.Nat.{ℕ, _+_, _-_, _*_, _/_, _%_, _≤_, _<_}
+use native.Mathlib.Omega.{arith}
+use lib.Dec.{leb, ltb, lit<}
+use lib.IntN.{ℤ, pos, subℕ, _+ℤ_, _-ℤ_}
+use lib.Signed.{leZ, ltZ}
+use borrow.Author.Tests.{lt-ltb, le-ltb}
+use Rattle.axis.specs.Meaning.{placeOfDay, dayAt, placeOfMicros, microsAt, placeOfCounts, countsAt, floorZ, modZ, dayMicros, Moment, since, momentOf}
+use Rattle.axis.specs.Diff.{is-pos, sub-add, sub-mul, sub-lt, sub-floor, sub-mod, sub-le-same, sub-inj-same, Way, way, below, above}
 use Rattle.axis.specs.Shift as F
 
 -- ---- days
@@ -27,6 +30,19 @@ day-le a b = sub-le-same 40000 a b
 pub day-inj : (a b : ℕ) → dayAt a ≡ dayAt b → a ≡ b
 day-inj a b e = sub-inj-same 40000 a b e
 
+pub day-lt : (a b : ℕ) → ltZ (dayAt a) (dayAt b) ≡ ltb a b
+day-lt a b = sub-lt a 40000 b 40000 ∙ go (way a b)
+  where
+    go : Way a b → ltb (a + 40000) (b + 40000) ≡ ltb a b
+    go (below h) = rw (lt-ltb a b h) (lt-ltb (a + 40000) (b + 40000) (omega arith))
+    go (above h) = rw (le-ltb a b h) (le-ltb (a + 40000) (b + 40000) (omega arith))
+
+pub day-next : (a : ℕ) → dayAt a +ℤ pos 1 ≡ dayAt (a + 1)
+day-next a = sym (F.number-add 40000 a 1)
+
+pub day-before : (a : ℕ) → 0 < a → dayAt a -ℤ pos 1 ≡ dayAt (a - 1)
+day-before a h = F.number-minus 40000 a 1 h
+
 -- ---- microseconds since day 0
 pub place-micros : (m : ℕ) → m ≤ 8640000000000000 → placeOfMicros (microsAt m) ≡ m
 place-micros m h = F.place-of 3456000000000000 8640000000000000 m h
@@ -40,6 +56,24 @@ micros-day m = sub-floor m 40000 86400000000 (lit< tt)
 
 pub micros-left : (m : ℕ) → modZ (microsAt m) 86400000000 ≡ m % 86400000000
 micros-left m = sub-mod m 40000 86400000000 (lit< tt)
+
+pub micros-le : (a b : ℕ) → leZ (microsAt a) (microsAt b) ≡ leb a b
+micros-le a b = sub-le-same 3456000000000000 a b
+
+pub micros-add : (c k : ℕ) → microsAt c +ℤ pos k ≡ microsAt (c + k)
+micros-add c k = sym (F.number-add 3456000000000000 c k)
+
+pub micros-minus : (c k : ℕ) → k ≤ c → microsAt c -ℤ pos k ≡ microsAt (c - k)
+micros-minus c k h = F.number-minus 3456000000000000 c k h
+
+-- a day and a microsecond there and back
+pub since-at : (p u : ℕ) → since (dayAt p) u ≡ microsAt (p * dayMicros + u)
+since-at p u =
+    ap (λ (z : ℤ). z +ℤ pos u) (sub-mul p 40000 dayMicros) ∙ ap (λ (z : ℤ). subℕ (p * dayMicros) (40000 * dayMicros) +ℤ z) (is-pos u)
+    ∙ sub-add (p * dayMicros) (40000 * dayMicros) u 0
+
+pub moment-at : (c : ℕ) → momentOf (microsAt c) ≡ record { day = dayAt (c / dayMicros); micro = c % dayMicros }
+moment-at c = ap₂ {C = Moment} (λ (d : ℤ) (u : ℕ). record { day = d; micro = u }) (micros-day c) (micros-left c)
 
 -- ---- counts of 1/65536 s since day 0
 pub counts-place : (n : ℤ) → 0 < placeOfCounts n → placeOfCounts n < 566231040000000 → countsAt (placeOfCounts n) ≡ n

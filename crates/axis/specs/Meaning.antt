@@ -1,7 +1,8 @@
 -- The one axis of the product: a day, or a microsecond or a count since day 0, as a natural number. Days -40000 to 60000 stand at
--- places 0 to 100000, and every span lies well within; what lies outside stands at the nearer end. Assumes nothing.
+-- places 0 to 100000, and every span lies well within; what lies outside stands at the nearer end. And days of 86,400 s: a day
+-- and a microsecond as microseconds since day 0, and back. Assumes nothing.
 use Prim.Native.Nat.{ℕ, suc, _+_, _-_, _/_, _%_, min}
-use lib.IntN.{ℤ, pos, negsuc, subℕ}
+use lib.IntN.{ℤ, pos, negsuc, subℕ, _+ℤ_, _*ℤ_}
 
 -- the place of z on an axis that begins at -b and ends at t - b: z + b, held between 0 and t
 abbrev pub place : ℕ → ℕ → ℤ → ℕ
@@ -41,3 +42,19 @@ floorZ (negsuc a) m = negsuc (a / m)
 abbrev pub modZ : ℤ → ℕ → ℕ
 modZ (pos a) m = a % m
 modZ (negsuc a) m = m - suc (a % m)
+
+-- ---- days of 86,400 s
+abbrev pub dayMicros : ℕ
+dayMicros = 86400000000
+
+-- a day and a microsecond of that day
+pub record Moment : Type 0 where
+  pub day : ℤ
+  pub micro : ℕ
+
+-- the microseconds since day 0 of microsecond u of day d, and back
+abbrev pub since : ℤ → ℕ → ℤ
+since d u = d *ℤ pos dayMicros +ℤ pos u
+
+abbrev pub momentOf : ℤ → Moment
+momentOf c = record { day = floorZ c dayMicros; micro = modZ c dayMicros }

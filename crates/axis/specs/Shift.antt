@@ -4,10 +4,10 @@ use mathlib.Core.Path.{_≡_, sym, ap, _∙_}
 use Prim.Native.Nat.{ℕ, suc, _+_, _-_, _≤_, _<_, min}
 use native.Mathlib.Omega.{arith}
 use lib.Dec.{leb}
-use lib.IntN.{ℤ, pos, negsuc, subℕ, _+ℤ_}
+use lib.IntN.{ℤ, pos, negsuc, subℕ, _+ℤ_, _-ℤ_}
 use lib.Signed.{leZ}
 use Rattle.axis.specs.Meaning.{place}
-use Rattle.axis.specs.Diff.{sub-pos, sub-neg, sub-eq, sub-add, sub-le, is-pos, is-negsuc, Way, way, below, above, tests}
+use Rattle.axis.specs.Diff.{sub-pos, sub-neg, sub-eq, sub-add, sub-le, is-pos, is-negsuc, neg-pos, Way, way, below, above, tests}
 
 module _ (b t : ℕ) where
   pub place-top : (z : ℤ) → place b t z ≤ t
@@ -43,3 +43,7 @@ module _ (b t : ℕ) where
 pub number-add : (b a n : ℕ) → subℕ (a + n) b ≡ subℕ a b +ℤ pos n
 number-add b a n =
     sym (ap (λ (x : ℤ). subℕ a b +ℤ x) (is-pos n) ∙ sub-add a b n 0 ∙ sub-eq (a + n) (b + 0) (a + n) b (omega arith))
+
+pub number-minus : (b a n : ℕ) → n ≤ a → subℕ a b -ℤ pos n ≡ subℕ (a - n) b
+number-minus b a n h =
+    ap (λ (z : ℤ). subℕ a b +ℤ z) (neg-pos n) ∙ sub-add a b 0 n ∙ sub-eq (a + 0) (b + n) (a - n) b (omega arith)

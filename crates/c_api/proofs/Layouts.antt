@@ -7,11 +7,11 @@ use Prim.Native.Nat.{ℕ}
 use native.Mathlib.Omega.{arith}
 use Rattle.scales.specs.Meaning.{Judged, given, outcome, written}
 use Rattle.scales.specs.Order.{Refuses, here, later, refuses-is}
-use Rattle.scales.specs.declared.Handed.{Handed}
+use Rattle.handed.specs.declared.Handed.{Handed}
 use Rattle.c_api.specs.declared.VrkHanded.{VrkHanded}
 use Rattle.c_api.specs.declared.Given.the-variants as G
 use Rattle.text_write.specs.declared.Form.{Form}
-use Rattle.c_api.specs.declared.texts.Named.the-variants as N
+use Rattle.c_api.specs.declared.texts.FormNamed.the-variants as N
 use Rattle.c_api.specs.Texts.{knownForm, formAt, namedForm}
 use Rattle.c_api.specs.Meaning.{givenOf}
 use Rattle.c_api.specs.Bytes.{wroteOf, writes, handedWriting}

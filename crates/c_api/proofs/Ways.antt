@@ -9,11 +9,12 @@ use lib.Ieee.{Float}
 use borrow.Author.Tests.{eq-eqb, ne-eqb, le-leb, lt-leb, leb-false}
 use Rattle.scales.specs.declared.Scale.{Scale}
 use Rattle.scales.specs.declared.Scale.the-variants as S
-use Rattle.scales.specs.declared.Handed.{Handed}
-use Rattle.scales.specs.declared.Handed.the-variants as H
+use Rattle.handed.specs.declared.Handed.{Handed}
+use Rattle.handed.specs.declared.Handed.the-variants as H
 use Rattle.scales.specs.Meaning.{codeOf, scaleAt, recordOf}
 use Rattle.scales.specs.Place.{and-false}
-use Rattle.decimal.specs.Meaning.{readOf, WroteDay, decimalSlip, plusZero}
+use Rattle.double.specs.Meaning.{plusZero}
+use Rattle.decimal.specs.Meaning.{readOf, WroteDay, decimalSlip}
 use Rattle.decimal.specs.declared.Decimal.{Decimal}
 use Rattle.sbt.specs.Meaning.{tickOf}
 use Rattle.goce.specs.Meaning.{obtOf}
@@ -22,9 +23,8 @@ use Rattle.c_api.specs.declared.VrkSbtCorrelation.{VrkSbtCorrelation}
 use Rattle.c_api.specs.declared.VrkHanded.{VrkHanded}
 use Rattle.c_api.specs.declared.counts.VrkGoceCorrelation.{VrkGoceCorrelation}
 use Rattle.c_api.specs.declared.Given.the-variants as G
-use Rattle.c_api.specs.declared.Named.the-variants as N
-use Rattle.c_api.specs.Meaning.{knownScale, known, handedOf, timeOut, decimalOut, decimalRead, DecimalWrote, correlationOf, tickOut, sbtTick, changed, namedBy, givenOf}
-use Rattle.c_api.specs.Bytes.{countOut}
+use Rattle.c_api.specs.declared.ScaleNamed.the-variants as N
+use Rattle.c_api.specs.Meaning.{knownScale, known, handedOf, timeOut, decimalOut, decimalRead, DecimalWrote, correlationOf, countOut, sbtTick, changed, namedBy, givenOf}
 use Rattle.c_api.specs.Counts.{goceOf, goceCount}
 
 -- ---- an answer picked by a test tells the test
@@ -127,7 +127,7 @@ module _ (c : VrkSbtCorrelation) (d : ℤ) (q : d ≡ c .day) where
   unfolding correlationOf
   correlate-unknown e = let k = named-bad (c .scale) e in rw (k, unknown-tai (c .scale) k, q)
 
-pub tick-known : (h : VrkHanded) (c : VrkSbtCorrelation) (t : Handed) → givenOf h ≡ G.Handed t → tickOut (tickOf (correlationOf c) t) ≡ sbtTick h c
+pub tick-known : (h : VrkHanded) (c : VrkSbtCorrelation) (t : Handed) → givenOf h ≡ G.Handed t → countOut (tickOf (correlationOf c) t) ≡ sbtTick h c
 unfolding sbtTick tickOf
 tick-known h c t e = let k = given-good h t e in rw (k .0, k .1)
 

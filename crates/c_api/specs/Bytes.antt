@@ -3,10 +3,8 @@ use mathlib.Core.Bool.{Bool, cond}
 use mathlib.Core.List.{List}
 use Prim.Native.Nat.{ℕ}
 use lib.Dec.{eqb, leb}
-use Rattle.scales.specs.Meaning.{codeOf, Judged, given, outcome, Wrote, written}
-use Rattle.scales.specs.declared.Tick.{Tick}
-use Rattle.scales.specs.declared.Handed.{Handed}
-use Rattle.layout_fields.specs.Meaning.{Valued}
+use Rattle.scales.specs.Meaning.{codeOf, Judged, given, outcome, Wrote, written, Valued}
+use Rattle.handed.specs.declared.Handed.{Handed}
 use Rattle.layout_times.specs.Cuc as Cuc
 use Rattle.layout_times.specs.Cryosat as Cryosat
 use Rattle.layout_times.specs.Siral as Siral
@@ -20,12 +18,6 @@ use Rattle.c_api.specs.declared.bytes.Layout.{Layout}
 use Rattle.c_api.specs.declared.bytes.Layout.the-variants as L
 
 -- ---- what is handed out
-abbrev pub countOut : Valued ℕ → VrkCount
-countOut v = record { refusal = v .number; count = v .value }
-
-abbrev pub sbtOut : Valued Tick → VrkCount
-sbtOut v = record { refusal = v .number; count = v .value .0 }
-
 abbrev pub bitOf : Bool → ℕ
 bitOf b = cond b 1 0
 
@@ -40,11 +32,11 @@ proteusOut s =
     }
 
 -- the second argument is the lent slice as the writer leaves it
-abbrev pub wroteOf : VrkWritten → List ℕ → Wrote
-wroteOf r out = record { number = r .refusal; length = r .length; bytes = out }
+abbrev pub wroteOf : VrkWritten → List ℕ → Wrote ℕ
+wroteOf r out = record { number = r .refusal; length = r .length; lent = out }
 
 -- ---- writers: a number that stands for nothing is refused 3, before what the library judges
-unfoldable pub writes : (List ℕ → Judged (List ℕ)) → List ℕ → Wrote
+unfoldable pub writes : (List ℕ → Judged (List ℕ)) → List ℕ → Wrote ℕ
 writes m out = written out (outcome (m out))
 
 abbrev pub handedWriting : (Handed → List ℕ → Judged (List ℕ)) → VrkHanded → List ℕ → Judged (List ℕ)

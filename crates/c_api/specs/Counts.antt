@@ -1,12 +1,10 @@
 -- What the functions on GOCE's counts of the C interface mean. Assumes nothing.
 use Prim.Native.Nat.{ℕ}
 use lib.IntN.{ℤ}
-use Rattle.scales.specs.Meaning.{given, outcome}
-use Rattle.layout_fields.specs.Meaning.{valued}
+use Rattle.scales.specs.Meaning.{given, outcome, valued}
 use Rattle.goce.specs.Meaning.{dateOf, turning}
 use Rattle.goce.specs.declared.Correlation.{Correlation}
-use Rattle.c_api.specs.Meaning.{known, handedOf, timeOut}
-use Rattle.c_api.specs.Bytes.{countOut}
+use Rattle.c_api.specs.Meaning.{known, handedOf, timeOut, countOut}
 use Rattle.c_api.specs.declared.VrkCount.{VrkCount}
 use Rattle.c_api.specs.declared.VrkHanded.{VrkHanded}
 use Rattle.c_api.specs.declared.VrkTime.{VrkTime}

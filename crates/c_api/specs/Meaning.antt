@@ -6,11 +6,12 @@ use Prim.Native.Nat.{ℕ}
 use lib.Dec.{eqb, leb}
 use lib.IntN.{ℤ}
 use lib.Ieee.{Float}
-use Rattle.scales.specs.declared.Handed.{Handed}
-use Rattle.scales.specs.declared.Handed.the-variants as H
-use Rattle.scales.specs.Meaning.{codeOf, scaleAt, given, outcome, Slip, dated, recordOf, Judged, Moment}
-use Rattle.decimal.specs.Meaning.{reading, writing, DecimalSlip, Allowed}
-use Rattle.sbt.specs.Meaning.{TickSlip, ticked, dateOf, turning}
+use Rattle.axis.specs.Meaning.{Moment}
+use Rattle.handed.specs.declared.Handed.{Handed}
+use Rattle.handed.specs.declared.Handed.the-variants as H
+use Rattle.scales.specs.Meaning.{codeOf, scaleAt, given, outcome, Slip, dated, recordOf, Judged, Valued, valued}
+use Rattle.decimal.specs.Meaning.{reading, writing, Allowed}
+use Rattle.sbt.specs.Meaning.{dateOf, turning}
 use Rattle.sbt.specs.declared.Correlation.{Correlation}
 use Rattle.leap.specs.Meaning.{accepted}
 use Rattle.changes.specs.Meaning.{changing}
@@ -21,8 +22,8 @@ use Rattle.c_api.specs.declared.VrkHanded.{VrkHanded}
 use Rattle.c_api.specs.declared.VrkDecimal.{VrkDecimal}
 use Rattle.c_api.specs.declared.Given.{Given}
 use Rattle.c_api.specs.declared.Given.the-variants as G
-use Rattle.c_api.specs.declared.Named.{Named}
-use Rattle.c_api.specs.declared.Named.the-variants as N
+use Rattle.c_api.specs.declared.ScaleNamed.{ScaleNamed}
+use Rattle.c_api.specs.declared.ScaleNamed.the-variants as N
 
 -- ---- scales by code: 0 TAI, 1 UTC, 2 GPS; one that is unknown stands for scale 0 in the empty record
 abbrev pub knownScale : ℕ → Bool
@@ -41,15 +42,18 @@ handedOf h =
 abbrev pub timeOut : Slip → VrkTime
 timeOut s = record { refusal = s .number; scale = codeOf (s .scale); day = s .day; micro = s .micro }
 
-abbrev pub decimalOut : DecimalSlip → VrkDecimal
-decimalOut w = record { refusal = w .number; day = w .day }
+abbrev pub countOut : Valued ℕ → VrkCount
+countOut v = record { refusal = v .number; count = v .value }
+
+abbrev pub decimalOut : Valued Float → VrkDecimal
+decimalOut w = record { refusal = w .number; day = w .value }
 
 -- ---- the functions
 unfoldable pub decimalRead : Float → ℕ → VrkTime
 decimalRead x c = timeOut (dated (scaleAt c) (outcome (given (knownScale c) 3 (reading x (scaleAt c)))))
 
 unfoldable pub DecimalWrote : VrkHanded → VrkDecimal → Type 0
-DecimalWrote h r = Allowed (outcome (given (known h) 3 (writing (handedOf h)))) (record { number = r .refusal; day = r .day })
+DecimalWrote h r = Allowed (outcome (given (known h) 3 (writing (handedOf h)))) (record { number = r .refusal; value = r .day })
 
 -- a correlation of an unknown scale is one that is not accepted: its period is 0
 unfoldable pub correlationOf : VrkSbtCorrelation → Correlation
@@ -64,14 +68,11 @@ correlationOf c =
       ahead = c .ahead;
     }
 
-abbrev pub tickOut : TickSlip → VrkCount
-tickOut s = record { refusal = s .number; count = s .tick }
-
 unfoldable pub sbtDate : ℕ → VrkSbtCorrelation → ℤ → ℕ → VrkTime
 sbtDate t c d u = timeOut (dateOf (correlationOf c) t d u)
 
 unfoldable pub sbtTick : VrkHanded → VrkSbtCorrelation → VrkCount
-sbtTick h c = tickOut (ticked (outcome (given (known h) 3 (turning (correlationOf c) (handedOf h)))))
+sbtTick h c = countOut (valued 0 (outcome (given (known h) 3 (turning (correlationOf c) (handedOf h)))))
 
 abbrev pub listAccepted : List ℤ → List ℕ → ℤ → ℕ
 listAccepted ds os e = cond (accepted ds os e) 1 0
@@ -85,7 +86,7 @@ unfoldable pub changed : VrkHanded → ℕ → List ℤ → List ℕ → ℤ →
 changed h c ds os e = timeOut (dated (scaleAt c) (outcome (changingOf h c ds os e)))
 
 -- ---- the inner answers
-unfoldable pub namedBy : ℕ → Named
+unfoldable pub namedBy : ℕ → ScaleNamed
 namedBy c = cond (knownScale c) (N.Scale (scaleAt c)) N.Unknown
 
 unfoldable pub givenOf : VrkHanded → Given

@@ -4,8 +4,7 @@ use mathlib.Core.Bool.{Bool, _&&_}
 use mathlib.Core.List.{List}
 use Prim.Native.Nat.{ℕ}
 use lib.Dec.{eqb, leb, ltb}
-use Rattle.scales.specs.Meaning.{Judged, given}
-use Rattle.layout_fields.specs.Meaning.{Valued}
+use Rattle.scales.specs.Meaning.{Judged, given, Valued}
 use Rattle.layout_fields.specs.Cuc as Cuc
 use Rattle.layout_fields.specs.Proteus as Proteus
 use Rattle.layout_fields.specs.Cryosat as Cryosat

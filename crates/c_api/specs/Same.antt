@@ -6,4 +6,4 @@ use Rattle.c_api.specs.Bytes.{wroteOf}
 use Rattle.c_api.specs.declared.bytes.VrkWritten.{VrkWritten}
 
 pub same-wrote-of : (a b : VrkWritten) (x y : List ℕ) → wroteOf a x ≡ wroteOf b y → (a ≡ b) × (x ≡ y)
-same-wrote-of a b x y e = (λ i. record { refusal = e i .number; length = e i .length }, λ i. e i .bytes)
+same-wrote-of a b x y e = (λ i. record { refusal = e i .number; length = e i .length }, λ i. e i .lent)

@@ -2,8 +2,7 @@
 ghost use mathlib.Core.Path.{_≡_};
 ghost use mathlib.Core.List.{List};
 ghost use Prim.Native.Nat.{ℕ};
-ghost use Rattle.scales.specs.Meaning.{wrote};
-ghost use Rattle.layout_fields.specs.Meaning.{countSlip};
+ghost use Rattle.scales.specs.Meaning.{wrote, countSlip};
 ghost use Rattle.layout_fields.specs.Goce.{read as goceRead, write as goceWrite};
 ghost use Rattle.layout_fields.specs.Obet.{read as obetRead, write as obetWrite};
 ghost use Rattle.layout_fields.specs.Sbt.{read as sbtRead, write as sbtWrite};
@@ -11,8 +10,8 @@ ghost use Rattle.layout_times.specs.Cuc.{read as cucRead, writing as cucWriting
 ghost use Rattle.layout_times.specs.Cryosat.{read as cryosatRead, writing as cryosatWriting};
 ghost use Rattle.layout_times.specs.Siral.{read as siralRead, writing as siralWriting};
 ghost use Rattle.layout_times.specs.Proteus.{read as proteusRead};
-ghost use Rattle.c_api.specs.Meaning.{timeOut};
-ghost use Rattle.c_api.specs.Bytes.{countOut, sbtOut, bitOf, proteusOut, wroteOf, writes, handedWriting, proteusWriting, writingOf};
+ghost use Rattle.c_api.specs.Meaning.{timeOut, countOut};
+ghost use Rattle.c_api.specs.Bytes.{bitOf, proteusOut, wroteOf, writes, handedWriting, proteusWriting, writingOf};
 use crate::Given;
 use crate::VrkCount;
 use crate::VrkHanded;
@@ -20,8 +19,8 @@ use crate::VrkTime;
 use crate::hand;
 use crate::tick_out;
 use crate::time_out;
-use layout_fields::Counting;
 use layout_times::proteus::ProteusDated;
+use scales::Counted;
 use scales::Tick;
 use scales::Written;
 
@@ -88,12 +87,12 @@ pub extern "C" fn vrk_siral_read(bytes: &[u8]) -> VrkTime
     time_out(layout_times::siral::read(bytes))
 }
 
-pub(crate) fn count_out(c: Counting) -> VrkCount
+pub(crate) fn count_out(c: Counted) -> VrkCount
     ensures { λ r. ⌜ r ≡ countOut (countSlip c) ⌝ }
 {
     match c {
-        Counting::Count(count) => VrkCount { refusal: 0, count },
-        Counting::Refused(f) => VrkCount {
+        Counted::Count(count) => VrkCount { refusal: 0, count },
+        Counted::Refused(f) => VrkCount {
             refusal: f.number(),
             count: 0,
         },
@@ -116,7 +115,7 @@ pub extern "C" fn vrk_obet_read(bytes: &[u8]) -> VrkCount
 
 #[no_mangle]
 pub extern "C" fn vrk_sbt_read(bytes: &[u8]) -> VrkCount
-    ensures { λ r. ⌜ r ≡ sbtOut (sbtRead (now (bytes .entry))) ⌝ }
+    ensures { λ r. ⌜ r ≡ countOut (sbtRead (now (bytes .entry))) ⌝ }
 {
     tick_out(layout_fields::sbt::read(bytes))
 }
@@ -183,7 +182,7 @@ pub extern "C" fn vrk_obet_write(count: u64, out: &mut [u8]) -> VrkWritten
 
 #[no_mangle]
 pub extern "C" fn vrk_sbt_write(tick: u32, out: &mut [u8]) -> VrkWritten
-    ensures { λ r. ⌜ wroteOf r (now (out .exit)) ≡ sbtWrite (record { 0 = tick }) (now (out .entry)) ⌝ }
+    ensures { λ r. ⌜ wroteOf r (now (out .exit)) ≡ sbtWrite tick (now (out .entry)) ⌝ }
 {
     written_out(layout_fields::sbt::write(Tick(tick), out))
 }

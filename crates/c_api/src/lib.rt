@@ -1,14 +1,13 @@
 // The C interface: each function a thin cover of a library function, with the same full contract. `include/vrikshonem.h`
 // says it for C.
 ghost use mathlib.Core.Path.{_≡_};
-ghost use Rattle.scales.specs.Meaning.{slip};
+ghost use Rattle.scales.specs.Meaning.{slip, tickSlip};
 ghost use Rattle.decimal.specs.Meaning.{decimalSlip};
-ghost use Rattle.sbt.specs.Meaning.{tickSlip};
-ghost use Rattle.c_api.specs.Meaning.{namedBy, givenOf, timeOut, decimalOut, tickOut, correlationOf, decimalRead, DecimalWrote, sbtDate, sbtTick, listAccepted, changed};
+ghost use Rattle.c_api.specs.Meaning.{namedBy, givenOf, timeOut, decimalOut, countOut, correlationOf, decimalRead, DecimalWrote, sbtDate, sbtTick, listAccepted, changed};
 use decimal::Decimal;
+use handed::Handed;
 use sbt::Correlation;
 use scales::Dated;
-use scales::Handed;
 use scales::Record;
 use scales::Scale;
 use scales::Tick;
@@ -59,7 +58,7 @@ pub struct VrkCount {
     pub count: u64,
 }
 
-enum Named {
+enum ScaleNamed {
     Scale(Scale),
     Unknown,
 }
@@ -69,19 +68,19 @@ enum Given {
     Unknown,
 }
 
-fn scale_named(code: u32) -> Named
+fn scale_named(code: u32) -> ScaleNamed
     ensures { λ r. ⌜ r ≡ namedBy code ⌝ }
 {
     if code == 0 {
-        return Named::Scale(Scale::Tai);
+        return ScaleNamed::Scale(Scale::Tai);
     }
     if code == 1 {
-        return Named::Scale(Scale::Utc);
+        return ScaleNamed::Scale(Scale::Utc);
     }
     if code == 2 {
-        return Named::Scale(Scale::Gps);
+        return ScaleNamed::Scale(Scale::Gps);
     }
-    Named::Unknown
+    ScaleNamed::Unknown
 }
 
 // What a caller in C hands in.
@@ -89,7 +88,7 @@ fn hand(h: VrkHanded) -> Given
     ensures { λ r. ⌜ r ≡ givenOf h ⌝ }
 {
     let kind = h.kind;
-    let Named::Scale(scale) = scale_named(h.scale) else {
+    let ScaleNamed::Scale(scale) = scale_named(h.scale) else {
         return Given::Unknown;
     };
     if kind == 0 {
@@ -140,8 +139,8 @@ pub extern "C" fn vrk_decimal_read(day: f64, scale: u32) -> VrkTime
     ensures { λ r. ⌜ r ≡ decimalRead day scale ⌝ }
 {
     match scale_named(scale) {
-        Named::Scale(s) => time_out(decimal::read(day, s)),
-        Named::Unknown => VrkTime {
+        ScaleNamed::Scale(s) => time_out(decimal::read(day, s)),
+        ScaleNamed::Unknown => VrkTime {
             refusal: 3,
             scale: 0,
             day: 0,
@@ -168,7 +167,7 @@ fn correlate(c: VrkSbtCorrelation) -> Correlation
     ensures { λ r. ⌜ r ≡ correlationOf c ⌝ }
 {
     match scale_named(c.scale) {
-        Named::Scale(scale) => Correlation {
+        ScaleNamed::Scale(scale) => Correlation {
             tick: Tick(c.tick),
             scale,
             day: c.day,
@@ -177,7 +176,7 @@ fn correlate(c: VrkSbtCorrelation) -> Correlation
             back: c.back,
             ahead: c.ahead,
         },
-        Named::Unknown => Correlation {
+        ScaleNamed::Unknown => Correlation {
             tick: Tick(c.tick),
             scale: Scale::Tai,
             day: c.day,
@@ -190,7 +189,7 @@ fn correlate(c: VrkSbtCorrelation) -> Correlation
 }
 
 pub(crate) fn tick_out(t: Ticked) -> VrkCount
-    ensures { λ r. ⌜ r ≡ tickOut (tickSlip t) ⌝ }
+    ensures { λ r. ⌜ r ≡ countOut (tickSlip t) ⌝ }
 {
     match t {
         Ticked::Tick(tick) => VrkCount {
@@ -254,7 +253,7 @@ pub extern "C" fn vrk_change(
 ) -> VrkTime
     ensures { λ r. ⌜ r ≡ changed time «to_scale» (now (days .entry)) (now (offsets .entry)) last ⌝ }
 {
-    let Named::Scale(to) = scale_named(to_scale) else {
+    let ScaleNamed::Scale(to) = scale_named(to_scale) else {
         return VrkTime {
             refusal: 3,
             scale: 0,

@@ -10,6 +10,10 @@ use crate::bytes::REFUSED;
 use crate::bytes::VrkWritten;
 use crate::bytes::bit;
 use crate::bytes::written_out;
+use layout_fields::cryosat::CryosatParted;
+use layout_fields::cuc::CucParted;
+use layout_fields::proteus::ProteusParted;
+use layout_fields::siral::SiralParted;
 
 #[repr(C)]
 pub struct VrkCucFields {
@@ -49,12 +53,12 @@ pub extern "C" fn vrk_cuc_fields_read(bytes: &[u8]) -> VrkCucFields
     ensures { λ r. ⌜ r ≡ cucFields (cucRead (now (bytes .entry))) ⌝ }
 {
     match layout_fields::cuc::read(bytes) {
-        layout_fields::cuc::Parted::Fields(f) => VrkCucFields {
+        CucParted::Fields(f) => VrkCucFields {
             refusal: 0,
             seconds: f.seconds,
             fraction: f.fraction as u32,
         },
-        layout_fields::cuc::Parted::Refused(f) => VrkCucFields {
+        CucParted::Refused(f) => VrkCucFields {
             refusal: f.number(),
             seconds: 0,
             fraction: 0,
@@ -83,14 +87,14 @@ pub extern "C" fn vrk_proteus_fields_read(bytes: &[u8]) -> VrkProteusFields
     ensures { λ r. ⌜ r ≡ proteusFields (proteusRead (now (bytes .entry))) ⌝ }
 {
     match layout_fields::proteus::read(bytes) {
-        layout_fields::proteus::Parted::Fields(f) => VrkProteusFields {
+        ProteusParted::Fields(f) => VrkProteusFields {
             refusal: 0,
             week: f.week as u32,
             h3: bit(f.h3),
             second: f.second,
             fraction: f.fraction as u32,
         },
-        layout_fields::proteus::Parted::Refused(f) => VrkProteusFields {
+        ProteusParted::Refused(f) => VrkProteusFields {
             refusal: f.number(),
             week: 0,
             h3: 0,
@@ -129,13 +133,13 @@ pub extern "C" fn vrk_cryosat_fields_read(bytes: &[u8]) -> VrkCryosatFields
     ensures { λ r. ⌜ r ≡ cryosatFields (cryosatRead (now (bytes .entry))) ⌝ }
 {
     match layout_fields::cryosat::read(bytes) {
-        layout_fields::cryosat::Parted::Fields(f) => VrkCryosatFields {
+        CryosatParted::Fields(f) => VrkCryosatFields {
             refusal: 0,
             day: f.day as u32,
             millisecond: f.millisecond,
             microsecond: f.microsecond as u32,
         },
-        layout_fields::cryosat::Parted::Refused(f) => VrkCryosatFields {
+        CryosatParted::Refused(f) => VrkCryosatFields {
             refusal: f.number(),
             day: 0,
             millisecond: 0,
@@ -171,14 +175,14 @@ pub extern "C" fn vrk_siral_fields_read(bytes: &[u8]) -> VrkSiralFields
     ensures { λ r. ⌜ r ≡ siralFields (siralRead (now (bytes .entry))) ⌝ }
 {
     match layout_fields::siral::read(bytes) {
-        layout_fields::siral::Parted::Fields(f) => VrkSiralFields {
+        SiralParted::Fields(f) => VrkSiralFields {
             refusal: 0,
             day: f.day as u32,
             millisecond: f.millisecond,
             microsecond: f.microsecond as u32,
             extra: f.extra as u32,
         },
-        layout_fields::siral::Parted::Refused(f) => VrkSiralFields {
+        SiralParted::Refused(f) => VrkSiralFields {
             refusal: f.number(),
             day: 0,
             millisecond: 0,

@@ -15,20 +15,20 @@ use crate::time_out;
 use text_write::Form;
 
 // A form by its length.
-pub enum Named {
+pub enum FormNamed {
     Form(Form),
     Unknown,
 }
 
-fn form_named(length: u32) -> Named
+fn form_named(length: u32) -> FormNamed
     ensures { λ r. ⌜ r ≡ namedForm length ⌝ }
 {
     match length {
-        20 => Named::Form(Form::Plain),
-        24 => Named::Form(Form::Prefixed),
-        27 => Named::Form(Form::Micros),
-        31 => Named::Form(Form::PrefixedMicros),
-        _ => Named::Unknown,
+        20 => FormNamed::Form(Form::Plain),
+        24 => FormNamed::Form(Form::Prefixed),
+        27 => FormNamed::Form(Form::Micros),
+        31 => FormNamed::Form(Form::PrefixedMicros),
+        _ => FormNamed::Unknown,
     }
 }
 
@@ -50,7 +50,7 @@ pub extern "C" fn vrk_text_write(
 ) -> VrkWritten
     ensures { λ r. ⌜ wroteOf r (now (out .exit)) ≡ writes (handedWriting (textWriting form (now (days .entry)) (now (offsets .entry)) last) time) (now (out .entry)) ⌝ }
 {
-    let Named::Form(f) = form_named(form) else {
+    let FormNamed::Form(f) = form_named(form) else {
         return REFUSED;
     };
     match hand(time) {

@@ -4,13 +4,11 @@ use Prim.Native.Nat.{ℕ, _%_, _^_}
 use native.Mathlib.Omega.{arith}
 use lib.IntN.{ℤ, pos}
 use Rattle.evidence.specs.ShutOut.{ShutOut, differ}
-use Rattle.scales.specs.Meaning.{outcome}
-use Rattle.decimal.specs.Meaning.{plusZero}
-use Rattle.layout_fields.specs.Meaning.{valued}
+use Rattle.scales.specs.Meaning.{outcome, valued}
+use Rattle.double.specs.Meaning.{plusZero}
 use Rattle.clock.specs.Meaning.{inWindow, within, clock}
 use Rattle.goce.specs.Meaning.{accepted, dateOf, turning}
-use Rattle.c_api.specs.Meaning.{handedOf}
-use Rattle.c_api.specs.Bytes.{countOut}
+use Rattle.c_api.specs.Meaning.{handedOf, countOut}
 use Rattle.c_api.specs.Counts.{goceOf, goceDate, goceCount}
 use Rattle.c_api.specs.declared.VrkCount.{VrkCount}
 use Rattle.c_api.specs.declared.VrkTime.{VrkTime}

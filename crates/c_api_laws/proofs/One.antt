@@ -11,7 +11,7 @@ pub decimal-one : (h : VrkHanded) (a b : VrkDecimal) → DecimalWrote h a → De
 unfolding DecimalWrote
 decimal-one h a b p q =
     let e =
-    allowed-one (outcome (given (known h) 3 (writing (handedOf h)))) (record { number = a .refusal; day = a .day })
-    (record { number = b .refusal; day = b .day }) p q
+    allowed-one (outcome (given (known h) 3 (writing (handedOf h)))) (record { number = a .refusal; value = a .day })
+    (record { number = b .refusal; value = b .day }) p q
     in
-    λ i. record { refusal = e i .number; day = e i .day }
+    λ i. record { refusal = e i .number; day = e i .value }

@@ -6,7 +6,8 @@ use native.Mathlib.Omega.{arith}
 use lib.IntN.{ℤ, pos, negsuc}
 use Rattle.evidence.specs.ShutOut.{ShutOut, differ}
 use Rattle.octets.specs.Meaning.{number}
-use Rattle.layout_fields.specs.Meaning.{part, Valued}
+use Rattle.scales.specs.Meaning.{Valued}
+use Rattle.layout_fields.specs.Meaning.{part}
 use Rattle.layout_fields.specs.Cuc as FC
 use Rattle.layout_fields.specs.Proteus as FP
 use Rattle.layout_fields.specs.Cryosat as FY
@@ -18,8 +19,8 @@ use Rattle.layout_times.specs.Cuc as Cuc
 use Rattle.layout_times.specs.Proteus as Proteus
 use Rattle.layout_times.specs.Cryosat as Cryosat
 use Rattle.layout_times.specs.Siral as Siral
-use Rattle.c_api.specs.Meaning.{timeOut}
-use Rattle.c_api.specs.Bytes.{countOut, sbtOut, proteusOut}
+use Rattle.c_api.specs.Meaning.{timeOut, countOut}
+use Rattle.c_api.specs.Bytes.{proteusOut}
 use Rattle.c_api.specs.Parts.{cucFields, proteusFields, cryosatFields, siralFields}
 use Rattle.c_api.specs.declared.VrkTime.{VrkTime}
 use Rattle.c_api.specs.declared.VrkCount.{VrkCount}
@@ -112,11 +113,11 @@ unfolding Obet.read number
 obet-hands-back = (refl, refl, differ (λ (c : VrkCount). c .count) (λ e. omega arith))
 
 -- ---- vrk_sbt_read
-pub sbt-backwards : ShutOut (sbtOut (Sbt.read (1 ∷ 2 ∷ 3 ∷ 4 ∷ []))) (counted 0 16909060) (sbtOut (backwards Sbt.read (1 ∷ 2 ∷ 3 ∷ 4 ∷ []))) (counted 0 67305985)
+pub sbt-backwards : ShutOut (countOut (Sbt.read (1 ∷ 2 ∷ 3 ∷ 4 ∷ []))) (counted 0 16909060) (countOut (backwards Sbt.read (1 ∷ 2 ∷ 3 ∷ 4 ∷ []))) (counted 0 67305985)
 unfolding Sbt.read number
 sbt-backwards = (refl, refl, differ (λ (c : VrkCount). c .count) (λ e. omega arith))
 
-pub sbt-hands-back : ShutOut (sbtOut (Sbt.read (0 ∷ 0 ∷ 0 ∷ 1 ∷ 9 ∷ []))) (counted 1 0) (sbtOut (handsBack Sbt.tickOf Sbt.read (0 ∷ 0 ∷ 0 ∷ 1 ∷ 9 ∷ []))) (counted 1 1)
+pub sbt-hands-back : ShutOut (countOut (Sbt.read (0 ∷ 0 ∷ 0 ∷ 1 ∷ 9 ∷ []))) (counted 1 0) (countOut (handsBack (λ (s : List ℕ). part s 0 4) Sbt.read (0 ∷ 0 ∷ 0 ∷ 1 ∷ 9 ∷ []))) (counted 1 1)
 unfolding Sbt.read number
 sbt-hands-back = (refl, refl, differ (λ (c : VrkCount). c .count) (λ e. omega arith))
 

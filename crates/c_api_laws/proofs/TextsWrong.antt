@@ -6,10 +6,10 @@ use native.Mathlib.Omega.{arith}
 use lib.IntN.{pos}
 use Rattle.evidence.specs.ShutOut.{ShutOut, differ}
 use Rattle.scales.specs.Meaning.{Judged, Wrote}
-use Rattle.scales.specs.declared.Handed.{Handed}
+use Rattle.handed.specs.declared.Handed.{Handed}
 use Rattle.ground_laws.proofs.Desks.{keeps}
 use Rattle.calendar.specs.Meaning.{leap, monthLength, lengthOf, firstDay, isDate, dayAfter, daysTo, walk, dayOfDate, dateOfDay}
-use Rattle.decimal.specs.Meaning.{plusZero}
+use Rattle.double.specs.Meaning.{plusZero}
 use Rattle.text_read.specs.Meaning.{digitOf, twoOf, fourOf, names, letter, isNamed, seek, monthOf, hasMarks, microIn, stampIn, inLimits, prefixOf, hasPrefix, scaleIn, bodyIn, isPrefixRight, isBody, readText}
 use Rattle.text_write.specs.Meaning.{textOf, writing}
 use Rattle.text_laws.specs.Computed.{reads}
@@ -42,7 +42,7 @@ anyForm n h out = writing h (formAt n) [] [] (pos 0) out
 
 pub form-unknown : ShutOut (writes (handedWriting (textWriting 21 [] [] (pos 0)) (tai 0)) (9 ∷ [])) (keeps 3 (9 ∷ [])) (writes (handedWriting (anyForm 21) (tai 0)) (9 ∷ [])) (keeps 13 (9 ∷ []))
 unfolding writes textOf prefixOf
-form-unknown = (refl, refl, differ (λ (w : Wrote). w .number) (λ e. omega arith))
+form-unknown = (refl, refl, differ (λ (w : Wrote ℕ). w .number) (λ e. omega arith))
 
 -- a microsecond dropped where the form has none
 abbrev wholeSecond : VrkHanded → VrkHanded
@@ -51,6 +51,6 @@ wholeSecond h = record { kind = h .kind; scale = h .scale; day = h .day; micro =
 abbrev blank : List ℕ
 blank = 9 ∷ 9 ∷ 9 ∷ 9 ∷ 9 ∷ 9 ∷ 9 ∷ 9 ∷ 9 ∷ 9 ∷ 9 ∷ 9 ∷ 9 ∷ 9 ∷ 9 ∷ 9 ∷ 9 ∷ 9 ∷ 9 ∷ 9 ∷ 9 ∷ 9 ∷ 9 ∷ 9 ∷ []
 
-pub micro-dropped : ShutOut (writes (handedWriting (textWriting 24 [] [] (pos 0)) (tai 5)) blank) (keeps 12 blank) (writes (handedWriting (textWriting 24 [] [] (pos 0)) (wholeSecond (tai 5))) blank) (record { number = 0; length = 24; bytes = 84 ∷ 65 ∷ 73 ∷ 61 ∷ 48 ∷ 49 ∷ 45 ∷ 74 ∷ 65 ∷ 78 ∷ 45 ∷ 50 ∷ 48 ∷ 48 ∷ 48 ∷ 32 ∷ 48 ∷ 48 ∷ 58 ∷ 48 ∷ 48 ∷ 58 ∷ 48 ∷ 48 ∷ [] })
+pub micro-dropped : ShutOut (writes (handedWriting (textWriting 24 [] [] (pos 0)) (tai 5)) blank) (keeps 12 blank) (writes (handedWriting (textWriting 24 [] [] (pos 0)) (wholeSecond (tai 5))) blank) (record { number = 0; length = 24; lent = 84 ∷ 65 ∷ 73 ∷ 61 ∷ 48 ∷ 49 ∷ 45 ∷ 74 ∷ 65 ∷ 78 ∷ 45 ∷ 50 ∷ 48 ∷ 48 ∷ 48 ∷ 32 ∷ 48 ∷ 48 ∷ 58 ∷ 48 ∷ 48 ∷ 58 ∷ 48 ∷ 48 ∷ [] })
 unfolding writes textOf prefixOf letter names dateOfDay daysTo dayAfter walk firstDay lengthOf monthLength leap
-micro-dropped = (refl, refl, differ (λ (w : Wrote). w .number) (λ e. omega arith))
+micro-dropped = (refl, refl, differ (λ (w : Wrote ℕ). w .number) (λ e. omega arith))

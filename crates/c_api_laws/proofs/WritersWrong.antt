@@ -7,8 +7,8 @@ use lib.IntN.{ℤ, pos, negsuc}
 use Rattle.evidence.specs.ShutOut.{ShutOut, differ}
 use Rattle.octets.specs.Meaning.{field, hasRoom}
 use Rattle.scales.specs.Meaning.{given, outcome, Wrote, written}
+use Rattle.double.specs.Meaning.{plusZero}
 use Rattle.ground_laws.proofs.Desks.{got, keeps, bytesAt, writesNothing, madeUp, clearing, scribbling, sevens}
-use Rattle.decimal.specs.Meaning.{plusZero}
 use Rattle.layout_fields.specs.Goce as Goce
 use Rattle.layout_fields.specs.Obet as Obet
 use Rattle.layout_fields.specs.Sbt as Sbt
@@ -24,7 +24,7 @@ use Rattle.c_api.specs.declared.VrkHanded.{VrkHanded}
 abbrev handed : ℕ → ℕ → ℤ → ℕ → VrkHanded
 handed k s d u = record { kind = k; scale = s; day = d; micro = u; decimal = plusZero }
 
-abbrev lengthIn : Wrote → ℕ
+abbrev lengthIn : Wrote ℕ → ℕ
 lengthIn w = w .length
 
 -- a kind cut to its last bit, a scale to its last two: what stands for nothing is taken for a record, or for TAI, UTC or GPS
@@ -33,12 +33,12 @@ lastBits h = record { kind = h .kind % 2; scale = h .scale % 4; day = h .day; mi
 
 -- ---- vrk_cuc_write
 -- an unknown kind judged after the room
-abbrev roomFirst : VrkHanded → List ℕ → Wrote
+abbrev roomFirst : VrkHanded → List ℕ → Wrote ℕ
 roomFirst h out = written out (outcome (given (hasRoom (sevens 6) out) 13 (handedWriting Cuc.writing h out)))
 
 pub cuc-room-first : ShutOut (writes (handedWriting Cuc.writing (handed 2 2 (pos 0) 0)) (sevens 1)) (keeps 3 (sevens 1)) (roomFirst (handed 2 2 (pos 0) 0) (sevens 1)) (keeps 13 (sevens 1))
 unfolding writes
-cuc-room-first = (refl, refl, differ (λ (w : Wrote). w .number) (λ e. omega arith))
+cuc-room-first = (refl, refl, differ (λ (w : Wrote ℕ). w .number) (λ e. omega arith))
 
 -- an unknown kind that clears what is lent
 pub cuc-clears :
@@ -112,12 +112,12 @@ obet-count-cut = (refl, refl, differ lengthIn (λ e. omega arith))
 
 -- ---- vrk_sbt_write
 pub sbt-clearing :
-    ShutOut (Sbt.write (record { 0 = 1 }) (sevens 5)) (got 4 (0 ∷ 0 ∷ 0 ∷ 1 ∷ 7 ∷ [])) (clearing (sevens 5) (Sbt.write (record { 0 = 1 }) (sevens 5))) (got 4 (0 ∷ 0 ∷ 0 ∷ 1 ∷ 0 ∷ []))
+    ShutOut (Sbt.write 1 (sevens 5)) (got 4 (0 ∷ 0 ∷ 0 ∷ 1 ∷ 7 ∷ [])) (clearing (sevens 5) (Sbt.write 1 (sevens 5))) (got 4 (0 ∷ 0 ∷ 0 ∷ 1 ∷ 0 ∷ []))
 unfolding Sbt.write field
 sbt-clearing = (refl, refl, differ (bytesAt 4) (λ e. omega arith))
 
 pub sbt-scribbling :
-    ShutOut (Sbt.write (record { 0 = 1 }) (sevens 3)) (keeps 13 (sevens 3)) (scribbling (Sbt.write (record { 0 = 1 }) (sevens 3))) (keeps 13 (0 ∷ 7 ∷ 7 ∷ []))
+    ShutOut (Sbt.write 1 (sevens 3)) (keeps 13 (sevens 3)) (scribbling (Sbt.write 1 (sevens 3))) (keeps 13 (0 ∷ 7 ∷ 7 ∷ []))
 unfolding Sbt.write field
 sbt-scribbling = (refl, refl, differ (bytesAt 0) (λ e. omega arith))
 

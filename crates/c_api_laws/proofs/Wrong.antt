@@ -7,15 +7,16 @@ use native.Mathlib.Omega.{arith}
 use lib.IntN.{ℤ, pos, negsuc}
 use lib.Ieee.{Float, nan}
 use Rattle.evidence.specs.ShutOut.{ShutOut, differ}
-use Rattle.scales.specs.Meaning.{scaleAt, given, outcome, dated}
-use Rattle.decimal.specs.Meaning.{reading, plusZero}
+use Rattle.scales.specs.Meaning.{scaleAt, given, outcome, dated, valued}
+use Rattle.decimal.specs.Meaning.{reading}
 use Rattle.clock.specs.Meaning.{inWindow, within, clock}
-use Rattle.sbt.specs.Meaning.{accepted, dateOf, ticked, turning}
+use Rattle.sbt.specs.Meaning.{accepted, dateOf, turning}
 use Rattle.calendar.specs.Meaning.{leap, monthLength, lengthOf, firstDay, dayAfter, daysTo, walk, isFirst}
+use Rattle.double.specs.Meaning.{plusZero}
 use Rattle.leap.specs.Meaning as L
 use Rattle.leap.specs.Meaning.{begins, risesFrom, rises, countsFrom, countsUp}
 use Rattle.changes.specs.Meaning.{changing}
-use Rattle.c_api.specs.Meaning.{knownScale, known, listAccepted, changed, handedOf, correlationOf, timeOut, tickOut, decimalRead, DecimalWrote, sbtDate, sbtTick}
+use Rattle.c_api.specs.Meaning.{knownScale, known, listAccepted, changed, handedOf, correlationOf, timeOut, countOut, decimalRead, DecimalWrote, sbtDate, sbtTick}
 use Rattle.c_api.specs.declared.VrkSbtCorrelation.{VrkSbtCorrelation}
 use Rattle.c_api.specs.declared.VrkCount.{VrkCount}
 use Rattle.c_api.specs.declared.VrkTime.{VrkTime}
@@ -85,7 +86,7 @@ date-window = (refl, refl, differ (λ (t : VrkTime). t .refusal) (λ e. omega ar
 -- ---- vrk_sbt_tick
 -- an unknown kind judged after the correlation
 abbrev sixFirst : VrkHanded → VrkSbtCorrelation → VrkCount
-sixFirst h c = tickOut (ticked (outcome (turning (correlationOf c) (handedOf h))))
+sixFirst h c = countOut (valued 0 (outcome (turning (correlationOf c) (handedOf h))))
 
 pub tick-kind : ShutOut (sbtTick strange (dead 3)) (record { refusal = 3; count = 0 }) (sixFirst strange (dead 3)) (record { refusal = 6; count = 0 })
 unfolding sbtTick correlationOf accepted

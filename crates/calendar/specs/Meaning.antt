@@ -5,7 +5,7 @@ use Prim.Native.Nat.{ℕ, zero, suc, _+_, _-_, _*_, _/_, _%_}
 use lib.Dec.{eqb, leb, ltb}
 use lib.IntN.{ℤ, pos, subℕ, natAbs, _-ℤ_}
 use lib.Signed.{leZ}
-use Rattle.scales.specs.Meaning.{first, last, Judged, given, gives, Outcome, refused, answer, outcome, numberOf}
+use Rattle.scales.specs.Meaning.{first, last, Judged, given, gives, Outcome, outcome, Valued, valued, Reply, some, no, valueSlip}
 use Rattle.scales.specs.declared.Scale.the-variants as S
 use Rattle.calendar.specs.declared.Date.{Date}
 use Rattle.calendar.specs.declared.DateAnswer.{DateAnswer}
@@ -70,14 +70,14 @@ abbrev pub dateAt : Spot → Date
 dateAt s = dateIn (s .month) (s .past)
 
 -- ---- the date of a day: 7 outside the span, whose 1,536 months are January 1972 to December 2099
-abbrev pub dating : ℤ → Judged Date
-dating d =
+abbrev pub givingDate : ℤ → Judged Date
+givingDate d =
     given (leZ (first S.Tai) d && leZ d (last S.Tai)) 7
     (gives (dateAt (walk 1536 0 (daysTo d))))
 
 -- ---- the day of a date: 3 where the rule lacks it, 7 outside the span
-abbrev pub counting : Date → Judged ℤ
-counting t =
+abbrev pub givingDay : Date → Judged ℤ
+givingDay t =
     given (isDate t) 3
     (given (leb 1972 (t .year) && leb (t .year) 2099) 7
     (gives (dayAfter (firstDay (monthsTo (t .year) (t .month)) + (t .day - 1)))))
@@ -90,35 +90,32 @@ abbrev pub allFirsts : List ℤ → Bool
 allFirsts [] = true
 allFirsts (d ∷ ds) = isFirst d && allFirsts ds
 
--- ---- what the desk hands back: the number, 0 for an answer, and the values, 0 for a refusal
-pub record DateSlip : Type 0 where
-  pub number : ℕ
-  pub year : ℕ
-  pub month : ℕ
-  pub day : ℕ
+-- ---- what the desk hands back: the number, and the date or the day; of a refusal the date without year, month and day, or day 0
+abbrev pub noDate : Date
+noDate = record { year = 0; month = 0; day = 0 }
 
-pub record DaySlip : Type 0 where
-  pub number : ℕ
-  pub day : ℤ
+abbrev pub dateHanded : Outcome Date → Valued Date
+dateHanded o = valued noDate o
 
-abbrev pub dateHanded : Outcome Date → DateSlip
-dateHanded (refused n) = record { number = n; year = 0; month = 0; day = 0 }
-dateHanded (answer t) = record { number = 0; year = t .year; month = t .month; day = t .day }
+abbrev pub dayHanded : Outcome ℤ → Valued ℤ
+dayHanded o = valued (pos 0) o
 
-abbrev pub dayHanded : Outcome ℤ → DaySlip
-dayHanded (refused n) = record { number = n; day = pos 0 }
-dayHanded (answer d) = record { number = 0; day = d }
+abbrev pub replyDate : DateAnswer → Reply Date
+replyDate (A.Date t) = some t
+replyDate (A.Refused f) = no f
 
-abbrev pub dateSlip : DateAnswer → DateSlip
-dateSlip (A.Date t) = dateHanded (answer t)
-dateSlip (A.Refused f) = dateHanded (refused (numberOf f))
+abbrev pub replyDay : DayAnswer → Reply ℤ
+replyDay (Y.Day d) = some d
+replyDay (Y.Refused f) = no f
 
-abbrev pub daySlip : DayAnswer → DaySlip
-daySlip (Y.Day d) = dayHanded (answer d)
-daySlip (Y.Refused f) = dayHanded (refused (numberOf f))
+abbrev pub dateSlip : DateAnswer → Valued Date
+dateSlip r = valueSlip noDate (replyDate r)
 
-unfoldable pub dateOfDay : ℤ → DateSlip
-dateOfDay d = dateHanded (outcome (dating d))
+abbrev pub daySlip : DayAnswer → Valued ℤ
+daySlip r = valueSlip (pos 0) (replyDay r)
 
-unfoldable pub dayOfDate : Date → DaySlip
-dayOfDate t = dayHanded (outcome (counting t))
+unfoldable pub dateOfDay : ℤ → Valued Date
+dateOfDay d = dateHanded (outcome (givingDate d))
+
+unfoldable pub dayOfDate : Date → Valued ℤ
+dayOfDate t = dayHanded (outcome (givingDay t))

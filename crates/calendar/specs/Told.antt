@@ -30,7 +30,7 @@ dated d t e = go (way (placeOfDay d) 29773) (way 76524 (placeOfDay d))
     go (above h) (below k) = let q = date-late d k ∙ e in no (λ i. q i .number)
     go (above h) (above k) =
         let q = date-within d h k ∙ e in
-        record { from = h; to = k; date = λ i. record { year = q i .year; month = q i .month; day = q i .day } }
+        record { from = h; to = k; date = λ i. q i .value }
 
 -- a date that has a day is one of the rule in the span, and this is its day
 pub record Counted (t : Date) (d : ℤ) : Type 0 where
@@ -52,7 +52,7 @@ counted t d e = go (isDate t) refl (way (t .year) 1972) (way 2099 (t .year))
     go true r (above h) (below k) = let q = day-late t r k ∙ e in no 7 (omega arith) (λ i. q i .number)
     go true r (above h) (above k) =
         let q = day-within t r h k ∙ e in
-        let x : d ≡ dayAt (daysToDate t + 29773) = λ i. sym q i .day in
+        let x : d ≡ dayAt (daysToDate t + 29773) = λ i. sym q i .value in
         let l = located-span (daysToDate t) _ _ (date-located t (real t r) h k) in
         record {
           rule = real t r;

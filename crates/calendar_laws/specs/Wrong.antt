@@ -9,14 +9,14 @@ use lib.Dec.{eqb, leb}
 use lib.IntN.{ℤ, pos}
 use lib.Signed.{leZ}
 use Rattle.evidence.specs.ShutOut.{ShutOut}
-use Rattle.scales.specs.Meaning.{first, last, given, gives, outcome}
+use Rattle.scales.specs.Meaning.{first, last, given, gives, outcome, Valued}
 use Rattle.scales.specs.declared.Scale.the-variants as S
-use Rattle.calendar.specs.Meaning.{leap, monthLength, lengthOf, firstDay, monthsTo, isDate, dayAfter, daysTo, walk, dateAt, DateSlip, DaySlip, dateHanded, dayHanded, dateOfDay, dayOfDate, isFirst, allFirsts}
+use Rattle.calendar.specs.Meaning.{leap, monthLength, lengthOf, firstDay, monthsTo, isDate, dayAfter, daysTo, walk, dateAt, dateHanded, dayHanded, dateOfDay, dayOfDate, isFirst, allFirsts}
 use Rattle.calendar.specs.declared.Date.{Date}
 use Rattle.calendar_laws.specs.Computed.{on}
 
 -- ---- the day of a date, by another leap rule or by another test of dates
-abbrev pub dayBy : (Date → Bool) → Date → DaySlip
+abbrev pub dayBy : (Date → Bool) → Date → Valued ℤ
 dayBy test t =
     dayHanded (outcome
     (given (test t) 3
@@ -31,11 +31,11 @@ isDateBy rule t = eqb (t .month) 2 && leb 1 (t .day) && leb (t .day) (cond (rule
 abbrev pub everyFourth : ℕ → Bool
 everyFourth y = eqb (y % 4) 0
 
-pub leap-1900 : ShutOut (dayOfDate (on 1900 2 29)) (record { number = 3; day = pos 0 }) (dayBy (isDateBy everyFourth) (on 1900 2 29)) (record { number = 7; day = pos 0 })
+pub leap-1900 : ShutOut (dayOfDate (on 1900 2 29)) (record { number = 3; value = pos 0 }) (dayBy (isDateBy everyFourth) (on 1900 2 29)) (record { number = 7; value = pos 0 })
 unfolding dayOfDate isDate monthLength leap
 leap-1900 = (refl, refl, λ e. let z : _≡_ {A = ℕ} 3 7 = λ i. e i .number in omega arith)
 
-pub leap-2100 : ShutOut (dayOfDate (on 2100 2 29)) (record { number = 3; day = pos 0 }) (dayBy (isDateBy everyFourth) (on 2100 2 29)) (record { number = 7; day = pos 0 })
+pub leap-2100 : ShutOut (dayOfDate (on 2100 2 29)) (record { number = 3; value = pos 0 }) (dayBy (isDateBy everyFourth) (on 2100 2 29)) (record { number = 7; value = pos 0 })
 unfolding dayOfDate isDate monthLength leap
 leap-2100 = (refl, refl, λ e. let z : _≡_ {A = ℕ} 3 7 = λ i. e i .number in omega arith)
 
@@ -43,7 +43,7 @@ leap-2100 = (refl, refl, λ e. let z : _≡_ {A = ℕ} 3 7 = λ i. e i .number i
 abbrev pub noHundredth : ℕ → Bool
 noHundredth y = not (eqb (y % 100) 0) && eqb (y % 4) 0
 
-pub no-leap-2000 : ShutOut (dayOfDate (on 2000 2 29)) (record { number = 0; day = pos 59 }) (dayBy (isDateBy noHundredth) (on 2000 2 29)) (record { number = 3; day = pos 0 })
+pub no-leap-2000 : ShutOut (dayOfDate (on 2000 2 29)) (record { number = 0; value = pos 59 }) (dayBy (isDateBy noHundredth) (on 2000 2 29)) (record { number = 3; value = pos 0 })
 unfolding dayOfDate isDate dayAfter firstDay lengthOf monthLength leap
 no-leap-2000 = (refl, refl, λ e. let z : _≡_ {A = ℕ} 0 3 = λ i. e i .number in omega arith)
 
@@ -51,27 +51,27 @@ no-leap-2000 = (refl, refl, λ e. let z : _≡_ {A = ℕ} 0 3 = λ i. e i .numbe
 abbrev pub isLateDate : Date → Bool
 isLateDate t = isDate t && leb 1972 (t .year)
 
-pub no-date-1971 : ShutOut (dayOfDate (on 1971 12 31)) (record { number = 7; day = pos 0 }) (dayBy isLateDate (on 1971 12 31)) (record { number = 3; day = pos 0 })
+pub no-date-1971 : ShutOut (dayOfDate (on 1971 12 31)) (record { number = 7; value = pos 0 }) (dayBy isLateDate (on 1971 12 31)) (record { number = 3; value = pos 0 })
 unfolding dayOfDate isDate monthLength leap
 no-date-1971 = (refl, refl, λ e. let z : _≡_ {A = ℕ} 7 3 = λ i. e i .number in omega arith)
 
 -- ---- the date of a day
 -- days of the month from 0
-abbrev pub dateFromZero : ℤ → DateSlip
-dateFromZero d = let s = dateOfDay d in record { number = s .number; year = s .year; month = s .month; day = s .day - 1 }
+abbrev pub dateFromZero : ℤ → Valued Date
+dateFromZero d = let s = dateOfDay d in record { number = s .number; value = on (s .value .year) (s .value .month) (s .value .day - 1) }
 
-pub from-zero : ShutOut (dateOfDay (pos 0)) (record { number = 0; year = 2000; month = 1; day = 1 }) (dateFromZero (pos 0)) (record { number = 0; year = 2000; month = 1; day = 0 })
+pub from-zero : ShutOut (dateOfDay (pos 0)) (record { number = 0; value = on 2000 1 1 }) (dateFromZero (pos 0)) (record { number = 0; value = on 2000 1 0 })
 unfolding dateOfDay daysTo dayAfter walk firstDay lengthOf monthLength leap
-from-zero = (refl, refl, λ e. let z : _≡_ {A = ℕ} 1 0 = λ i. e i .day in omega arith)
+from-zero = (refl, refl, λ e. let z : _≡_ {A = ℕ} 1 0 = λ i. e i .value .day in omega arith)
 
 -- January 2100 dated, as the table would allow
-abbrev pub dateToTable : ℤ → DateSlip
+abbrev pub dateToTable : ℤ → Valued Date
 dateToTable d =
     dateHanded (outcome
     (given (leZ (first S.Tai) d && leZ d (pos 36555)) 7
     (gives (dateAt (walk 1537 0 (daysTo d))))))
 
-pub past-the-span : ShutOut (dateOfDay (pos 36525)) (record { number = 7; year = 0; month = 0; day = 0 }) (dateToTable (pos 36525)) (record { number = 0; year = 2100; month = 1; day = 1 })
+pub past-the-span : ShutOut (dateOfDay (pos 36525)) (record { number = 7; value = on 0 0 0 }) (dateToTable (pos 36525)) (record { number = 0; value = on 2100 1 1 })
 unfolding dateOfDay daysTo dayAfter walk firstDay lengthOf monthLength leap
 past-the-span = (refl, refl, λ e. let z : _≡_ {A = ℕ} 7 0 = λ i. e i .number in omega arith)
 

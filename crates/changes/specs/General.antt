@@ -4,8 +4,8 @@ use mathlib.Core.Bool.{Bool, true, false, not, _&&_, _||_, false≢true}
 use mathlib.Core.List.{List}
 use Prim.Native.Nat.{ℕ}
 use lib.IntN.{ℤ}
-use Rattle.axis.specs.Meaning.{microsAt}
-use Rattle.scales.specs.Meaning.{sameScale, inSpan, Judged, refused, answer, outcome, Slip, Moment, dated, numberOf, momentAt, timeScale, timeCount}
+use Rattle.axis.specs.Meaning.{microsAt, Moment}
+use Rattle.scales.specs.Meaning.{sameScale, inSpan, Judged, refused, answer, outcome, Slip, dated, numberOf, momentAt, timeScale, timeCount}
 use Rattle.scales.specs.Same.{same-scale}
 use Rattle.scales.specs.declared.Scale.{Scale}
 use Rattle.scales.specs.declared.Scale.the-variants as S
@@ -14,19 +14,19 @@ use Rattle.scales.specs.declared.Tai.{Tai}
 use Rattle.scales.specs.declared.DatedTai.{DatedTai}
 use Rattle.scales.specs.declared.DatedTai.the-variants as DT
 use Rattle.scales.specs.declared.Time.{Time}
-use Rattle.scales.specs.declared.Handed.{Handed}
-use Rattle.decimal.specs.Meaning.{scaleOf, isFinite, isInSpan}
-use Rattle.decimal.specs.Told.{Told, told-scale, told-moment}
+use Rattle.handed.specs.declared.Handed.{Handed}
+use Rattle.handed.specs.Told.{Told, told-scale, told-moment}
+use Rattle.handed.specs.Meaning.{scaleOf, isFinite, isInSpan}
 use Rattle.leap.specs.Meaning.{accepted}
 use Rattle.leap.specs.Walk.{or-true}
-use Rattle.changes.specs.Meaning.{fromScale, toScale, isUtc, usesList, settled, moving, ofCount, momentIn, changeOf}
+use Rattle.changes.specs.Meaning.{fromScale, toScale, isUtc, changeUsesList, settled, moving, ofCount, momentIn, changeOf}
 use Rattle.changes.specs.Ways.{Left, way-on, way-out}
 
 -- ---- the list is used where UTC stands on either side
-pub uses-from : (s to : Scale) → isUtc s ≡ true → usesList s to ≡ true
+pub uses-from : (s to : Scale) → isUtc s ≡ true → changeUsesList s to ≡ true
 uses-from s to e = rw e
 
-pub uses-to : (s to : Scale) → isUtc to ≡ true → usesList s to ≡ true
+pub uses-to : (s to : Scale) → isUtc to ≡ true → changeUsesList s to ≡ true
 uses-to s to e = rw e (or-true (isUtc s))
 
 -- ---- to its own scale, or to another; the last day is e, and a callee reads it from its bits, as z
@@ -59,7 +59,7 @@ having false a e = refl
 
 module _ (h : Handed) (to : Scale) (ds : List ℤ) (os : List ℕ) (e : ℤ) where
   abbrev lacks : Bool
-  lacks = usesList (scaleOf h) to && not (accepted ds os e)
+  lacks = changeUsesList (scaleOf h) to && not (accepted ds os e)
 
   pub change-infinite : isFinite h ≡ false → dated to (refused 4) ≡ changeOf h to ds os e
   unfolding changeOf
@@ -67,7 +67,7 @@ module _ (h : Handed) (to : Scale) (ds : List ℤ) (os : List ℕ) (e : ℤ) whe
 
   pub change-unlisted : isFinite h ≡ true → lacks ≡ true → dated to (refused 5) ≡ changeOf h to ds os e
   unfolding changeOf
-  change-unlisted f l = sym (rw (f, lacking (usesList (scaleOf h) to) (accepted ds os e) l))
+  change-unlisted f l = sym (rw (f, lacking (changeUsesList (scaleOf h) to) (accepted ds os e) l))
 
   pub seven : (s : Scale) (m : Moment) → outcome (moving s to ds os e false m) ≡ refused 7
   seven S.Tai m = refl
@@ -77,7 +77,7 @@ module _ (h : Handed) (to : Scale) (ds : List ℤ) (os : List ℕ) (e : ℤ) whe
   pub change-outside : isFinite h ≡ true → lacks ≡ false → isInSpan h ≡ false → dated to (refused 7) ≡ changeOf h to ds os e
   unfolding changeOf
   change-outside f l i =
-      sym (rw (f, having (usesList (scaleOf h) to) (accepted ds os e) l, i) (ap (dated to) (seven (scaleOf h) (momentIn h))))
+      sym (rw (f, having (changeUsesList (scaleOf h) to) (accepted ds os e) l, i) (ap (dated to) (seven (scaleOf h) (momentIn h))))
 
   pub change-at : (t : Time) → Told h t → lacks ≡ false
       → dated to (outcome (ofCount (timeScale t) (timeCount t) (moving (timeScale t) to ds os e))) ≡ changeOf h to ds os e
@@ -85,4 +85,4 @@ module _ (h : Handed) (to : Scale) (ds : List ℤ) (os : List ℕ) (e : ℤ) whe
   change-at t w l =
       ap₂ (λ (s : Scale) (m : Moment). dated to (outcome (moving s to ds os e (inSpan s (m .day) (m .micro)) m))) (told-scale h t w) (told-moment h t w)
       ∙ ap (λ (b : Bool). dated to (outcome (moving (scaleOf h) to ds os e b (momentIn h)))) (w .kept ∙ sym (w .inside))
-      ∙ sym (rw (w .finite, having (usesList (scaleOf h) to) (accepted ds os e) l))
+      ∙ sym (rw (w .finite, having (changeUsesList (scaleOf h) to) (accepted ds os e) l))

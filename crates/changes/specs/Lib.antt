@@ -1,3 +1,4 @@
 pub mod Meaning
 pub mod Ways
 pub mod General
+pub mod Asked

@@ -1,14 +1,15 @@
--- The six changes between TAI, UTC and GPS, and the one change of any time that is handed in, as the paper states them. A list is
--- its steps' days ds, its offsets os and its last day e. Assumes nothing.
+-- The six changes between TAI, UTC and GPS, the one change of any time that is handed in, and what a list is asked for a time that
+-- stays in its scale, as the paper states them. A list is its steps' days ds, its offsets os and its last day e. Assumes nothing.
 use mathlib.Core.Bool.{Bool, cond, not, _||_}
 use mathlib.Core.List.{List}
 use Prim.Native.Nat.{ℕ}
 use lib.IntN.{ℤ, _+ℤ_, _-ℤ_}
-use Rattle.scales.specs.Meaning.{andThen, sameScale, inSpan, Judged, given, gives, outcome, Slip, Moment, dated, momentAt}
+use Rattle.axis.specs.Meaning.{Moment, since, momentOf}
+use Rattle.scales.specs.Meaning.{andThen, sameScale, inSpan, Judged, given, gives, outcome, Slip, dated, momentAt}
 use Rattle.scales.specs.declared.Scale.{Scale}
 use Rattle.scales.specs.declared.Scale.the-variants as S
-use Rattle.scales.specs.declared.Handed.{Handed}
-use Rattle.decimal.specs.Meaning.{since, scaleOf, isFinite, isInSpan, dayOf, microOf, momentOf}
+use Rattle.handed.specs.declared.Handed.{Handed}
+use Rattle.handed.specs.Meaning.{scaleOf, isFinite, isInSpan, dayOf, microOf}
 use Rattle.leap.specs.Meaning.{seconds, accepted, taiOf, hasMicro, isExpiredDay, isExpiredTai, utcOf}
 
 -- ---- a time to its TAI count; `spans` says whether the time lies in its span
@@ -52,8 +53,8 @@ abbrev pub ofCount : {A : Type 0} → Scale → ℕ → (Bool → Moment → A) 
 ofCount s n f = f (inSpan s (momentAt s n .day) (momentAt s n .micro)) (momentAt s n)
 
 -- "5 leap list not accepted, where one is used"
-abbrev pub listed : List ℤ → List ℕ → ℤ → Judged Moment → Judged Moment
-listed ds os e rest = given (accepted ds os e) 5 rest
+abbrev pub withList : List ℤ → List ℕ → ℤ → Judged Moment → Judged Moment
+withList ds os e rest = given (accepted ds os e) 5 rest
 
 abbrev pub taiInGps : ℕ → Judged Moment
 taiInGps n = andThen (ofCount S.Tai n fromTai) toGps
@@ -80,16 +81,16 @@ unfoldable pub gpsToTai : ℕ → Slip
 gpsToTai n = dated S.Tai (outcome (gpsInTai n))
 
 unfoldable pub utcToTai : ℕ → List ℤ → List ℕ → ℤ → Slip
-utcToTai n ds os e = dated S.Tai (outcome (listed ds os e (utcInTai ds os e n)))
+utcToTai n ds os e = dated S.Tai (outcome (withList ds os e (utcInTai ds os e n)))
 
 unfoldable pub utcToGps : ℕ → List ℤ → List ℕ → ℤ → Slip
-utcToGps n ds os e = dated S.Gps (outcome (listed ds os e (utcInGps ds os e n)))
+utcToGps n ds os e = dated S.Gps (outcome (withList ds os e (utcInGps ds os e n)))
 
 unfoldable pub taiToUtc : ℕ → List ℤ → List ℕ → ℤ → Slip
-taiToUtc n ds os e = dated S.Utc (outcome (listed ds os e (taiInUtc ds os e n)))
+taiToUtc n ds os e = dated S.Utc (outcome (withList ds os e (taiInUtc ds os e n)))
 
 unfoldable pub gpsToUtc : ℕ → List ℤ → List ℕ → ℤ → Slip
-gpsToUtc n ds os e = dated S.Utc (outcome (listed ds os e (gpsInUtc ds os e n)))
+gpsToUtc n ds os e = dated S.Utc (outcome (withList ds os e (gpsInUtc ds os e n)))
 
 -- ---- the change of any time that is handed in, to any scale
 abbrev pub fromScale : Scale → List ℤ → List ℕ → ℤ → Bool → Moment → Judged ℤ
@@ -106,8 +107,8 @@ abbrev pub isUtc : Scale → Bool
 isUtc s = sameScale s S.Utc
 
 -- a list is used where UTC stands on either side
-abbrev pub usesList : Scale → Scale → Bool
-usesList s to = isUtc s || isUtc to
+abbrev pub changeUsesList : Scale → Scale → Bool
+changeUsesList s to = isUtc s || isUtc to
 
 -- to its own scale a time stays as it is, after the refusals that its scale brings
 abbrev pub settled : Scale → Scale → List ℤ → List ℕ → ℤ → Moment → ℤ → Judged Moment
@@ -122,8 +123,18 @@ momentIn h = record { day = dayOf h; micro = microOf h }
 abbrev pub changing : Handed → Scale → List ℤ → List ℕ → ℤ → Judged Moment
 changing h to ds os e =
     given (isFinite h) 4
-    (given (not (usesList (scaleOf h) to) || accepted ds os e) 5
+    (given (not (changeUsesList (scaleOf h) to) || accepted ds os e) 5
     (moving (scaleOf h) to ds os e (isInSpan h) (momentIn h)))
 
 unfoldable pub changeOf : Handed → Scale → List ℤ → List ℕ → ℤ → Slip
 changeOf h to ds os e = dated to (outcome (changing h to ds os e))
+
+-- ---- "Reading and writing UTC text both apply the leap list": what a list is asked for a time that stays in its scale z; `inside` says
+-- whether the time lies in its span
+abbrev pub asked : {A : Type 0} → Scale → List ℤ → List ℕ → ℤ → Bool → Moment → Judged A → Judged A
+asked z ds os e inside m rest =
+    given (not (isUtc z) || accepted ds os e) 5
+    (given inside 7
+    (given (not (isUtc z) || not (isExpiredDay e (m .day))) 9
+    (given (not (isUtc z) || hasMicro ds (m .day) (m .micro)) 10
+    rest)))

@@ -8,9 +8,10 @@ use lib.Dec.{leb, ltb}
 use lib.IntN.{ℤ, pos, _+ℤ_}
 use lib.Signed.{leZ}
 use borrow.Author.Tests.{le-leb, lt-leb, lt-ltb, le-ltb}
-use Rattle.axis.specs.Meaning.{placeOfDay, dayAt, microsAt}
+use Rattle.axis.specs.Meaning.{placeOfDay, dayAt, microsAt, Moment, dayMicros, since, momentOf}
 use Rattle.axis.specs.Diff.{sub-inj-same}
-use Rattle.scales.specs.Meaning.{andThen, bound, inSpan, Judged, given, Outcome, refused, answer, outcome, Slip, Moment, dated, numberOf, momentAt}
+use Rattle.axis.specs.Axis.{since-at, day-next, micros-le, micros-add, micros-minus, moment-at}
+use Rattle.scales.specs.Meaning.{andThen, bound, inSpan, Judged, given, Outcome, refused, answer, outcome, Slip, dated, numberOf, momentAt}
 use Rattle.scales.specs.Order.{onward, then-is, no-answer}
 use Rattle.scales.specs.Place.{firstAt, span-early, span-late, span-in}
 use Rattle.scales.specs.Same.{refusals}
@@ -21,14 +22,12 @@ use Rattle.scales.specs.declared.Refusal.the-variants as R
 use Rattle.scales.specs.declared.Tai.{Tai}
 use Rattle.scales.specs.declared.DatedTai.{DatedTai}
 use Rattle.scales.specs.declared.DatedTai.the-variants as DT
-use Rattle.decimal.specs.Meaning.{dayMicros, since, momentOf}
-use Rattle.decimal.proofs.Image.{since-at}
 use Rattle.leap.specs.Meaning.{seconds, accepted, offsetOn, taiOf, isStep, hasMicro, isExpiredDay, isExpiredTai, utcOf}
-use Rattle.leap.specs.Places.{day-next, micros-le, micros-add, micros-minus, tai-at, moment-at}
+use Rattle.leap.specs.Places.{tai-at}
 use Rattle.leap.specs.Steps.{steps}
 use Rattle.leap.specs.Back.{forth, none-before}
 use Rattle.leap.specs.Whole.{taiAt, expired-at, offset-small, before-known}
-use Rattle.changes.specs.Meaning.{fromTai, fromGps, fromUtc, within, toTai, toGps, toUtc, ofCount, listed, fromScale, toScale}
+use Rattle.changes.specs.Meaning.{fromTai, fromGps, fromUtc, within, toTai, toGps, toUtc, ofCount, withList, fromScale, toScale}
 
 -- ---- a TAI count on the way: its span is not tested, and it is well on the axis
 pub record OnTheWay (c : ℕ) : Type 0 where
@@ -76,7 +75,7 @@ module _ {j : Judged ℤ} {r : DatedTai} (w : Left j r) where
     way-out {f} g = passes (DT.Refused f) g
 
 -- ---- the list is judged before
-pub list-in : (to : Scale) (ds : List ℤ) (os : List ℕ) (e : ℤ) (j : Judged Moment) → accepted ds os e ≡ true → dated to (outcome j) ≡ dated to (outcome (listed ds os e j))
+pub list-in : (to : Scale) (ds : List ℤ) (os : List ℕ) (e : ℤ) (j : Judged Moment) → accepted ds os e ≡ true → dated to (outcome j) ≡ dated to (outcome (withList ds os e j))
 list-in to ds os e j h = sym (rw h)
 
 -- the way to the TAI count in a change that uses a list

@@ -6,8 +6,10 @@ ghost use Prim.Native.Nat.{_<_};
 ghost use Rattle.axis.specs.Meaning.{dayAt, microsAt};
 ghost use Rattle.scales.specs.Meaning.{outcome, dated, slip, slipTai, slipUtc, slipGps, timeScale, timeCount};
 ghost use Rattle.leap.specs.Meaning.{accepted, hasMicro};
-ghost use Rattle.changes.specs.Meaning.{fromTai, fromGps, fromUtc, toTai, toGps, toUtc, ofCount, fromScale, toScale, isUtc, usesList, moving};
+ghost use Rattle.changes.specs.Meaning.{fromTai, fromGps, fromUtc, toTai, toGps, toUtc, ofCount, fromScale, toScale, isUtc, changeUsesList, moving};
 ghost use Rattle.changes.specs.Ways.{Left, OnTheWay};
+ghost use Rattle.changes.specs.Asked.{timeUsesList, lacksList, takenScale, takenAsked};
+use handed::Taken;
 use scales::Dated;
 use scales::DatedGps;
 use scales::DatedTai;
@@ -136,17 +138,6 @@ pub fn to_utc(c: Tai, days: &[i64], offsets: &[u64], last: i64) -> DatedUtc
 
 // ---- a time and a scale that are known only when the program runs
 
-// Does a change between two scales use a leap list?
-pub fn uses_list(from: Scale, to: Scale) -> bool
-    ensures { λ r. ⌜ r ≡ usesList from to ⌝ }
-{
-    let utc = Scale::Utc.code();
-    if from.code() == utc {
-        return true;
-    }
-    to.code() == utc
-}
-
 pub fn from_time(t: Time, days: &[i64], offsets: &[u64], last: i64) -> DatedTai
     requires { ⌜ (isUtc (timeScale t) ≡ true → accepted (now days) (now offsets) last ≡ true) ⌝ }
     ensures { λ r. ⌜ Left (ofCount (timeScale t) (timeCount t) (fromScale (timeScale t) (now (days .entry)) (now (offsets .entry)) last)) r ⌝ }
@@ -199,7 +190,7 @@ fn to_scale(c: Tai, to: Scale, days: &[i64], offsets: &[u64], last: i64) -> Date
 
 // A time to any scale; a list that is used was accepted before.
 pub fn change(t: Time, to: Scale, days: &[i64], offsets: &[u64], last: i64) -> Dated
-    requires { ⌜ (usesList (timeScale t) to ≡ true → accepted (now days) (now offsets) last ≡ true) ⌝ }
+    requires { ⌜ (changeUsesList (timeScale t) to ≡ true → accepted (now days) (now offsets) last ≡ true) ⌝ }
     ensures { λ r. ⌜ slip r ≡ dated to (outcome (ofCount (timeScale t) (timeCount t) (moving (timeScale t) to (now (days .entry)) (now (offsets .entry)) last))) ⌝ }
 {
     match from_time(t, days, offsets, last) {
@@ -210,5 +201,57 @@ pub fn change(t: Time, to: Scale, days: &[i64], offsets: &[u64], last: i64) -> D
             to_scale(c, to, days, offsets, last)
         }
         DatedTai::Refused(f) => Dated::Refused(f, to),
+    }
+}
+
+// ---- what a list is asked for
+
+pub fn is_utc(scale: Scale) -> bool
+    ensures { λ r. ⌜ r ≡ isUtc scale ⌝ }
+{
+    let utc = Scale::Utc.code();
+    scale.code() == utc
+}
+
+// Does a change between two scales use a leap list?
+pub fn change_uses_list(from: Scale, to: Scale) -> bool
+    ensures { λ r. ⌜ r ≡ changeUsesList from to ⌝ }
+{
+    if is_utc(from) {
+        return true;
+    }
+    is_utc(to)
+}
+
+// Does a time that stays in its scale?
+pub fn time_uses_list(t: Taken) -> bool
+    ensures { λ r. ⌜ r ≡ timeUsesList t ⌝ }
+{
+    match t {
+        Taken::NotFinite(_) => false,
+        Taken::Outside(scale) => is_utc(scale),
+        Taken::At(n) => is_utc(n.scale()),
+    }
+}
+
+// Is a list used that is not accepted?
+pub fn lacks_list(used: bool, days: &[i64], offsets: &[u64], last: i64) -> bool
+    ensures { λ r. ⌜ r ≡ lacksList used (now (days .entry)) (now (offsets .entry)) last ⌝ }
+{
+    if !used {
+        return false;
+    }
+    !leap::is_accepted(days, offsets, last)
+}
+
+// A time in its own scale, after the refusals that this scale brings; a list that is used was accepted before.
+pub fn judge(t: Taken, days: &[i64], offsets: &[u64], last: i64) -> Dated
+    requires { ⌜ (timeUsesList t ≡ true → accepted (now days) (now offsets) last ≡ true) ⌝ }
+    ensures { λ r. ⌜ slip r ≡ dated (takenScale t) (outcome (takenAsked t (now (days .entry)) (now (offsets .entry)) last)) ⌝ }
+{
+    match t {
+        Taken::NotFinite(scale) => Dated::Refused(Refusal::DecimalNotFinite, scale),
+        Taken::Outside(scale) => Dated::Refused(Refusal::OutsideSpan, scale),
+        Taken::At(n) => change(n, n.scale(), days, offsets, last),
     }
 }

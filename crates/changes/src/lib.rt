@@ -1,17 +1,15 @@
 // The changes between TAI, UTC and GPS. Each entry that uses a leap list tests it once and hands it to the cores.
 ghost use mathlib.Core.Path.{_≡_};
-ghost use mathlib.Core.Bool.{not, _&&_};
 ghost use Rattle.scales.specs.Meaning.{slip, slipTai, slipUtc, slipGps, timeScale, timeCount};
-ghost use Rattle.leap.specs.Meaning.{accepted};
-ghost use Rattle.changes.specs.Meaning.{taiToGps, gpsToTai, utcToTai, utcToGps, taiToUtc, gpsToUtc, usesList, changeOf};
+ghost use Rattle.changes.specs.Meaning.{taiToGps, gpsToTai, utcToTai, utcToGps, taiToUtc, gpsToUtc, changeOf};
 ghost use Rattle.changes.specs.Ways.{ByList};
-use decimal::Taken;
+use handed::Handed;
+use handed::Taken;
 use scales::Dated;
 use scales::DatedGps;
 use scales::DatedTai;
 use scales::DatedUtc;
 use scales::Gps;
-use scales::Handed;
 use scales::Refusal;
 use scales::Scale;
 use scales::Tai;
@@ -84,30 +82,20 @@ pub fn gps_to_utc(t: Gps, days: &[i64], offsets: &[u64], last: i64) -> DatedUtc
     }
 }
 
-// Is a list used that is not accepted?
-fn lacks_list(from: Scale, to: Scale, days: &[i64], offsets: &[u64], last: i64) -> bool
-    ensures { λ r. ⌜ r ≡ (usesList from to && not (accepted (now (days .entry)) (now (offsets .entry)) last)) ⌝ }
-{
-    if !inner::uses_list(from, to) {
-        return false;
-    }
-    !leap::is_accepted(days, offsets, last)
-}
-
 // Any time that is handed in, to any scale.
 pub fn change(h: Handed, to: Scale, days: &[i64], offsets: &[u64], last: i64) -> Dated
     ensures { λ r. ⌜ slip r ≡ changeOf h to (now (days .entry)) (now (offsets .entry)) last ⌝ }
 {
-    match decimal::take(h) {
+    match handed::take(h) {
         Taken::NotFinite(_) => Dated::Refused(Refusal::DecimalNotFinite, to),
         Taken::Outside(s) => {
-            if lacks_list(s, to, days, offsets, last) {
+            if inner::lacks_list(inner::change_uses_list(s, to), days, offsets, last) {
                 return Dated::Refused(Refusal::ListNotAccepted, to);
             }
             Dated::Refused(Refusal::OutsideSpan, to)
         }
         Taken::At(t) => {
-            if lacks_list(t.scale(), to, days, offsets, last) {
+            if inner::lacks_list(inner::change_uses_list(t.scale(), to), days, offsets, last) {
                 return Dated::Refused(Refusal::ListNotAccepted, to);
             }
             inner::change(t, to, days, offsets, last)

@@ -5,8 +5,8 @@ use mathlib.Core.Bool.{Bool, true, false}
 use Prim.Native.Nat.{ℕ}
 use native.Mathlib.Omega.{arith}
 use lib.IntN.{ℤ}
-use Rattle.axis.specs.Meaning.{microsAt}
-use Rattle.scales.specs.Meaning.{dated, refused, outcome, Moment}
+use Rattle.axis.specs.Meaning.{microsAt, Moment}
+use Rattle.scales.specs.Meaning.{dated, refused, outcome}
 use Rattle.scales.specs.declared.Scale.{Scale}
 use Rattle.clock.specs.Meaning.{Clock, elapsed, time, inWindow, Cover, cover, resulting, dating}
 use Rattle.clock.specs.Places.{timeAt, endsAt, coverOf, withinAt, windowAt, countFrom, within-place, elapsed-place, Based, time-place, cover-place, window-place}

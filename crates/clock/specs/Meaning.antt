@@ -5,12 +5,12 @@ use Prim.Native.Nat.{ℕ, zero, suc, _+_, _*_}
 use lib.Dec.{ltb}
 use lib.IntN.{ℤ, pos, negℤ, subℕ, _+ℤ_, _*ℤ_}
 use lib.Signed.{leZ}
-use Rattle.axis.specs.Meaning.{floorZ, modZ}
-use Rattle.scales.specs.Meaning.{inSpan, Judged, given, gives, Moment, sameScale}
+use Rattle.axis.specs.Meaning.{floorZ, modZ, Moment, dayMicros, since, momentOf}
+use Rattle.scales.specs.Meaning.{inSpan, Judged, given, gives, sameScale}
 use Rattle.scales.specs.declared.Scale.{Scale}
 use Rattle.scales.specs.declared.Scale.the-variants as S
-use Rattle.scales.specs.declared.Handed.{Handed}
-use Rattle.decimal.specs.Meaning.{dayMicros, since, scaleOf, isFinite, isInSpan, dayOf, microOf, momentOf}
+use Rattle.handed.specs.declared.Handed.{Handed}
+use Rattle.handed.specs.Meaning.{scaleOf, isFinite, isInSpan, dayOf, microOf}
 
 -- a counter from 0 to 2 * half - 1 and its correlation: at the reference count the clock stands at start / per microseconds since day
 -- 0 of the scale, with each count it gains gain / per, and it may be relied on from back counts before to ahead counts after

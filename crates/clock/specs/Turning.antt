@@ -8,17 +8,17 @@ use native.Mathlib.Nat.{add-mul, div-mul-le-self, lt-div-mul-add, mul-le-mul-rig
 use lib.Dec.{leb, ltb}
 use lib.IntN.{ℤ}
 use borrow.Author.Tests.{leb-true}
-use Rattle.axis.specs.Meaning.{microsAt}
+use Rattle.axis.specs.Meaning.{microsAt, dayMicros}
 use Rattle.scales.specs.Meaning.{inSpan, sameScale, Judged, given, gives, refused, answer, outcome, recordAt, timeScale, timeCount}
 use Rattle.scales.specs.Order.{onward, then-is, passed}
 use Rattle.scales.specs.Place.{and-both}
 use Rattle.scales.specs.declared.Scale.{Scale}
 use Rattle.scales.specs.declared.Record.{Record}
 use Rattle.scales.specs.declared.Time.{Time}
-use Rattle.scales.specs.declared.Handed.{Handed}
-use Rattle.scales.specs.declared.Handed.the-variants as H
-use Rattle.decimal.specs.Meaning.{dayMicros, isFinite, isInSpan}
-use Rattle.decimal.specs.Told.{Told, told-record}
+use Rattle.handed.specs.declared.Handed.{Handed}
+use Rattle.handed.specs.declared.Handed.the-variants as H
+use Rattle.handed.specs.Told.{Told, told-record}
+use Rattle.handed.specs.Meaning.{isFinite, isInSpan}
 use Rattle.clock.specs.Meaning.{Clock, Cover, cover, within, covers, lastCount, countAt, instantOf, hasImage, turning}
 use Rattle.clock.specs.Places.{timeAt, lastAt, endsAt, coverOf, withinAt, shownAt, within-place, count-place, Based, divided-place, cover-place, last-few}
 use Rattle.clock.specs.Stage.{placeIn, covering, unacceptedBy, plain-is, no-place, in-day, instant-found}

@@ -5,9 +5,9 @@ ghost use Rattle.scales.specs.Meaning.{slip, numberOf, recordAt, timeScale, tim
 ghost use Rattle.axis.specs.Meaning.{microsAt};
 ghost use Rattle.clock.specs.Places.{coverOf, withinAt, windowAt};
 ghost use Rattle.clock.specs.Stage.{placeIn, placeAt, Spanned, judging, covering, resultAt, unacceptedBy, landed};
-use decimal::Taken;
+use handed::Handed;
+use handed::Taken;
 use scales::Dated;
-use scales::Handed;
 use scales::Record;
 use scales::Refusal;
 use scales::Scale;
@@ -145,7 +145,7 @@ fn turn_time(due: Scale, v: Ends, t: Time) -> Turned
 pub fn turn(due: Scale, v: Ends, h: Handed) -> Turned
     ensures { λ r. ⌜ landed r ≡ outcome (covering due (coverOf v) h) ⌝ }
 {
-    match decimal::take(h) {
+    match handed::take(h) {
         Taken::NotFinite(_) => Turned::Refused(Refusal::DecimalNotFinite),
         Taken::Outside(_) => Turned::Refused(Refusal::OutsideSpan),
         Taken::At(t) => turn_time(due, v, t),
@@ -156,7 +156,7 @@ pub fn turn(due: Scale, v: Ends, h: Handed) -> Turned
 pub fn unaccepted(h: Handed) -> Refusal
     ensures { λ r. ⌜ numberOf r ≡ unacceptedBy h ⌝ }
 {
-    match decimal::take(h) {
+    match handed::take(h) {
         Taken::NotFinite(_) => Refusal::DecimalNotFinite,
         Taken::Outside(_) => Refusal::CorrelationNotAccepted,
         Taken::At(_) => Refusal::CorrelationNotAccepted,

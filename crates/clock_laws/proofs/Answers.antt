@@ -6,12 +6,13 @@ use native.Mathlib.Omega.{arith}
 use lib.IntN.{ℤ, pos, negℤ}
 use lib.Signed.{leZ}
 use borrow.Author.Tests.{le-leb}
-use Rattle.scales.specs.Meaning.{inSpan, answer, outcome, Moment, given, gives}
+use Rattle.axis.specs.Meaning.{Moment, since}
+use Rattle.scales.specs.Meaning.{inSpan, answer, outcome, given, gives}
 use Rattle.scales.specs.Place.{and-both}
 use Rattle.scales.specs.declared.Scale.{Scale}
-use Rattle.scales.specs.declared.Handed.{Handed}
+use Rattle.handed.specs.declared.Handed.{Handed}
 use Rattle.scales.specs.Order.{passed}
-use Rattle.decimal.specs.Meaning.{since, isFinite, isInSpan}
+use Rattle.handed.specs.Meaning.{isFinite, isInSpan}
 use Rattle.clock.specs.Meaning.{Clock, instant, momentAfter, receivable, elapsed, time, inWindow, covers, inForce, resulting, dating, lastCount, countAt, instantOf, hasImage, turning}
 use Rattle.clock.specs.Signs.{le-trans}
 use Rattle.clock.specs.Stage.{moment-is}

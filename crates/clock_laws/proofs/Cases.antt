@@ -6,8 +6,8 @@ use lib.Dec.{lit<, lit≤}
 use lib.IntN.{pos, negsuc, _+ℤ_}
 use lib.Signed.{leZ}
 use Rattle.scales.specs.Meaning.{Judged, given, gives, outcome}
-use Rattle.scales.specs.declared.Handed.{Handed}
-use Rattle.decimal.specs.Meaning.{isFinite, isInSpan}
+use Rattle.handed.specs.declared.Handed.{Handed}
+use Rattle.handed.specs.Meaning.{isFinite, isInSpan}
 use Rattle.clock.specs.Meaning.{Clock, clock, covers, lastCount, countAt, instantOf, hasImage, turning}
 use Rattle.clock.specs.Clock.{lastOf, last-of-clock, last-early, last-close}
 

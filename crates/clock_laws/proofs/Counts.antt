@@ -8,9 +8,8 @@ use native.Mathlib.Omega.{arith}
 use lib.IntN.{ℤ, pos, negsuc, negℤ, subℕ, _+ℤ_}
 use lib.Signed.{leZ}
 use borrow.Author.Tests.{leb-true, le-leb}
-use Rattle.axis.specs.Meaning.{floorZ, modZ}
+use Rattle.axis.specs.Meaning.{floorZ, modZ, dayMicros, since}
 use Rattle.axis.specs.Diff.{is-pos, is-negsuc, neg-pos, sub-eq, sub-add, sub-le, sub-le-same}
-use Rattle.decimal.specs.Meaning.{dayMicros, since}
 use Rattle.clock.specs.Meaning.{Clock, elapsed, countAt}
 use Rattle.clock.specs.Signs.{steps, steps-to}
 use Rattle.clock.specs.Places.{countFrom, elapsed-place, count-place}

@@ -6,8 +6,8 @@ use lib.IntN.{ℤ, pos, negsuc, subℕ, _-ℤ_}
 use Rattle.axis.specs.Meaning.{floorZ, modZ}
 use Rattle.scales.specs.Meaning.{sameScale, Slip, dated, given, gives, Outcome, outcome}
 use Rattle.scales.specs.declared.Scale.{Scale}
-use Rattle.scales.specs.declared.Handed.{Handed}
-use Rattle.decimal.specs.Meaning.{scaleOf, isFinite, isInSpan, microOf}
+use Rattle.handed.specs.declared.Handed.{Handed}
+use Rattle.handed.specs.Meaning.{scaleOf, isFinite, isInSpan, microOf}
 use Rattle.clock.specs.Meaning.{Clock, instant, momentAfter, plain, receivable, time, inWindow, covers, inForce, resulting, lastCount, countAt, instantOf, hasImage}
 use Rattle.clock_laws.proofs.Wider.{widened}
 

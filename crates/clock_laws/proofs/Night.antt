@@ -6,9 +6,9 @@ use Prim.Native.Nat.{ℕ, _*_, _%_}
 use lib.IntN.{ℤ}
 use lib.Signed.{ltZ, leZ}
 use Rattle.axis.specs.Diff.{le-not}
-use Rattle.scales.specs.Meaning.{refused, answer, outcome, Moment}
+use Rattle.axis.specs.Meaning.{Moment, since}
+use Rattle.scales.specs.Meaning.{refused, answer, outcome}
 use Rattle.scales.specs.Place.{and-false}
-use Rattle.decimal.specs.Meaning.{since}
 use Rattle.clock.specs.Meaning.{Clock, receivable, elapsed, time, inWindow, cover, within, covers, dating, countAt}
 use Rattle.clock.specs.Stage.{instant-is}
 use Rattle.clock.specs.Window.{Runs}

@@ -10,12 +10,12 @@ use lib.Dec.{ltb, lit<}
 use lib.IntN.{ℤ, pos, _+ℤ_}
 use lib.Signed.{leZ}
 use borrow.Author.Tests.{lt-ltb, eq-eqb}
-use Rattle.axis.specs.Meaning.{modZ}
-use Rattle.scales.specs.Meaning.{codeOf, answer, outcome, Moment, recordOf}
+use Rattle.axis.specs.Meaning.{modZ, Moment, dayMicros, since}
+use Rattle.scales.specs.Meaning.{codeOf, answer, outcome, recordOf}
 use Rattle.scales.specs.declared.Scale.{Scale}
-use Rattle.scales.specs.declared.Handed.{Handed}
-use Rattle.scales.specs.declared.Handed.the-variants as H
-use Rattle.decimal.specs.Meaning.{dayMicros, since, scaleOf, isFinite, isInSpan, dayOf, microOf}
+use Rattle.handed.specs.declared.Handed.{Handed}
+use Rattle.handed.specs.declared.Handed.the-variants as H
+use Rattle.handed.specs.Meaning.{scaleOf, isFinite, isInSpan, dayOf, microOf}
 use Rattle.clock.specs.Meaning.{Clock, plain, elapsed, time, covers, dating, lastCount, countAt, instantOf, hasImage, turning}
 use Rattle.clock.specs.Stage.{instant-is, moment-is, plain-is}
 use Rattle.clock.specs.Window.{Runs, divided, divided-time, divided-early, divided-close, covers-time, last-is, divided-window}

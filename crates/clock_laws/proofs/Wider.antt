@@ -9,8 +9,8 @@ use lib.Signed.{leZ}
 use borrow.Author.Tests.{le-leb}
 use Rattle.scales.specs.Meaning.{outcome, refused}
 use Rattle.scales.specs.Place.{and-both}
-use Rattle.scales.specs.declared.Handed.{Handed}
-use Rattle.decimal.specs.Meaning.{isFinite, isInSpan}
+use Rattle.handed.specs.declared.Handed.{Handed}
+use Rattle.handed.specs.Meaning.{isFinite, isInSpan}
 use Rattle.clock.specs.Meaning.{Clock, instant, receivable, elapsed, time, inWindow, within, covers, inForce, dating, lastCount, instantOf, hasImage, turning}
 use Rattle.clock.specs.Signs.{le-trans}
 use Rattle.clock.specs.Window.{Runs, rises, last-is}

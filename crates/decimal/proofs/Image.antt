@@ -6,16 +6,19 @@ use native.Mathlib.Omega.{arith}
 use lib.IntN.{ℤ, pos, subℕ, _+ℤ_}
 use lib.Ieee.{Float}
 use borrow.Author.Tests.{lt-ltb, le-ltb}
-use Rattle.axis.specs.Meaning.{placeOfDay, dayAt, microsAt}
+use Rattle.axis.specs.Meaning.{placeOfDay, dayAt, microsAt, Moment, dayMicros, since}
 use Rattle.axis.specs.Diff.{is-pos, neg-pos, sub-eq, sub-mul, sub-add}
-use Rattle.scales.specs.Meaning.{bound, outcome, Moment, timeScale, timeCount}
+use Rattle.axis.specs.Axis.{since-at}
+use Rattle.scales.specs.Meaning.{bound, outcome, timeScale, timeCount}
 use Rattle.scales.specs.Place.{apart, day-part}
 use Rattle.scales.specs.declared.Refusal.the-variants as R
 use Rattle.scales.specs.declared.Time.{Time}
-use Rattle.scales.specs.declared.Handed.{Handed}
-use Rattle.decimal.specs.Meaning.{dayMicros, signed, isFinite, isInSpan, scaleOf, dayOf, microOf, since, DayOf, decimalSlip, Allowed, WroteDay}
+use Rattle.double.specs.Meaning.{signed}
+use Rattle.handed.specs.declared.Handed.{Handed}
+use Rattle.decimal.specs.Meaning.{DayOf, decimalSlip, Allowed, WroteDay}
 use Rattle.decimal.specs.Parts.{imaging, Imaged}
-use Rattle.decimal.specs.Told.{Told, handed-placed, told-scale, told-count, told-moment, countIn}
+use Rattle.handed.specs.Told.{Told, handed-placed, told-scale, told-count, told-moment, countIn}
+use Rattle.handed.specs.Meaning.{isFinite, isInSpan, scaleOf, dayOf, microOf}
 use Rattle.decimal.specs.declared.Decimal.{Decimal}
 use Rattle.decimal.specs.declared.Decimal.the-variants as D
 
@@ -25,12 +28,6 @@ place-before n h = neg-pos (3456000000000000 - n) ∙ sub-eq 0 (3456000000000000
 
 pub place-after : (n : ℕ) → 3456000000000000 ≤ n → signed false (n - 3456000000000000) ≡ microsAt n
 place-after n h = is-pos (n - 3456000000000000) ∙ sub-eq (n - 3456000000000000) 0 n 3456000000000000 (omega arith)
-
--- the place of a day and a microsecond
-pub since-at : (p u : ℕ) → since (dayAt p) u ≡ microsAt (p * dayMicros + u)
-since-at p u =
-    ap (λ (z : ℤ). z +ℤ pos u) (sub-mul p 40000 dayMicros) ∙ ap (λ (z : ℤ). subℕ (p * dayMicros) (40000 * dayMicros) +ℤ z) (is-pos u)
-    ∙ sub-add (p * dayMicros) (40000 * dayMicros) u 0
 
 -- ---- second 60, and the rest of the day
 pub image-no : (d : ℤ) (u : ℕ) → dayMicros ≤ u → Allowed (outcome (imaging d u)) (decimalSlip (D.Refused R.NoImage))

@@ -1,4 +1,2 @@
 pub mod Meaning
 pub mod Parts
-pub mod Signs
-pub mod Told

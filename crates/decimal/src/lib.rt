@@ -1,31 +1,19 @@
-// Decimal days: an f64 of days read and written, and the one place where a handed time is taken apart.
+// Decimal days: an f64 of days read and written.
 ghost use mathlib.Core.Path.{_≡_};
-ghost use mathlib.Core.Bool.{true};
-ghost use Prim.Native.Nat.{_+_, _*_, _/_, _^_, _<_, _≤_};
-ghost use lib.Dec.{ltb};
-ghost use lib.Ieee.{binary64, ofBits};
-ghost use Rattle.axis.specs.Meaning.{placeOfDay, microsAt};
+ghost use Prim.Native.Nat.{_/_, _^_, _<_};
+ghost use Rattle.axis.specs.Meaning.{microsAt};
 ghost use Rattle.scales.specs.Meaning.{slip, bound, timeScale, timeCount};
-ghost use Rattle.decimal.specs.Meaning.{signed, Holds, DayOf, Took, readOf, WroteDay};
-ghost use Rattle.decimal.specs.Parts.{backTo, firstOf, valueOf, found, timeOf, Imaged};
+ghost use Rattle.decimal.specs.Meaning.{DayOf, readOf, WroteDay};
+ghost use Rattle.decimal.specs.Parts.{Imaged};
+use handed::Handed;
+use handed::Taken;
 use scales::Dated;
 use scales::Gps;
-use scales::Handed;
-use scales::Record;
 use scales::Refusal;
 use scales::Scale;
 use scales::Tai;
 use scales::Time;
-use scales::Timed;
 use scales::Utc;
-
-// What a handed time is taken for. One that is not finite is told apart from one outside its span, for
-// other refusals stand between the two.
-pub enum Taken {
-    NotFinite(Scale),
-    Outside(Scale),
-    At(Time),
-}
 
 // A decimal day as it is written, or a refusal.
 pub enum Decimal {
@@ -33,151 +21,11 @@ pub enum Decimal {
     Refused(Refusal),
 }
 
-// What an f64 is read as: microseconds from day -40000 on, every day having 86,400 s.
-enum Reading {
-    NotFinite,
-    Outside,
-    At(u64),
-}
-
-// ---- reading, from the bits
-
-// floor((q * 10546875 + extra) / 2^(23 + v)), halved with a half going up; a day has 10546875 * 2^13 microseconds.
-fn scaled(q: u64, extra: u64, v: u64) -> u64
-    requires { ⌜ (q < 2 ^ 53) × (extra < 10546875) × (v < 64) ⌝ }
-    ensures { λ r. ⌜ (r ≡ ((q * 10546875 + extra) / 2 ^ (23 + v) + 1) / 2) × (r < 2 ^ 62) ⌝ }
-{
-    let low = q % 8388608 * 10546875 + extra;
-    let high = q / 8388608 * 10546875 + low / 8388608;
-    ((high >> v) + 1) / 2
-}
-
-// Whether q / 2^sh is below limit.
-fn below(q: u64, sh: u64, limit: u64) -> bool
-    requires { ⌜ (q < 2 ^ 53) × (0 < limit) ⌝ }
-    ensures { λ r. ⌜ r ≡ ltb q (limit * 2 ^ sh) ⌝ }
-{
-    if 52 < sh {
-        return true;
-    }
-    (q >> sh) < limit
-}
-
-// q / 2^sh days after day 0, or before it. A half goes to the later: before day 0 that is towards day 0,
-// so a little less than q is taken.
-fn read_number(first: u64, neg: bool, q: u64, sh: u64) -> Reading
-    requires { ⌜ (0 < first) × (first ≤ 36525) × (0 < q) × (q < 2 ^ 53) × (37 ≤ sh) × (sh ≤ 90) ⌝ }
-    ensures { λ r. ⌜ r ≡ valueOf first neg q (2 ^ sh) ⌝ }
-{
-    if neg {
-        if below(q - 1, sh, first) {
-            return Reading::At(3_456_000_000_000_000 - scaled(q - 1, 10_546_874, sh - 37));
-        }
-        return Reading::Outside;
-    }
-    if below(q, sh, 36525) {
-        return Reading::At(3_456_000_000_000_000 + scaled(q, 0, sh - 37));
-    }
-    Reading::Outside
-}
-
-// What a bit pattern stands for. The exponent's field tells the ranges apart: infinite, 2^16 days or
-// more, less than half a microsecond, and the rest.
-fn read_bits(first: u64, bits: u64) -> Reading
-    requires { ⌜ (0 < first) × (first ≤ 36525) ⌝ }
-    ensures { λ r. ⌜ r ≡ found first (ofBits binary64 bits) ⌝ }
-{
-    let neg = 0x8000_0000_0000_0000 <= bits;
-    let field = bits / 0x10_0000_0000_0000 % 2048;
-    let digits = bits % 0x10_0000_0000_0000;
-    if field == 2047 {
-        return Reading::NotFinite;
-    }
-    if 1038 < field {
-        return Reading::Outside;
-    }
-    if field < 985 {
-        return Reading::At(3_456_000_000_000_000);
-    }
-    read_number(first, neg, 0x10_0000_0000_0000 + digits, 1075 - field)
-}
-
-fn read_days(first: u64, day: f64) -> Reading
-    requires { ⌜ (0 < first) × (first ≤ 36525) ⌝ }
-    ensures { λ r. ⌜ r ≡ found first day ⌝ }
-{
-    if day != day {
-        return Reading::NotFinite;
-    }
-    read_bits(first, f64::to_bits(day))
-}
-
-// ---- taking a handed time apart
-
-// The days from a day on or before day 0 to day 0.
-fn back_to(day: i64) -> u64
-    requires { ⌜ placeOfDay day ≤ 40000 ⌝ }
-    ensures { λ r. ⌜ r ≡ backTo day ⌝ }
-{
-    40000 - axis::place_of_day(day)
-}
-
-fn first_of(scale: Scale) -> u64
-    ensures { λ r. ⌜ r ≡ firstOf scale ⌝ }
-{
-    match scale {
-        Scale::Tai => back_to(Tai::FIRST_DAY),
-        Scale::Utc => back_to(Utc::FIRST_DAY),
-        Scale::Gps => back_to(Gps::FIRST_DAY),
-    }
-}
-
-// The time of a scale at place n of the axis of microseconds.
-fn time_of(scale: Scale, n: u64) -> Time
-    requires { ⌜ n < 2 ^ 62 ⌝ }
-    ensures { λ r. ⌜ r ≡ timeOf scale n ⌝ }
-{
-    match scale {
-        Scale::Tai => Time::Tai(Tai(n)),
-        Scale::Utc => Time::Utc(Utc(n / 86_400_000_000 * Utc::BOUND + n % 86_400_000_000)),
-        Scale::Gps => Time::Gps(Gps(n)),
-    }
-}
-
-fn take_record(r: Record) -> Taken
-    ensures { λ t. ⌜ Took (Handed.Record r) t ⌝ }
-{
-    match r.to_time() {
-        Timed::At(t) => Taken::At(t),
-        Timed::Refused(_, s) => Taken::Outside(s),
-    }
-}
-
-fn take_decimal(day: f64, scale: Scale) -> Taken
-    ensures { λ t. ⌜ Took (Handed.Decimal day scale) t ⌝ }
-{
-    match read_days(first_of(scale), day) {
-        Reading::NotFinite => Taken::NotFinite(scale),
-        Reading::Outside => Taken::Outside(scale),
-        Reading::At(n) => Taken::At(time_of(scale, n)),
-    }
-}
-
-// A handed time, taken apart.
-pub fn take(h: Handed) -> Taken
-    ensures { λ t. ⌜ Took h t ⌝ }
-{
-    match h {
-        Handed::Record(r) => take_record(r),
-        Handed::Decimal(day, scale) => take_decimal(day, scale),
-    }
-}
-
 // The record that a decimal day stands for.
 pub fn read(day: f64, scale: Scale) -> Dated
     ensures { λ r. ⌜ slip r ≡ readOf day scale ⌝ }
 {
-    match take(Handed::Decimal(day, scale)) {
+    match handed::take(Handed::Decimal(day, scale)) {
         Taken::NotFinite(s) => Dated::Refused(Refusal::DecimalNotFinite, s),
         Taken::Outside(s) => Dated::Refused(Refusal::OutsideSpan, s),
         Taken::At(t) => Dated::At(t.to_record()),
@@ -186,32 +34,15 @@ pub fn read(day: f64, scale: Scale) -> Dated
 
 // ---- writing
 
-// n, or -n, held exactly.
-fn held(neg: bool, n: u64) -> f64
-    requires { ⌜ n < 2 ^ 53 ⌝ }
-    ensures { λ r. ⌜ Holds r neg n 1 ⌝ }
-{
-    let whole = n as f64;
-    if neg { -whole } else { whole }
-}
-
-// The one division: two whole numbers, each held exactly.
-fn quotient(neg: bool, n: u64) -> f64
-    requires { ⌜ (n < 2 ^ 53) × (neg ≡ true → 0 < n) ⌝ }
-    ensures { λ r. ⌜ DayOf (signed neg n) r ⌝ }
-{
-    held(neg, n) / 86_400_000_000.0
-}
-
 // The decimal day at place n of the axis of microseconds.
 fn day_of(n: u64) -> f64
     requires { ⌜ n < 2 ^ 53 ⌝ }
     ensures { λ r. ⌜ DayOf (microsAt n) r ⌝ }
 {
     if n < 3_456_000_000_000_000 {
-        return quotient(true, 3_456_000_000_000_000 - n);
+        return double::inner::quotient(true, 3_456_000_000_000_000 - n, 86_400_000_000);
     }
-    quotient(false, n - 3_456_000_000_000_000)
+    double::inner::quotient(false, n - 3_456_000_000_000_000, 86_400_000_000)
 }
 
 // The same of a count that holds `bound` microseconds a day; second 60 has no decimal day.
@@ -241,7 +72,7 @@ fn write_time(t: Time) -> Decimal
 pub fn write(h: Handed) -> Decimal
     ensures { λ r. ⌜ WroteDay h r ⌝ }
 {
-    match take(h) {
+    match handed::take(h) {
         Taken::NotFinite(_) => Decimal::Refused(Refusal::DecimalNotFinite),
         Taken::Outside(_) => Decimal::Refused(Refusal::OutsideSpan),
         Taken::At(t) => write_time(t),

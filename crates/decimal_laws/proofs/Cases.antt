@@ -8,17 +8,20 @@ use Prim.Native.Nat.{ℕ, _*_, _^_, _≤_}
 use lib.Dec.{lit<, lit≤}
 use lib.IntN.{ℤ, pos, negsuc}
 use lib.Ieee.{Float, fin, binary64, ofBits, fits}
+use Rattle.axis.specs.Meaning.{dayMicros}
 use Rattle.scales.specs.Meaning.{Slip, slip, timeAt, recordOf}
 use Rattle.scales.specs.Place.{Placed}
 use Rattle.scales.specs.declared.Scale.{Scale}
 use Rattle.scales.specs.declared.Scale.the-variants as S
 use Rattle.scales.specs.declared.Refusal.the-variants as R
 use Rattle.scales.specs.declared.Dated.the-variants as A
-use Rattle.scales.specs.declared.Handed.the-variants as H
-use Rattle.decimal.specs.Meaning.{dayMicros, exactOf, isFinite, isInSpan, takenOf, Took, readOf, plusZero, WroteDay}
-use Rattle.decimal.specs.Told.{took-one, told-nothing, told-outside, told-at, handed-placed}
+use Rattle.double.specs.Meaning.{exactOf, plusZero}
+use Rattle.handed.specs.declared.Handed.the-variants as H
+use Rattle.decimal.specs.Meaning.{readOf, WroteDay}
+use Rattle.handed.specs.Told.{took-one, told-nothing, told-outside, told-at, handed-placed}
 use Rattle.decimal.specs.declared.Decimal.the-variants as D
-use Rattle.decimal.specs.declared.Taken.the-variants as K
+use Rattle.handed.specs.declared.Taken.the-variants as K
+use Rattle.handed.specs.Meaning.{isFinite, isInSpan, takenOf, Took}
 use Rattle.decimal_laws.specs.Meaning.{off, less}
 use Rattle.decimal_laws.proofs.Unique.{wrote-one}
 use Rattle.decimal_laws.proofs.Nearer.{no-nearer}

@@ -9,8 +9,10 @@ use lib.IntN.{ℤ, pos, negsuc, subℕ, natAbs, _+ℤ_, _-ℤ_, _*ℤ_}
 use lib.Ieee.{Float}
 use lib.Pow.{pow-pos}
 use Rattle.axis.specs.Diff.{is-pos, neg-pos, sub-pos, sub-neg, sub-mul, sub-add, sub-negate, Way, way, below, above}
-use Rattle.decimal.specs.Meaning.{dayMicros, signed, Exact, exactOf, over, under, apart, Nearest, plusZero, DayOf}
-use Rattle.decimal.specs.Signs.{under-pos}
+use Rattle.axis.specs.Meaning.{dayMicros}
+use Rattle.double.specs.Meaning.{signed, Exact, exactOf, over, under, apart, Nearest, plusZero}
+use Rattle.double.proofs.Exact.{under-pos}
+use Rattle.decimal.specs.Meaning.{DayOf}
 use Rattle.decimal_laws.specs.Meaning.{off}
 
 abs-sub : (a b : ℕ) → natAbs (subℕ a b) ≡ apart a b

@@ -9,9 +9,10 @@ use lib.IntN.{ℤ, pos, negsuc}
 use lib.Pow.{pow-lt, pow-add, pow-pos, pow-mono}
 use lib.Ieee.{Float, nan, inf, fin, binary64, fits}
 use lib.Ieee.Digits.{back}
-use Rattle.decimal.specs.Meaning.{dayMicros, signed, up, down, Exact, exactOf, over, under, finite, apart, Nearest, plusZero, DayOf}
-use Rattle.decimal.specs.Signs.{under-pos}
-use Rattle.decimal.proofs.Exact.{digits}
+use Rattle.axis.specs.Meaning.{dayMicros}
+use Rattle.decimal.specs.Meaning.{DayOf}
+use Rattle.double.proofs.Exact.{digits, under-pos}
+use Rattle.double.specs.Meaning.{signed, up, down, Exact, exactOf, over, under, finite, apart, Nearest, plusZero}
 use Rattle.decimal_laws.specs.Meaning.{off}
 use Rattle.decimal_laws.proofs.Distance.{off-same, off-other, other-parts, near-off}
 

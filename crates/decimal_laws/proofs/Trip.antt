@@ -11,20 +11,22 @@ use lib.IntN.{ℤ, pos, negsuc, negℤ, subℕ, natAbs, _+ℤ_, _*ℤ_}
 use lib.Signed.{ltZ}
 use lib.Ieee.{Float, fin, binary64, fits}
 use borrow.Author.Tests.{lt-ltb, le-ltb, ltb-true}
-use Rattle.axis.specs.Meaning.{placeOfDay, dayAt, microsAt, floorZ}
-use Rattle.axis.specs.Axis.{day-place, micros-day, micros-left}
+use Rattle.axis.specs.Meaning.{placeOfDay, dayAt, microsAt, floorZ, Moment, dayMicros, since}
+use Rattle.axis.specs.Axis.{day-place, micros-day, micros-left, since-at}
 use Rattle.axis.specs.Diff.{is-pos, is-negsuc, sub-eq, sub-inj, sub-mul, sub-add, sub-lt, sub-floor, up, down, parts}
-use Rattle.scales.specs.Meaning.{first, inSpan, dated, refused, answer, slip, Moment, recordOf}
+use Rattle.scales.specs.Meaning.{first, inSpan, dated, refused, answer, slip, recordOf}
 use Rattle.scales.specs.Place.{firstAt, apart, Placed, placed, day-part, micro-part}
 use Rattle.scales.specs.declared.Scale.{Scale}
 use Rattle.scales.specs.declared.Scale.the-variants as S
 use Rattle.scales.specs.declared.Record.{Record}
 use Rattle.scales.specs.declared.Dated.the-variants as A
-use Rattle.scales.specs.declared.Handed.the-variants as H
-use Rattle.decimal.specs.Meaning.{dayMicros, Exact, exactOf, under, signedOver, finite, before, spans, microsOf, nearestMoment, since, readOf, DayOf, decimalSlip, Allowed, WroteDay}
-use Rattle.decimal.specs.Signs.{under-pos, double-pos}
+use Rattle.double.specs.Meaning.{Exact, exactOf, under, signedOver, finite, before}
+use Rattle.double.proofs.Exact.{under-pos}
+use Rattle.handed.specs.declared.Handed.the-variants as H
+use Rattle.decimal.specs.Meaning.{readOf, DayOf, decimalSlip, Allowed, WroteDay}
+use Rattle.handed.specs.Signs.{double-pos}
+use Rattle.handed.specs.Meaning.{spans, microsOf, nearestMoment}
 use Rattle.decimal.specs.declared.Decimal.the-variants as D
-use Rattle.decimal.proofs.Image.{since-at}
 use Rattle.decimal_laws.specs.Meaning.{off, less, Sooner}
 use Rattle.decimal_laws.proofs.Distance.{off-sub, close}
 use Rattle.decimal_laws.proofs.Nearer.{exact-day}

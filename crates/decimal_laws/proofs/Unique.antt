@@ -1,6 +1,6 @@
 -- Any two answers that the contract of `write` allows are equal: the relation of a quotient and its nearest double allows one double.
 -- Assumes nothing.
-use mathlib.Core.Path.{_≡_, sym, ap, _∙_, subst}
+use mathlib.Core.Path.{_≡_, refl, sym, ap, _∙_, subst}
 use mathlib.Core.Bool.{Bool, true, false, cond}
 use Prim.Native.Nat.{ℕ, zero, suc, _+_, _-_, _*_, _/_, _%_, _^_, _≤_, _<_}
 use native.Mathlib.Nat.{lt-irrefl, lt-of-lt-of-le, le-antisymm, lt-of-not-le, le-of-suc-le-suc, mul-pos, mul-le-mul-right, lt-of-mul-lt-mul-right, le-of-mul-le-mul-right, mul-div-cancel, pow-succ'}
@@ -12,13 +12,15 @@ use lib.Ieee.{Float, nan, inf, fin, binary64, up, down, size, fits, toBits, ofBi
 use lib.Ieee.Fits.{down-pos}
 use lib.Ieee.Exact.{HasValue}
 use lib.Ieee.Bits.{ofBits-toBits}
-use Rattle.scales.specs.Meaning.{Outcome, refused, answer, outcome}
-use Rattle.scales.specs.Same.{some, refusals}
-use Rattle.scales.specs.declared.Handed.{Handed}
-use Rattle.decimal.specs.Meaning.{dayMicros, apart, Holds, Nearest, DayOf, DecimalSlip, decimalSlip, Allowed, writing, WroteDay}
+use Rattle.axis.specs.Meaning.{dayMicros}
+use Rattle.scales.specs.Meaning.{Outcome, refused, answer, outcome, Valued, Reply, some, no, valueSlip}
+use Rattle.scales.specs.Same.{same-made, same-reply}
+use Rattle.handed.specs.declared.Handed.{Handed}
+use Rattle.decimal.specs.Meaning.{DayOf, replyDecimal, decimalSlip, Allowed, writing, WroteDay}
 use Rattle.decimal.specs.declared.Decimal.{Decimal}
 use Rattle.decimal.specs.declared.Decimal.the-variants as D
-use Rattle.decimal.proofs.Exact.{has}
+use Rattle.double.proofs.Exact.{has}
+use Rattle.double.specs.Meaning.{apart, Holds, Nearest, plusZero}
 
 -- ---- two doubles of one size and sign are one
 abbrev bitsOf : Bool → ℕ → ℕ
@@ -90,20 +92,25 @@ day-one (negsuc n) x y a b = nearest-one true (suc n) dayMicros x y (lit< tt) a 
 
 -- ---- the answers
 same-day : (a b : Decimal) → decimalSlip a ≡ decimalSlip b → a ≡ b
-same-day (D.Day x) (D.Day y) e = λ i. D.Day (e i .day)
-same-day (D.Day x) (D.Refused g) e = absurd (some g (λ i. sym e i .number))
-same-day (D.Refused f) (D.Day y) e = absurd (some f (λ i. e i .number))
-same-day (D.Refused f) (D.Refused g) e = ap D.Refused (refusals f g (λ i. e i .number))
+same-day = same-made (valueSlip plusZero) (same-reply plusZero) replyDecimal make back
+  where
+    make : Reply Float → Decimal
+    make (some x) = D.Day x
+    make (no f) = D.Refused f
 
-pub allowed-one : (o : Outcome ℤ) (v w : DecimalSlip) → Allowed o v → Allowed o w → v ≡ w
+    back : (a : Decimal) → make (replyDecimal a) ≡ a
+    back (D.Day x) = refl
+    back (D.Refused f) = refl
+
+pub allowed-one : (o : Outcome ℤ) (v w : Valued Float) → Allowed o v → Allowed o w → v ≡ w
 allowed-one (refused n) v w a b =
     let p = a .0 ∙ sym (b .0) in
     let q = a .1 ∙ sym (b .1) in
-    λ i. record { number = p i; day = q i }
+    λ i. record { number = p i; value = q i }
 allowed-one (answer z) v w a b =
     let p = a .0 ∙ sym (b .0) in
-    let q = day-one z (v .day) (w .day) (a .1) (b .1) in
-    λ i. record { number = p i; day = q i }
+    let q = day-one z (v .value) (w .value) (a .1) (b .1) in
+    λ i. record { number = p i; value = q i }
 
 pub wrote-one : (h : Handed) (a b : Decimal) → WroteDay h a → WroteDay h b → a ≡ b
 wrote-one h a b p q = same-day a b (allowed-one (outcome (writing h)) (decimalSlip a) (decimalSlip b) p q)

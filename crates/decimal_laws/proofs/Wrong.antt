@@ -8,18 +8,20 @@ use lib.IntN.{ℤ, pos, negsuc, negℤ, natAbs, _*ℤ_}
 use lib.Ieee.{Float, nan, inf, fin, binary64, fits, neg, div, ofInt}
 use lib.Ieee.Fits.{eq→eqb}
 use Rattle.evidence.specs.ShutOut.{ShutOut, differ}
-use Rattle.axis.specs.Meaning.{placeOfDay, floorZ, modZ}
+use Rattle.axis.specs.Meaning.{placeOfDay, floorZ, modZ, dayMicros, since}
 use Rattle.scales.specs.Meaning.{inSpan, given, gives, outcome, Slip, dated, timeCount, timeAt, recordOf, codeOf}
 use Rattle.scales.specs.declared.Scale.{Scale}
 use Rattle.scales.specs.declared.Scale.the-variants as S
 use Rattle.scales.specs.declared.Refusal.the-variants as R
-use Rattle.scales.specs.declared.Handed.{Handed}
-use Rattle.scales.specs.declared.Handed.the-variants as H
-use Rattle.decimal.specs.Meaning.{dayMicros, Exact, exactOf, over, under, signedOver, signed, finite, spans, nearest, microsOf, scaleOf, isFinite, dayOf, microOf, takenOf, Took, readOf, since, plusZero, decimalSlip, WroteDay}
+use Rattle.double.specs.Meaning.{Exact, exactOf, over, under, signedOver, signed, finite, nearest, plusZero}
+use Rattle.handed.specs.declared.Handed.{Handed}
+use Rattle.handed.specs.declared.Handed.the-variants as H
+use Rattle.decimal.specs.Meaning.{readOf, decimalSlip, WroteDay}
 use Rattle.decimal.specs.declared.Decimal.{Decimal}
 use Rattle.decimal.specs.declared.Decimal.the-variants as D
-use Rattle.decimal.specs.declared.Taken.{Taken}
-use Rattle.decimal.specs.declared.Taken.the-variants as K
+use Rattle.handed.specs.declared.Taken.{Taken}
+use Rattle.handed.specs.declared.Taken.the-variants as K
+use Rattle.handed.specs.Meaning.{spans, microsOf, scaleOf, isFinite, dayOf, microOf, takenOf, Took}
 use Rattle.decimal_laws.proofs.Unique.{wrote-one}
 use Rattle.ground_laws.proofs.Desks.{answered, empty, byNumber, byMicro}
 
@@ -114,8 +116,8 @@ forbidden h a b p d w = d (wrote-one h a b p w)
 byDayNumber : {x y : Decimal} → (decimalSlip x .number ≡ decimalSlip y .number → ⊥) → x ≡ y → ⊥
 byDayNumber d e = differ (λ (t : Decimal). decimalSlip t .number) d e
 
-bySignificand : {x y : Decimal} → (exactOf (decimalSlip x .day) .significand ≡ exactOf (decimalSlip y .day) .significand → ⊥) → x ≡ y → ⊥
-bySignificand d e = differ (λ (t : Decimal). exactOf (decimalSlip t .day) .significand) d e
+bySignificand : {x y : Decimal} → (exactOf (decimalSlip x .value) .significand ≡ exactOf (decimalSlip y .value) .significand → ⊥) → x ≡ y → ⊥
+bySignificand d e = differ (λ (t : Decimal). exactOf (decimalSlip t .value) .significand) d e
 
 abbrev micros5 : Handed
 micros5 = H.Record (recordOf S.Tai (pos 0) 5)
@@ -174,7 +176,7 @@ write-minus-zero = (
   (refl, refl),
   refl,
   forbidden zero (D.Day plusZero) (D.Day (fin true 0 (pos 0))) (refl, refl)
-      (differ (λ (t : Decimal). cond (exactOf (decimalSlip t .day) .minus) 1 0) (λ e. omega arith)),
+      (differ (λ (t : Decimal). cond (exactOf (decimalSlip t .value) .minus) 1 0) (λ e. omega arith)),
 )
 
 -- second 60 written as the next day's first

@@ -6,7 +6,7 @@ use mathlib.Core.Bool.{Bool, true}
 use Prim.Native.Nat.{ℕ, _<_}
 use lib.IntN.{ℤ, pos, natAbs, _-ℤ_, _*ℤ_}
 use lib.Signed.{ltZ}
-use Rattle.decimal.specs.Meaning.{Exact, under, signedOver}
+use Rattle.double.specs.Meaning.{Exact, under, signedOver}
 
 -- the distance of the value v from z / d, in parts of d * under v
 abbrev pub off : ℤ → ℕ → Exact → ℕ

@@ -6,12 +6,11 @@ use native.Mathlib.Omega.{arith}
 use native.Mathlib.Nat.{mul-le-mul}
 use lib.IntN.{ℤ, pos, _*ℤ_}
 use borrow.Author.Tests.{lt-ltb, le-ltb}
-use Rattle.axis.specs.Meaning.{microsAt, countsAt}
+use Rattle.axis.specs.Meaning.{microsAt, countsAt, Moment}
 use Rattle.axis.specs.Diff.{sub-mul}
-use Rattle.scales.specs.Meaning.{dated, refused, answer, Outcome, outcome, Moment}
+use Rattle.scales.specs.Meaning.{dated, refused, answer, Outcome, outcome, valued}
 use Rattle.scales.specs.declared.Scale.the-variants as S
-use Rattle.scales.specs.declared.Handed.{Handed}
-use Rattle.layout_fields.specs.Meaning.{valued}
+use Rattle.handed.specs.declared.Handed.{Handed}
 use Rattle.clock.specs.Meaning as K
 use Rattle.clock.specs.Places as C
 use Rattle.clock.specs.Stage.{covering, unacceptedBy, found, none}

@@ -5,10 +5,10 @@ use Prim.Native.Nat.{ℕ, _*_, _^_}
 use lib.Dec.{leb, ltb}
 use lib.IntN.{ℤ, pos, negℤ, _+ℤ_, _*ℤ_}
 use lib.Signed.{leZ, ltZ}
-use Rattle.scales.specs.Meaning.{first, last, Judged, given, outcome, Moment, Slip, dated}
+use Rattle.axis.specs.Meaning.{Moment}
+use Rattle.scales.specs.Meaning.{first, last, Judged, given, outcome, Slip, dated, Valued, valued}
 use Rattle.scales.specs.declared.Scale.the-variants as S
-use Rattle.scales.specs.declared.Handed.{Handed}
-use Rattle.layout_fields.specs.Meaning.{Valued, valued}
+use Rattle.handed.specs.declared.Handed.{Handed}
 use Rattle.clock.specs.Meaning as C
 use Rattle.goce.specs.declared.Correlation.{Correlation}
 

@@ -2,16 +2,15 @@
 // Inside, the reference is a place in counts, a time one in microseconds, and an elapsed count k is held as k + 2^47.
 ghost use mathlib.Core.Path.{_≡_};
 ghost use Prim.Native.Nat.{_<_};
-ghost use Rattle.scales.specs.Meaning.{slip};
-ghost use Rattle.layout_fields.specs.Meaning.{countSlip};
+ghost use Rattle.scales.specs.Meaning.{slip, countSlip};
 ghost use Rattle.goce.specs.Meaning.{inLimits, dateOf, obtOf};
 ghost use Rattle.goce.specs.Places.{placeOf, timeAt, endsAt, countFrom, lastAt, obtFrom, Based, Windowed, Near};
 use clock::inner::Ends;
 use clock::inner::Place;
 use clock::inner::Turned;
-use layout_fields::Counting;
+use handed::Handed;
+use scales::Counted;
 use scales::Dated;
-use scales::Handed;
 use scales::Refusal;
 use scales::Scale;
 
@@ -145,14 +144,14 @@ fn obt_from(reference: u64, k: u64) -> u64
 }
 
 // The count of a handed time: the last of the window whose time is not later.
-pub fn count_of(c: Correlation, h: Handed) -> Counting
+pub fn count_of(c: Correlation, h: Handed) -> Counted
     ensures { λ r. ⌜ countSlip r ≡ obtOf c h ⌝ }
 {
     let Place::At(s) = reference_of(c) else {
-        return Counting::Refused(clock::inner::unaccepted(h));
+        return Counted::Refused(clock::inner::unaccepted(h));
     };
     match clock::inner::turn(Scale::Utc, ends_of(s, c.gradient, c.back, c.ahead), h) {
-        Turned::At(w) => Counting::Count(obt_from(c.obt0, last_at(s, c.gradient, w))),
-        Turned::Refused(f) => Counting::Refused(f),
+        Turned::At(w) => Counted::Count(obt_from(c.obt0, last_at(s, c.gradient, w))),
+        Turned::Refused(f) => Counted::Refused(f),
     }
 }

@@ -4,11 +4,10 @@ use Prim.Native.Nat.{ℕ, _^_, _<_}
 use lib.Dec.{ltb}
 use lib.IntN.{ℤ, pos, _+ℤ_, _*ℤ_}
 use borrow.Author.Tests.{ltb-true}
-use Rattle.axis.specs.Meaning.{floorZ}
-use Rattle.scales.specs.Meaning.{answer, outcome, Moment}
+use Rattle.axis.specs.Meaning.{floorZ, Moment, since}
+use Rattle.scales.specs.Meaning.{answer, outcome}
 use Rattle.scales.specs.Order.{passed}
-use Rattle.scales.specs.declared.Handed.{Handed}
-use Rattle.decimal.specs.Meaning.{since}
+use Rattle.handed.specs.declared.Handed.{Handed}
 use Rattle.clock.specs.Meaning as C
 use Rattle.clock_laws.proofs.Answers as G
 use Rattle.goce.specs.Meaning.{accepted, reference, clockOf, dating, turning}

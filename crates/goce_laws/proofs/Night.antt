@@ -5,9 +5,9 @@ use Prim.Native.Nat.{ℕ, _%_, _<_}
 use lib.IntN.{ℤ}
 use lib.Signed.{ltZ}
 use borrow.Author.Tests.{lt-ltb}
-use Rattle.scales.specs.Meaning.{refused, answer, outcome, Moment}
+use Rattle.axis.specs.Meaning.{Moment, since}
+use Rattle.scales.specs.Meaning.{refused, answer, outcome}
 use Rattle.scales.specs.declared.Scale.the-variants as S
-use Rattle.decimal.specs.Meaning.{since}
 use Rattle.clock.specs.Meaning.{receivable, time, inWindow, cover, countAt}
 use Rattle.clock_laws.proofs.Night as G
 use Rattle.goce.specs.Meaning.{accepted, clockOf, dating}

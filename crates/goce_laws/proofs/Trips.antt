@@ -6,11 +6,12 @@ use Prim.Native.Nat.{ℕ}
 use native.Mathlib.Omega.{arith}
 use lib.IntN.{ℤ, pos, _+ℤ_}
 use lib.Signed.{leZ}
-use Rattle.scales.specs.Meaning.{answer, outcome, Moment, recordOf}
+use Rattle.axis.specs.Meaning.{Moment, since}
+use Rattle.scales.specs.Meaning.{answer, outcome, recordOf}
 use Rattle.scales.specs.declared.Scale.the-variants as S
-use Rattle.scales.specs.declared.Handed.{Handed}
-use Rattle.scales.specs.declared.Handed.the-variants as H
-use Rattle.decimal.specs.Meaning.{since, isFinite, isInSpan, dayOf, microOf}
+use Rattle.handed.specs.declared.Handed.{Handed}
+use Rattle.handed.specs.declared.Handed.the-variants as H
+use Rattle.handed.specs.Meaning.{isFinite, isInSpan, dayOf, microOf}
 use Rattle.clock_laws.proofs.Trips.{Stands}
 use Rattle.clock_laws.proofs.Trips as G
 use Rattle.goce.specs.Meaning.{accepted, clockOf, dating, turning}

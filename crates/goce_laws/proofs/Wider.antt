@@ -6,7 +6,7 @@ use Prim.Native.Nat.{ℕ, _^_, _≤_}
 use lib.Dec.{ltb}
 use lib.IntN.{ℤ}
 use Rattle.scales.specs.Meaning.{given, outcome, refused}
-use Rattle.scales.specs.declared.Handed.{Handed}
+use Rattle.handed.specs.declared.Handed.{Handed}
 use Rattle.clock.specs.Meaning as C
 use Rattle.clock_laws.proofs.Wider as G
 use Rattle.goce.specs.Meaning.{accepted, clockOf, dating, turning}

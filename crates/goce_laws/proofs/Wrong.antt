@@ -7,12 +7,11 @@ use lib.Dec.{ltb}
 use lib.IntN.{ℤ, pos, negsuc, natAbs, _+ℤ_, _-ℤ_, _*ℤ_}
 use Rattle.evidence.specs.ShutOut.{ShutOut, differ}
 use Rattle.axis.specs.Meaning.{floorZ}
-use Rattle.scales.specs.Meaning.{Slip, Outcome, answer, refused, given, gives, outcome, recordOf}
+use Rattle.scales.specs.Meaning.{Slip, Outcome, answer, refused, given, gives, outcome, recordOf, Valued, valued}
 use Rattle.scales.specs.declared.Scale.the-variants as S
-use Rattle.scales.specs.declared.Handed.{Handed}
-use Rattle.scales.specs.declared.Handed.the-variants as H
-use Rattle.decimal.specs.Meaning.{isFinite, isInSpan}
-use Rattle.layout_fields.specs.Meaning.{Valued, valued}
+use Rattle.handed.specs.declared.Handed.{Handed}
+use Rattle.handed.specs.declared.Handed.the-variants as H
+use Rattle.handed.specs.Meaning.{isFinite, isInSpan}
 use Rattle.clock.specs.Meaning.{Clock, elapsed, clock, time, inWindow, within, covers, inForce, latest, lastCount, countAt, instantOf, hasImage}
 use Rattle.clock_laws.proofs.Desks.{dateBy, windowIgnored, receiptIgnored, unsigned, towardsZero, countBy, scaleIgnored, secondIgnored}
 use Rattle.goce.specs.Meaning.{inLimits, isOffset, accepted, clockOf, dateOf, obtOf}

@@ -32,33 +32,33 @@ abbrev pub dayZero : Scale → Slip
 dayZero s = answered s (pos 0) 0
 
 -- ---- writings
-abbrev pub got : ℕ → List ℕ → Wrote
-got n out = record { number = 0; length = n; bytes = out }
+abbrev pub got : ℕ → List ℕ → Wrote ℕ
+got n out = record { number = 0; length = n; lent = out }
 
 -- a refusal, which keeps every byte
-abbrev pub keeps : ℕ → List ℕ → Wrote
-keeps n out = record { number = n; length = 0; bytes = out }
+abbrev pub keeps : ℕ → List ℕ → Wrote ℕ
+keeps n out = record { number = n; length = 0; lent = out }
 
-abbrev pub bytesAt : ℕ → Wrote → ℕ
-bytesAt k w = getD (w .bytes) k 0
+abbrev pub bytesAt : ℕ → Wrote ℕ → ℕ
+bytesAt k w = getD (w .lent) k 0
 
 -- what is lent, so that a byte that was written shows
 abbrev pub sevens : ℕ → List ℕ
 sevens n = replicate n 7
 
 -- the desk that writes nothing, and answers as if it had
-abbrev pub writesNothing : List ℕ → Wrote → Wrote
-writesNothing out w = record { number = w .number; length = w .length; bytes = out }
+abbrev pub writesNothing : List ℕ → Wrote ℕ → Wrote ℕ
+writesNothing out w = record { number = w .number; length = w .length; lent = out }
 
 -- a made-up length: one that was not written
-abbrev pub madeUp : Wrote → Wrote
-madeUp w = record { number = w .number; length = w .length + 2; bytes = w .bytes }
+abbrev pub madeUp : Wrote ℕ → Wrote ℕ
+madeUp w = record { number = w .number; length = w .length + 2; lent = w .lent }
 
 -- what stands after the image is cleared
-abbrev pub clearing : List ℕ → Wrote → Wrote
+abbrev pub clearing : List ℕ → Wrote ℕ → Wrote ℕ
 clearing out w =
-    record { number = w .number; length = w .length; bytes = take (w .length) (w .bytes) ++ replicate (length out - w .length) 0 }
+    record { number = w .number; length = w .length; lent = take (w .length) (w .lent) ++ replicate (length out - w .length) 0 }
 
 -- a byte is written whatever the answer
-abbrev pub scribbling : Wrote → Wrote
-scribbling w = record { number = w .number; length = w .length; bytes = 0 ∷ drop 1 (w .bytes) }
+abbrev pub scribbling : Wrote ℕ → Wrote ℕ
+scribbling w = record { number = w .number; length = w .length; lent = 0 ∷ drop 1 (w .lent) }

@@ -52,4 +52,4 @@ module _ (n m x y : ℕ) (s : List ℕ) where
 
     pub two-laid : wrote (W.Bytes (n + m)) (take n (p ++ drop (n - 0) s) ++ (q ++ drop (n + m - n) (drop n (p ++ drop (n - 0) s)))) ≡
         written s (outcome (placing (field n x ++ field m y) s))
-    two-laid = rw (two-length, le-leb (n + m) (length s) h) (ap {B = Wrote} (λ (l : List ℕ). record { number = 0; length = n + m; bytes = l }) both ∙ rw two-length)
+    two-laid = rw (two-length, le-leb (n + m) (length s) h) (ap {B = Wrote ℕ} (λ (l : List ℕ). record { number = 0; length = n + m; lent = l }) both ∙ rw two-length)

@@ -5,23 +5,23 @@ use mathlib.Core.List.{List, _++_, append-assoc}
 use Prim.Native.Nat.{ℕ, _+_, _*_, _<_}
 use native.Mathlib.Omega.{arith}
 use Rattle.octets.specs.Meaning.{field}
-use Rattle.scales.specs.Meaning.{Judged, given, gives, outcome, numberOf, Wrote, wrote, written}
+use Rattle.scales.specs.Meaning.{Judged, given, gives, outcome, numberOf, Wrote, wrote, written, some, no, valued, valueSlip}
 use Rattle.scales.specs.Order.{Refuses, Answers, refuses-is, answers-is}
 use Rattle.scales.specs.declared.Refusal.{Refusal}
 use Rattle.scales.specs.declared.Refusal.the-variants as R
 use Rattle.scales.specs.declared.Written.the-variants as W
-use Rattle.layout_fields.specs.Meaning.{placing, some, no, valued, slipOf}
+use Rattle.layout_fields.specs.Meaning.{placing}
 use Rattle.layout_fields.specs.Parts.{field-two}
 use Rattle.layout_fields.specs.Cryosat.{fieldsOf, empty, slip}
 use Rattle.layout_fields.specs.declared.cryosat.Fields.{Fields}
-use Rattle.layout_fields.specs.declared.cryosat.Parted.the-variants as P
+use Rattle.layout_fields.specs.declared.cryosat.CryosatParted.the-variants as P
 
 -- ---- a reader refuses, or answers
 module _ {A : Type 0} (z : A) (j : Judged A) where
-  pub refuses : (f : Refusal) → Refuses j (numberOf f) → slipOf z (no f) ≡ valued z (outcome j)
+  pub refuses : (f : Refusal) → Refuses j (numberOf f) → valueSlip z (no f) ≡ valued z (outcome j)
   refuses f r = ap (valued z) (sym (refuses-is r))
 
-  pub answers : (a : A) → Answers j a → slipOf z (some a) ≡ valued z (outcome j)
+  pub answers : (a : A) → Answers j a → valueSlip z (some a) ≡ valued z (outcome j)
   answers a r = ap (valued z) (sym (answers-is r))
 
 -- ---- CryoSat's fields as its reader answers them, and what SIRAL's learns of them
@@ -47,7 +47,7 @@ module _ (out : List ℕ) (j : Judged (List ℕ)) where
   goes-on t n e = rw e
 
 -- ---- three and four fields within their limits, laid as two
-module _ (out : List ℕ) (t : Bool) (e : t ≡ true) {v : Wrote} where
+module _ (out : List ℕ) (t : Bool) (e : t ≡ true) {v : Wrote ℕ} where
   pub three : (w x y z : ℕ) → w ≡ x → y < 4294967296 → z < 65536 →
       v ≡ written out (outcome (placing (field 2 w ++ field 6 (y * 65536 + z)) out)) →
       v ≡ written out (outcome (given t 3 (placing (field 2 x ++ (field 4 y ++ field 2 z)) out)))

@@ -6,12 +6,12 @@ use Prim.Native.Nat.{ℕ}
 use lib.Dec.{ltb, eqb}
 use lib.ListN.{length}
 use Rattle.octets.specs.Meaning.{field}
-use Rattle.scales.specs.Meaning.{Judged, given, gives, outcome, Wrote, written}
+use Rattle.scales.specs.Meaning.{Judged, given, gives, outcome, Wrote, written, Valued, valued, Reply, some, no, valueSlip}
 use Rattle.scales.specs.declared.Refusal.the-variants as R
-use Rattle.layout_fields.specs.Meaning.{part, placing, Valued, valued, Reply, some, no, slipOf}
+use Rattle.layout_fields.specs.Meaning.{part, placing}
 use Rattle.layout_fields.specs.declared.cryosat.Fields.{Fields}
-use Rattle.layout_fields.specs.declared.cryosat.Parted.{Parted}
-use Rattle.layout_fields.specs.declared.cryosat.Parted.the-variants as P
+use Rattle.layout_fields.specs.declared.cryosat.CryosatParted.{CryosatParted}
+use Rattle.layout_fields.specs.declared.cryosat.CryosatParted.the-variants as P
 
 abbrev pub fieldsOf : List ℕ → Fields
 fieldsOf s = record { day = part s 0 2; millisecond = part s 2 4; microsecond = part s 6 2 }
@@ -35,22 +35,22 @@ writing f out =
     (placing (imageOf f) out)
 
 -- the fields that bytes begin with, or 3: SIRAL's begin so too
-abbrev pub frontOf : List ℕ → Parted
+abbrev pub frontOf : List ℕ → CryosatParted
 frontOf s = cond (inLimits (part s 2 4) (part s 6 2)) (P.Fields (fieldsOf s)) (P.Refused R.FieldOver)
 
 -- ---- what is handed back
 abbrev pub empty : Fields
 empty = record { day = 0; millisecond = 0; microsecond = 0 }
 
-abbrev pub parted : Parted → Reply Fields
+abbrev pub parted : CryosatParted → Reply Fields
 parted (P.Fields f) = some f
 parted (P.Refused r) = no r
 
-abbrev pub slip : Parted → Valued Fields
-slip r = slipOf empty (parted r)
+abbrev pub slip : CryosatParted → Valued Fields
+slip r = valueSlip empty (parted r)
 
 unfoldable pub read : List ℕ → Valued Fields
 read s = valued empty (outcome (reading s))
 
-unfoldable pub write : Fields → List ℕ → Wrote
+unfoldable pub write : Fields → List ℕ → Wrote ℕ
 write f out = written out (outcome (writing f out))

@@ -4,11 +4,11 @@ use Prim.Native.Nat.{ℕ}
 use lib.Dec.{eqb}
 use lib.ListN.{length}
 use Rattle.octets.specs.Meaning.{field}
-use Rattle.scales.specs.Meaning.{Judged, given, gives, outcome, Wrote, written}
-use Rattle.layout_fields.specs.Meaning.{part, placing, Valued, valued, Reply, some, no, slipOf}
+use Rattle.scales.specs.Meaning.{Judged, given, gives, outcome, Wrote, written, Valued, valued, Reply, some, no, valueSlip}
+use Rattle.layout_fields.specs.Meaning.{part, placing}
 use Rattle.layout_fields.specs.declared.cuc.Fields.{Fields}
-use Rattle.layout_fields.specs.declared.cuc.Parted.{Parted}
-use Rattle.layout_fields.specs.declared.cuc.Parted.the-variants as P
+use Rattle.layout_fields.specs.declared.cuc.CucParted.{CucParted}
+use Rattle.layout_fields.specs.declared.cuc.CucParted.the-variants as P
 
 abbrev pub fieldsOf : List ℕ → Fields
 fieldsOf s = record { seconds = part s 0 4; fraction = part s 4 2 }
@@ -28,15 +28,15 @@ writing f out = placing (imageOf f) out
 abbrev pub empty : Fields
 empty = record { seconds = 0; fraction = 0 }
 
-abbrev pub parted : Parted → Reply Fields
+abbrev pub parted : CucParted → Reply Fields
 parted (P.Fields f) = some f
 parted (P.Refused r) = no r
 
-abbrev pub slip : Parted → Valued Fields
-slip r = slipOf empty (parted r)
+abbrev pub slip : CucParted → Valued Fields
+slip r = valueSlip empty (parted r)
 
 unfoldable pub read : List ℕ → Valued Fields
 read s = valued empty (outcome (reading s))
 
-unfoldable pub write : Fields → List ℕ → Wrote
+unfoldable pub write : Fields → List ℕ → Wrote ℕ
 write f out = written out (outcome (writing f out))

@@ -5,8 +5,8 @@ use Prim.Native.Nat.{ℕ, _^_}
 use lib.Dec.{ltb, eqb}
 use lib.ListN.{length}
 use Rattle.octets.specs.Meaning.{field}
-use Rattle.scales.specs.Meaning.{Judged, given, gives, outcome, Wrote, written}
-use Rattle.layout_fields.specs.Meaning.{part, placing, Valued, valued}
+use Rattle.scales.specs.Meaning.{Judged, given, gives, outcome, Wrote, written, Valued, valued}
+use Rattle.layout_fields.specs.Meaning.{part, placing}
 
 -- 66 hexadecimal
 abbrev pub marker : ℕ
@@ -26,5 +26,5 @@ writing n out =
 unfoldable pub read : List ℕ → Valued ℕ
 read s = valued 0 (outcome (reading s))
 
-unfoldable pub write : ℕ → List ℕ → Wrote
+unfoldable pub write : ℕ → List ℕ → Wrote ℕ
 write n out = written out (outcome (writing n out))

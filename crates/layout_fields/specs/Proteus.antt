@@ -6,11 +6,11 @@ use Prim.Native.Nat.{ℕ, _+_, _*_, _/_, _%_}
 use lib.Dec.{leb, ltb, eqb}
 use lib.ListN.{length}
 use Rattle.octets.specs.Meaning.{field}
-use Rattle.scales.specs.Meaning.{Judged, given, gives, outcome, Wrote, written}
-use Rattle.layout_fields.specs.Meaning.{part, placing, Valued, valued, Reply, some, no, slipOf}
+use Rattle.scales.specs.Meaning.{Judged, given, gives, outcome, Wrote, written, Valued, valued, Reply, some, no, valueSlip}
+use Rattle.layout_fields.specs.Meaning.{part, placing}
 use Rattle.layout_fields.specs.declared.proteus.Fields.{Fields}
-use Rattle.layout_fields.specs.declared.proteus.Parted.{Parted}
-use Rattle.layout_fields.specs.declared.proteus.Parted.the-variants as P
+use Rattle.layout_fields.specs.declared.proteus.ProteusParted.{ProteusParted}
+use Rattle.layout_fields.specs.declared.proteus.ProteusParted.the-variants as P
 
 -- ---- the first 16 bits: week, three zero bits, H3
 abbrev pub headOf : ℕ → Bool → ℕ
@@ -53,15 +53,15 @@ writing f out =
 abbrev pub empty : Fields
 empty = record { week = 0; h3 = false; second = 0; fraction = 0 }
 
-abbrev pub parted : Parted → Reply Fields
+abbrev pub parted : ProteusParted → Reply Fields
 parted (P.Fields f) = some f
 parted (P.Refused r) = no r
 
-abbrev pub slip : Parted → Valued Fields
-slip r = slipOf empty (parted r)
+abbrev pub slip : ProteusParted → Valued Fields
+slip r = valueSlip empty (parted r)
 
 unfoldable pub read : List ℕ → Valued Fields
 read s = valued empty (outcome (reading s))
 
-unfoldable pub write : Fields → List ℕ → Wrote
+unfoldable pub write : Fields → List ℕ → Wrote ℕ
 write f out = written out (outcome (writing f out))

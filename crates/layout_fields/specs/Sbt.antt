@@ -4,39 +4,22 @@ use Prim.Native.Nat.{ℕ}
 use lib.Dec.{eqb}
 use lib.ListN.{length}
 use Rattle.octets.specs.Meaning.{field}
-use Rattle.scales.specs.Meaning.{Judged, given, gives, outcome, Wrote, written}
-use Rattle.scales.specs.declared.Tick.{Tick}
-use Rattle.scales.specs.declared.Ticked.{Ticked}
-use Rattle.scales.specs.declared.Ticked.the-variants as T
-use Rattle.layout_fields.specs.Meaning.{part, placing, Valued, valued, Reply, some, no, slipOf}
+use Rattle.scales.specs.Meaning.{Judged, given, gives, outcome, Valued, valued, Wrote, written}
+use Rattle.layout_fields.specs.Meaning.{part, placing}
 
-abbrev pub tickOf : List ℕ → Tick
-tickOf s = record { 0 = part s 0 4 }
-
-abbrev pub imageOf : Tick → List ℕ
-imageOf t = field 4 (t .0)
-
-abbrev pub reading : List ℕ → Judged Tick
+abbrev pub reading : List ℕ → Judged ℕ
 reading s =
     given (eqb (length s) 4) 1
-    (gives (tickOf s))
+    (gives (part s 0 4))
 
-abbrev pub writing : Tick → List ℕ → Judged (List ℕ)
+abbrev pub imageOf : ℕ → List ℕ
+imageOf t = field 4 t
+
+abbrev pub writing : ℕ → List ℕ → Judged (List ℕ)
 writing t out = placing (imageOf t) out
 
--- ---- what is handed back
-abbrev pub empty : Tick
-empty = record { 0 = 0 }
+unfoldable pub read : List ℕ → Valued ℕ
+read s = valued 0 (outcome (reading s))
 
-abbrev pub ticking : Ticked → Reply Tick
-ticking (T.Tick t) = some t
-ticking (T.Refused r) = no r
-
-abbrev pub slip : Ticked → Valued Tick
-slip r = slipOf empty (ticking r)
-
-unfoldable pub read : List ℕ → Valued Tick
-read s = valued empty (outcome (reading s))
-
-unfoldable pub write : Tick → List ℕ → Wrote
+unfoldable pub write : ℕ → List ℕ → Wrote ℕ
 write t out = written out (outcome (writing t out))

@@ -4,12 +4,12 @@ use Prim.Native.Nat.{ℕ}
 use lib.Dec.{eqb}
 use lib.ListN.{length}
 use Rattle.octets.specs.Meaning.{field}
-use Rattle.scales.specs.Meaning.{Judged, given, gives, outcome, Wrote, written}
-use Rattle.layout_fields.specs.Meaning.{part, placing, Valued, valued, Reply, some, no, slipOf}
+use Rattle.scales.specs.Meaning.{Judged, given, gives, outcome, Wrote, written, Valued, valued, Reply, some, no, valueSlip}
+use Rattle.layout_fields.specs.Meaning.{part, placing}
 use Rattle.layout_fields.specs.Cryosat.{inLimits}
 use Rattle.layout_fields.specs.declared.siral.Fields.{Fields}
-use Rattle.layout_fields.specs.declared.siral.Parted.{Parted}
-use Rattle.layout_fields.specs.declared.siral.Parted.the-variants as P
+use Rattle.layout_fields.specs.declared.siral.SiralParted.{SiralParted}
+use Rattle.layout_fields.specs.declared.siral.SiralParted.the-variants as P
 
 abbrev pub fieldsOf : List ℕ → Fields
 fieldsOf s = record { day = part s 0 2; millisecond = part s 2 4; microsecond = part s 6 2; extra = part s 8 2 }
@@ -32,15 +32,15 @@ writing f out =
 abbrev pub empty : Fields
 empty = record { day = 0; millisecond = 0; microsecond = 0; extra = 0 }
 
-abbrev pub parted : Parted → Reply Fields
+abbrev pub parted : SiralParted → Reply Fields
 parted (P.Fields f) = some f
 parted (P.Refused r) = no r
 
-abbrev pub slip : Parted → Valued Fields
-slip r = slipOf empty (parted r)
+abbrev pub slip : SiralParted → Valued Fields
+slip r = valueSlip empty (parted r)
 
 unfoldable pub read : List ℕ → Valued Fields
 read s = valued empty (outcome (reading s))
 
-unfoldable pub write : Fields → List ℕ → Wrote
+unfoldable pub write : Fields → List ℕ → Wrote ℕ
 write f out = written out (outcome (writing f out))

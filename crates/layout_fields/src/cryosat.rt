@@ -13,7 +13,7 @@ pub struct Fields {
     pub microsecond: u16,
 }
 
-pub enum Parted {
+pub enum CryosatParted {
     Fields(Fields),
     Refused(Refusal),
 }
@@ -30,27 +30,27 @@ pub(crate) fn in_limits(millisecond: u32, microsecond: u16) -> bool
 }
 
 // The three fields that bytes begin with, or 3: SIRAL's begin so too.
-pub(crate) fn front(b: &[u8]) -> Parted
+pub(crate) fn front(b: &[u8]) -> CryosatParted
     requires { ⌜ 8 ≤ length (now b) ⌝ }
     ensures { λ r. ⌜ r ≡ frontOf (now (b .entry)) ⌝ }
 {
     let millisecond = crate::part(b, 2, 4) as u32;
     let microsecond = crate::part(b, 6, 2) as u16;
     if !in_limits(millisecond, microsecond) {
-        return Parted::Refused(Refusal::FieldOver);
+        return CryosatParted::Refused(Refusal::FieldOver);
     }
-    Parted::Fields(Fields {
+    CryosatParted::Fields(Fields {
         day: crate::part(b, 0, 2) as u16,
         millisecond,
         microsecond,
     })
 }
 
-pub fn read(b: &[u8]) -> Parted
+pub fn read(b: &[u8]) -> CryosatParted
     ensures { λ r. ⌜ slip r ≡ read (now (b .entry)) ⌝ }
 {
     if b.len() != 8 {
-        return Parted::Refused(Refusal::LengthIsNone);
+        return CryosatParted::Refused(Refusal::LengthIsNone);
     }
     front(b)
 }

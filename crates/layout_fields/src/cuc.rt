@@ -10,18 +10,18 @@ pub struct Fields {
     pub fraction: u16,
 }
 
-pub enum Parted {
+pub enum CucParted {
     Fields(Fields),
     Refused(Refusal),
 }
 
-pub fn read(b: &[u8]) -> Parted
+pub fn read(b: &[u8]) -> CucParted
     ensures { λ r. ⌜ slip r ≡ read (now (b .entry)) ⌝ }
 {
     if b.len() != 6 {
-        return Parted::Refused(Refusal::LengthIsNone);
+        return CucParted::Refused(Refusal::LengthIsNone);
     }
-    Parted::Fields(Fields {
+    CucParted::Fields(Fields {
         seconds: crate::part(b, 0, 4) as u32,
         fraction: crate::part(b, 4, 2) as u16,
     })

@@ -1,19 +1,18 @@
 // GOCE OBT: 6 bytes, kept as a 48-bit count, no epoch.
 ghost use mathlib.Core.Path.{_≡_};
-ghost use Rattle.scales.specs.Meaning.{wrote};
-ghost use Rattle.layout_fields.specs.Meaning.{countSlip};
+ghost use Rattle.scales.specs.Meaning.{wrote, countSlip};
 ghost use Rattle.layout_fields.specs.Goce.{read, write};
-use crate::Counting;
+use scales::Counted;
 use scales::Refusal;
 use scales::Written;
 
-pub fn read(b: &[u8]) -> Counting
+pub fn read(b: &[u8]) -> Counted
     ensures { λ r. ⌜ countSlip r ≡ read (now (b .entry)) ⌝ }
 {
     if b.len() != 6 {
-        return Counting::Refused(Refusal::LengthIsNone);
+        return Counted::Refused(Refusal::LengthIsNone);
     }
-    Counting::Count(crate::part(b, 0, 6))
+    Counted::Count(crate::part(b, 0, 6))
 }
 
 pub fn write(count: u64, out: &mut [u8]) -> Written

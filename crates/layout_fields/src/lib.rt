@@ -17,12 +17,6 @@ pub mod proteus;
 pub mod sbt;
 pub mod siral;
 
-// A count, or a refusal.
-pub enum Counting {
-    Count(u64),
-    Refused(Refusal),
-}
-
 // The number that n bytes of a slice stand for, from a place on.
 fn part(b: &[u8], from: usize, n: usize) -> u64
     requires { ⌜ (from + n ≤ length (now b)) × (n ≤ 8) ⌝ }

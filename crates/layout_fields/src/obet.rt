@@ -1,22 +1,21 @@
 // OBET, SMOS: a byte that is 66 hexadecimal, then 32 bits coarse and 24 bits fine, kept as a 56-bit count.
 ghost use mathlib.Core.Path.{_≡_};
-ghost use Rattle.scales.specs.Meaning.{wrote};
-ghost use Rattle.layout_fields.specs.Meaning.{countSlip};
+ghost use Rattle.scales.specs.Meaning.{wrote, countSlip};
 ghost use Rattle.layout_fields.specs.Obet.{read, write};
-use crate::Counting;
+use scales::Counted;
 use scales::Refusal;
 use scales::Written;
 
-pub fn read(b: &[u8]) -> Counting
+pub fn read(b: &[u8]) -> Counted
     ensures { λ r. ⌜ countSlip r ≡ read (now (b .entry)) ⌝ }
 {
     if b.len() != 8 {
-        return Counting::Refused(Refusal::LengthIsNone);
+        return Counted::Refused(Refusal::LengthIsNone);
     }
     if crate::part(b, 0, 1) != 0x66 {
-        return Counting::Refused(Refusal::MarkerWrong);
+        return Counted::Refused(Refusal::MarkerWrong);
     }
-    Counting::Count(crate::part(b, 1, 7))
+    Counted::Count(crate::part(b, 1, 7))
 }
 
 pub fn write(count: u64, out: &mut [u8]) -> Written

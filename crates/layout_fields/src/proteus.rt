@@ -13,27 +13,27 @@ pub struct Fields {
     pub fraction: u16,
 }
 
-pub enum Parted {
+pub enum ProteusParted {
     Fields(Fields),
     Refused(Refusal),
 }
 
-pub fn read(b: &[u8]) -> Parted
+pub fn read(b: &[u8]) -> ProteusParted
     ensures { λ r. ⌜ slip r ≡ read (now (b .entry)) ⌝ }
 {
     if b.len() != 8 {
-        return Parted::Refused(Refusal::LengthIsNone);
+        return ProteusParted::Refused(Refusal::LengthIsNone);
     }
     let head = crate::part(b, 0, 2);
     if head / 2 % 8 != 0 {
-        return Parted::Refused(Refusal::MarkerWrong);
+        return ProteusParted::Refused(Refusal::MarkerWrong);
     }
     let second = crate::part(b, 2, 4);
     if 604_799 < second {
-        return Parted::Refused(Refusal::FieldOver);
+        return ProteusParted::Refused(Refusal::FieldOver);
     }
     let fraction = crate::part(b, 6, 2);
-    Parted::Fields(Fields {
+    ProteusParted::Fields(Fields {
         week: (head / 16) as u16,
         h3: head % 2 == 1,
         second: second as u32,

@@ -2,7 +2,7 @@
 ghost use mathlib.Core.Path.{_≡_};
 ghost use Rattle.scales.specs.Meaning.{wrote};
 ghost use Rattle.layout_fields.specs.Siral.{slip, read, write};
-use crate::cryosat::Parted as Front;
+use crate::cryosat::CryosatParted;
 use scales::Refusal;
 use scales::Written;
 
@@ -13,25 +13,25 @@ pub struct Fields {
     pub extra: u16,
 }
 
-pub enum Parted {
+pub enum SiralParted {
     Fields(Fields),
     Refused(Refusal),
 }
 
-pub fn read(b: &[u8]) -> Parted
+pub fn read(b: &[u8]) -> SiralParted
     ensures { λ r. ⌜ slip r ≡ read (now (b .entry)) ⌝ }
 {
     if b.len() != 10 {
-        return Parted::Refused(Refusal::LengthIsNone);
+        return SiralParted::Refused(Refusal::LengthIsNone);
     }
     match crate::cryosat::front(b) {
-        Front::Fields(f) => Parted::Fields(Fields {
+        CryosatParted::Fields(f) => SiralParted::Fields(Fields {
             day: f.day,
             millisecond: f.millisecond,
             microsecond: f.microsecond,
             extra: crate::part(b, 8, 2) as u16,
         }),
-        Front::Refused(r) => Parted::Refused(r),
+        CryosatParted::Refused(r) => SiralParted::Refused(r),
     }
 }
 

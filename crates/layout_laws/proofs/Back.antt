@@ -9,10 +9,10 @@ use lib.IntN.{ℤ}
 use lib.ListN.{length}
 use lib.Signed.{leZ}
 use borrow.Author.Tests.{eqb-true, leb-true, ltb-true, le-leb, lt-ltb}
-use Rattle.axis.specs.Meaning.{dayAt}
+use Rattle.axis.specs.Meaning.{dayAt, Moment}
 use Rattle.axis.specs.Axis.{day-le}
 use Rattle.octets.specs.Field.{Bytes}
-use Rattle.scales.specs.Meaning.{answer, outcome, Slip, dated, written, Moment, inSpan, Judged, given}
+use Rattle.scales.specs.Meaning.{answer, outcome, Slip, dated, written, inSpan, Judged, given}
 use Rattle.scales.specs.Order.{Answers, last, next, answers-is}
 use Rattle.scales.specs.Place.{and-both}
 use Rattle.scales.specs.declared.Scale.the-variants as S
@@ -135,7 +135,7 @@ module _ (f : P.Fields) (k : WeekFits f) where
       go : (r : ℕ) → r < 1000000 → 32700 + ((f .week * 604800 + f .second) * 1000000 + r) / 86400000000 ≤ 61371
       go r l = omega (arith, k .week, k .second)
 
-  proteus-has : Proteus.hasImage S.Utc (Proteus.momentOf f .day) (Proteus.momentOf f .micro) ≡ true
+  proteus-has : Proteus.hasImage S.Utc (Proteus.fieldsMoment f .day) (Proteus.fieldsMoment f .micro) ≡ true
   proteus-has =
       both-true (not-before 32700 (Proteus.microsOf f))
       (both-true (not-after 32700 (Proteus.microsOf f) 61371 ends) (lt-ltb (Proteus.microsOf f % 86400000000) 86400000000 (omega arith)))

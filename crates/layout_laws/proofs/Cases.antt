@@ -8,7 +8,7 @@ use lib.IntN.{pos, negsuc}
 use Rattle.octets.specs.Meaning.{number, field}
 use Rattle.scales.specs.Meaning.{recordOf}
 use Rattle.scales.specs.declared.Scale.the-variants as S
-use Rattle.scales.specs.declared.Handed.the-variants as H
+use Rattle.handed.specs.declared.Handed.the-variants as H
 use Rattle.layout_fields.specs.Obet as FO
 use Rattle.layout_times.specs.Meaning.{rounding, fractionMicros, fractionAt}
 use Rattle.layout_times.specs.Fraction.{last-is}
@@ -37,7 +37,7 @@ pub fifteen : fractionAt 15 ≡ 1
 fifteen = last-is rounding 16 15 (lit< tt)
 
 pub fifteen-written : Cuc.write (H.Record (recordOf S.Gps (negsuc 7299) 15)) (7 ∷ 7 ∷ 7 ∷ 7 ∷ 7 ∷ 7 ∷ 7 ∷ []) ≡
-    record { number = 0; length = 6; bytes = 0 ∷ 0 ∷ 0 ∷ 0 ∷ 0 ∷ 1 ∷ 7 ∷ [] }
+    record { number = 0; length = 6; lent = 0 ∷ 0 ∷ 0 ∷ 0 ∷ 0 ∷ 1 ∷ 7 ∷ [] }
 unfolding Cuc.write field
 fifteen-written = rw fifteen
 

@@ -9,10 +9,9 @@ use lib.ListN.{length, drop}
 use lib.Seq.{take-append-seam}
 use borrow.Author.Tests.{ltb-true}
 use Rattle.octets.specs.Field.{Bytes}
-use Rattle.scales.specs.Meaning.{Judged, given, gives, answer, outcome, Wrote, written}
+use Rattle.scales.specs.Meaning.{Judged, given, gives, answer, outcome, Wrote, written, valued}
 use Rattle.scales.specs.Order.{Answers, last, next, answers-is, numbered}
 use Rattle.scales.specs.Place.{and-both}
-use Rattle.layout_fields.specs.Meaning.{valued}
 use Rattle.layout_laws.specs.Meaning.{image, Exact}
 
 pub both-true : {a b : Bool} → a ≡ true → b ≡ true → a && b ≡ true
@@ -52,7 +51,7 @@ module _ {A : Type 0} (zero : A) (Fits : A → Type 0) (reading : List ℕ → J
       record {
         bytes-back = λ s out b e h. ap (written out) (answers-is (back s _ b (answered zero (reading s) (p s) e) out h));
         fields-back = λ a out f e. let w = wrought out (writing a out) (q a out) e in
-            ap (λ (x : Wrote). valued zero (outcome (reading (image x)))) (w .is)
+            ap (λ (x : Wrote ℕ). valued zero (outcome (reading (image x)))) (w .is)
             ∙ ap (λ (s : List ℕ). valued zero (outcome (reading s))) (image-is out (w .bytes))
             ∙ ap (valued zero) (answers-is (forth a out (w .bytes) f (w .answers)));
       }

@@ -12,7 +12,6 @@ use Rattle.octets.specs.Field.{Bytes}
 use Rattle.scales.specs.Meaning.{gives}
 use Rattle.scales.specs.Order.{Answers, last, next}
 use Rattle.scales.specs.Place.{and-both}
-use Rattle.scales.specs.declared.Tick.{Tick}
 use Rattle.layout_fields.specs.Meaning.{part, placing}
 use Rattle.layout_fields.specs.Parts.{part-lt, join, join-last, part-first, part-next, part-last}
 use Rattle.layout_fields.specs.Cuc as Cuc
@@ -95,22 +94,22 @@ pub obet-exact : Exact 0 Word Obet.read Obet.write
 unfolding Obet.read Obet.write
 obet-exact = exact 0 Word Obet.reading Obet.writing (λ s. refl) (λ n out. refl) obet-back obet-forth
 
-abbrev pub TickFits : Tick → Type 0
-TickFits t = t .0 < 4294967296
+abbrev pub TickFits : ℕ → Type 0
+TickFits t = t < 4294967296
 
-sbt-back : (s : List ℕ) (t : Tick) → Bytes s → Answers (Sbt.reading s) t → (out : List ℕ) → length s ≤ length out → Answers (Sbt.writing t out) s
+sbt-back : (s : List ℕ) (t : ℕ) → Bytes s → Answers (Sbt.reading s) t → (out : List ℕ) → length s ≤ length out → Answers (Sbt.writing t out) s
 sbt-back s t b (next e last) out h =
     let l : length s ≡ 4 = eqb-true (length s) 4 e in
-    place-as (Sbt.imageOf (Sbt.tickOf s)) s out (join-last s 0 4 (omega arith) b (sym l)) h
+    place-as (field 4 (part s 0 4)) s out (join-last s 0 4 (omega arith) b (sym l)) h
 
-sbt-forth : (t : Tick) (out s : List ℕ) → TickFits t → Answers (Sbt.writing t out) s → Answers (Sbt.reading s) t
+sbt-forth : (t : ℕ) (out s : List ℕ) → TickFits t → Answers (Sbt.writing t out) s → Answers (Sbt.reading s) t
 unfolding field
 sbt-forth t out s k (next r last) =
-    next refl (gives-as (Sbt.tickOf (Sbt.imageOf t)) t (ap {B = Tick} (λ (x : ℕ). record { 0 = x }) (part-last 4 (t .0) k)))
+    next refl (gives-as (part (field 4 t) 0 4) t (part-last 4 t k))
 
-pub sbt-exact : Exact Sbt.empty TickFits Sbt.read Sbt.write
+pub sbt-exact : Exact 0 TickFits Sbt.read Sbt.write
 unfolding Sbt.read Sbt.write
-sbt-exact = exact Sbt.empty TickFits Sbt.reading Sbt.writing (λ s. refl) (λ t out. refl) sbt-back sbt-forth
+sbt-exact = exact 0 TickFits Sbt.reading Sbt.writing (λ s. refl) (λ t out. refl) sbt-back sbt-forth
 
 -- ---- three fields of 2, 4 and 2 bytes
 three-join : (s : List ℕ) → Bytes s → length s ≡ 8 → field 2 (part s 0 2) ++ (field 4 (part s 2 4) ++ field 2 (part s 6 2)) ≡ s

@@ -8,9 +8,8 @@ use lib.Dec.{leb, eqb}
 use lib.ListN.{length, take, drop}
 use Rattle.evidence.specs.ShutOut.{ShutOut, differ}
 use Rattle.octets.specs.Meaning.{number, field}
-use Rattle.scales.specs.Meaning.{given, gives, outcome, Wrote, written}
-use Rattle.scales.specs.declared.Tick.{Tick}
-use Rattle.layout_fields.specs.Meaning.{part, placing, Valued, valued}
+use Rattle.scales.specs.Meaning.{given, gives, outcome, Wrote, written, Valued, valued}
+use Rattle.layout_fields.specs.Meaning.{part, placing}
 use Rattle.layout_fields.specs.Cuc as Cuc
 use Rattle.layout_fields.specs.Goce as Goce
 use Rattle.layout_fields.specs.Obet as Obet
@@ -76,7 +75,7 @@ unfolding Goce.read number
 goce-any-length = (refl, refl, differ (λ (v : Valued ℕ). v .number) (λ e. omega arith))
 
 -- a count wider than the field is cut
-abbrev goceCut : ℕ → List ℕ → Wrote
+abbrev goceCut : ℕ → List ℕ → Wrote ℕ
 goceCut n out = written out (outcome (placing (field 6 n) out))
 
 pub goce-cut : ShutOut (Goce.write (2 ^ 48) (sevens 6)) (keeps 3 (sevens 6))
@@ -87,7 +86,7 @@ goce-cut = (refl, refl, differ (bytesAt 0) (λ e. omega arith))
 pub goce-made-up : ShutOut (Goce.write 1 (sevens 6)) (got 6 (0 ∷ 0 ∷ 0 ∷ 0 ∷ 0 ∷ 1 ∷ []))
     (madeUp (Goce.write 1 (sevens 6))) (got 8 (0 ∷ 0 ∷ 0 ∷ 0 ∷ 0 ∷ 1 ∷ []))
 unfolding Goce.write field
-goce-made-up = (refl, refl, differ (λ (w : Wrote). w .length) (λ e. omega arith))
+goce-made-up = (refl, refl, differ (λ (w : Wrote ℕ). w .length) (λ e. omega arith))
 
 -- ---- OBET
 -- the marker not tested
@@ -109,7 +108,7 @@ unfolding Obet.read number
 obet-width-code = (refl, refl, differ (λ (v : Valued ℕ). v .value) (λ e. omega arith))
 
 -- written without the marker
-abbrev obetNoMarker : ℕ → List ℕ → Wrote
+abbrev obetNoMarker : ℕ → List ℕ → Wrote ℕ
 obetNoMarker n out = written out (outcome (placing (field 8 n) out))
 
 pub obet-no-marker : ShutOut (Obet.write 1 (sevens 8)) (got 8 (102 ∷ 0 ∷ 0 ∷ 0 ∷ 0 ∷ 0 ∷ 0 ∷ 1 ∷ [])) (obetNoMarker 1 (sevens 8)) (got 8 (0 ∷ 0 ∷ 0 ∷ 0 ∷ 0 ∷ 0 ∷ 0 ∷ 1 ∷ []))
@@ -142,7 +141,7 @@ unfolding Proteus.read number
 proteus-late = (refl, refl, differ (λ (v : Valued P.Fields). v .number) (λ e. omega arith))
 
 -- the week cut to its 12 bits
-abbrev proteusCut : P.Fields → List ℕ → Wrote
+abbrev proteusCut : P.Fields → List ℕ → Wrote ℕ
 proteusCut f out = Proteus.write (record { week = f .week % 4096; h3 = f .h3; second = f .second; fraction = f .fraction }) out
 
 pub proteus-cut : ShutOut (Proteus.write (record { week = 4097; h3 = false; second = 2; fraction = 3 }) (sevens 8)) (keeps 3 (sevens 8))
@@ -151,7 +150,7 @@ unfolding Proteus.write field
 proteus-cut = (refl, refl, differ (bytesAt 0) (λ e. omega arith))
 
 -- H3 dropped
-abbrev proteusNoH3 : P.Fields → List ℕ → Wrote
+abbrev proteusNoH3 : P.Fields → List ℕ → Wrote ℕ
 proteusNoH3 f out = Proteus.write (record { week = f .week; h3 = false; second = f .second; fraction = f .fraction }) out
 
 pub proteus-no-h3 : ShutOut (Proteus.write (record { week = 1; h3 = true; second = 2; fraction = 3 }) (sevens 8)) (got 8 (0 ∷ 17 ∷ 0 ∷ 0 ∷ 0 ∷ 2 ∷ 0 ∷ 3 ∷ []))
@@ -187,9 +186,9 @@ unfolding Cryosat.write field
 cryosat-clearing = (refl, refl, differ (bytesAt 8) (λ e. omega arith))
 
 pub cryosat-made-up : ShutOut (Cryosat.write cryosatFields (sevens 3)) (keeps 13 (sevens 3)) (madeUp (Cryosat.write cryosatFields (sevens 3)))
-    (record { number = 13; length = 2; bytes = sevens 3 })
+    (record { number = 13; length = 2; lent = sevens 3 })
 unfolding Cryosat.write field
-cryosat-made-up = (refl, refl, differ (λ (w : Wrote). w .length) (λ e. omega arith))
+cryosat-made-up = (refl, refl, differ (λ (w : Wrote ℕ). w .length) (λ e. omega arith))
 
 -- ---- SIRAL
 abbrev siralNoExtra : List ℕ → Valued R.Fields
@@ -216,7 +215,7 @@ abbrev siralFields : R.Fields
 siralFields = record { day = 1; millisecond = 2; microsecond = 3; extra = 4 }
 
 -- the extra counter that was given is set to 0
-abbrev siralZero : R.Fields → List ℕ → Wrote
+abbrev siralZero : R.Fields → List ℕ → Wrote ℕ
 siralZero f out = Siral.write (record { day = f .day; millisecond = f .millisecond; microsecond = f .microsecond; extra = 0 }) out
 
 pub siral-zero : ShutOut (Siral.write siralFields (sevens 11)) (got 10 (0 ∷ 1 ∷ 0 ∷ 0 ∷ 0 ∷ 2 ∷ 0 ∷ 3 ∷ 0 ∷ 4 ∷ 7 ∷ []))
@@ -229,27 +228,27 @@ unfolding Siral.write field
 siral-scribbling = (refl, refl, differ (bytesAt 0) (λ e. omega arith))
 
 -- ---- SBT
-abbrev sbtLittle : List ℕ → Valued Tick
-sbtLittle s = valued Sbt.empty (outcome (given (eqb (length s) 4) 1 (gives (record { 0 = little s 0 4 }))))
+abbrev sbtLittle : List ℕ → Valued ℕ
+sbtLittle s = valued 0 (outcome (given (eqb (length s) 4) 1 (gives (little s 0 4))))
 
-pub sbt-little : ShutOut (Sbt.read (0 ∷ 0 ∷ 0 ∷ 1 ∷ [])) (record { number = 0; value = record { 0 = 1 } }) (sbtLittle (0 ∷ 0 ∷ 0 ∷ 1 ∷ []))
-    (record { number = 0; value = record { 0 = 16777216 } })
+pub sbt-little : ShutOut (Sbt.read (0 ∷ 0 ∷ 0 ∷ 1 ∷ [])) (record { number = 0; value = 1 }) (sbtLittle (0 ∷ 0 ∷ 0 ∷ 1 ∷ []))
+    (record { number = 0; value = 16777216 })
 unfolding Sbt.read number
-sbt-little = (refl, refl, differ (λ (v : Valued Tick). v .value .0) (λ e. omega arith))
+sbt-little = (refl, refl, differ (λ (v : Valued ℕ). v .value) (λ e. omega arith))
 
-abbrev sbtLonger : List ℕ → Valued Tick
-sbtLonger s = valued Sbt.empty (outcome (given (leb 4 (length s)) 1 (gives (Sbt.tickOf s))))
+abbrev sbtLonger : List ℕ → Valued ℕ
+sbtLonger s = valued 0 (outcome (given (leb 4 (length s)) 1 (gives (part s 0 4))))
 
-pub sbt-longer : ShutOut (Sbt.read (0 ∷ 0 ∷ 0 ∷ 1 ∷ 9 ∷ [])) (record { number = 1; value = Sbt.empty }) (sbtLonger (0 ∷ 0 ∷ 0 ∷ 1 ∷ 9 ∷ []))
-    (record { number = 0; value = record { 0 = 1 } })
+pub sbt-longer : ShutOut (Sbt.read (0 ∷ 0 ∷ 0 ∷ 1 ∷ 9 ∷ [])) (record { number = 1; value = 0 }) (sbtLonger (0 ∷ 0 ∷ 0 ∷ 1 ∷ 9 ∷ []))
+    (record { number = 0; value = 1 })
 unfolding Sbt.read number
-sbt-longer = (refl, refl, differ (λ (v : Valued Tick). v .number) (λ e. omega arith))
+sbt-longer = (refl, refl, differ (λ (v : Valued ℕ). v .number) (λ e. omega arith))
 
-pub sbt-clearing : ShutOut (Sbt.write (record { 0 = 1 }) (sevens 5)) (got 4 (0 ∷ 0 ∷ 0 ∷ 1 ∷ 7 ∷ []))
-    (clearing (sevens 5) (Sbt.write (record { 0 = 1 }) (sevens 5))) (got 4 (0 ∷ 0 ∷ 0 ∷ 1 ∷ 0 ∷ []))
+pub sbt-clearing : ShutOut (Sbt.write 1 (sevens 5)) (got 4 (0 ∷ 0 ∷ 0 ∷ 1 ∷ 7 ∷ []))
+    (clearing (sevens 5) (Sbt.write 1 (sevens 5))) (got 4 (0 ∷ 0 ∷ 0 ∷ 1 ∷ 0 ∷ []))
 unfolding Sbt.write field
 sbt-clearing = (refl, refl, differ (bytesAt 4) (λ e. omega arith))
 
-pub sbt-scribbling : ShutOut (Sbt.write (record { 0 = 1 }) (sevens 3)) (keeps 13 (sevens 3)) (scribbling (Sbt.write (record { 0 = 1 }) (sevens 3))) (keeps 13 (0 ∷ 7 ∷ 7 ∷ []))
+pub sbt-scribbling : ShutOut (Sbt.write 1 (sevens 3)) (keeps 13 (sevens 3)) (scribbling (Sbt.write 1 (sevens 3))) (keeps 13 (0 ∷ 7 ∷ 7 ∷ []))
 unfolding Sbt.write field
 sbt-scribbling = (refl, refl, differ (bytesAt 0) (λ e. omega arith))

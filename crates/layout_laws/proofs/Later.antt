@@ -8,19 +8,19 @@ use native.Mathlib.Nat.{mul-le-mul-right}
 use native.Mathlib.Omega.{arith}
 use lib.Dec.{ltb}
 use borrow.Author.Tests.{ltb-true}
-use Rattle.axis.specs.Meaning.{placeOfDay, dayAt}
+use Rattle.axis.specs.Meaning.{placeOfDay, dayAt, Moment}
 use Rattle.axis.specs.Diff.{Way, way, below, above, sub-pos}
 use Rattle.axis.specs.Axis.{place-day}
 use Rattle.octets.specs.Field.{Bytes}
-use Rattle.scales.specs.Meaning.{andThen, bound, inSpan, Judged, given, gives, answer, outcome, Slip, Moment, dated}
+use Rattle.scales.specs.Meaning.{andThen, bound, inSpan, Judged, given, gives, answer, outcome, Slip, dated}
 use Rattle.scales.specs.Order.{Answers, last, next, numbered}
 use Rattle.scales.specs.Place.{firstAt, apart, placed, in-span, and-both}
 use Rattle.scales.specs.declared.Scale.{Scale}
-use Rattle.scales.specs.declared.Handed.{Handed}
-use Rattle.scales.specs.declared.Handed.the-variants as H
-use Rattle.decimal.specs.Meaning.{scaleOf, isFinite, isInSpan, dayOf, microOf}
-use Rattle.decimal.specs.Told.{countIn}
-use Rattle.decimal.proofs.Ways.{kept-decimal}
+use Rattle.handed.specs.declared.Handed.{Handed}
+use Rattle.handed.specs.declared.Handed.the-variants as H
+use Rattle.handed.specs.Told.{countIn}
+use Rattle.handed.proofs.Ways.{kept-decimal}
+use Rattle.handed.specs.Meaning.{scaleOf, isFinite, isInSpan, dayOf, microOf}
 use Rattle.layout_times.specs.Meaning.{momentFrom, judged}
 use Rattle.layout_times.specs.Days.{day-is, place-is}
 use Rattle.layout_laws.specs.Meaning.{Real, placeAt, LastNotLater}

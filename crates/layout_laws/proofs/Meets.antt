@@ -11,12 +11,12 @@ use borrow.Author.Tests.{ltb-true}
 use Rattle.axis.specs.Meaning.{placeOfDay}
 use Rattle.octets.specs.Meaning.{number, field}
 use Rattle.octets.specs.Field.{Bytes, none, more}
-use Rattle.scales.specs.Meaning.{answer, recordOf, written}
+use Rattle.scales.specs.Meaning.{answer, recordOf, written, valued}
 use Rattle.scales.specs.Place.{and-both}
 use Rattle.scales.specs.declared.Scale.the-variants as S
-use Rattle.scales.specs.declared.Handed.{Handed}
-use Rattle.scales.specs.declared.Handed.the-variants as H
-use Rattle.layout_fields.specs.Meaning.{part, valued}
+use Rattle.handed.specs.declared.Handed.{Handed}
+use Rattle.handed.specs.declared.Handed.the-variants as H
+use Rattle.layout_fields.specs.Meaning.{part}
 use Rattle.layout_fields.specs.Parts.{part-lt, join, join-last, part-first, part-last, field-two}
 use Rattle.layout_fields.specs.Cuc as FC
 use Rattle.layout_fields.specs.Goce as FG
@@ -93,7 +93,7 @@ pub fields-meet :
     valued FY.empty (answer (record { day = 1; millisecond = 2; microsecond = 3 })))
     × (FR.read (image (FR.write (record { day = 1; millisecond = 2; microsecond = 3; extra = 4 }) room)) ≡
     valued FR.empty (answer (record { day = 1; millisecond = 2; microsecond = 3; extra = 4 })))
-    × (FS.read (image (FS.write (record { 0 = 5 }) room)) ≡ valued FS.empty (answer (record { 0 = 5 })))
+    × (FS.read (image (FS.write 5 room)) ≡ valued 0 (answer 5))
 unfolding FC.write FG.write FO.write FP.write FY.write FR.write FS.write field
 fields-meet = (
   cuc-exact .fields-back (record { seconds = 1; fraction = 2 }) room (lit< tt, lit< tt) refl,
@@ -102,7 +102,7 @@ fields-meet = (
   proteus-exact .fields-back (record { week = 1; h3 = true; second = 2; fraction = 3 }) room (lit< tt, lit< tt, lit< tt) refl,
   cryosat-exact .fields-back (record { day = 1; millisecond = 2; microsecond = 3 }) room (lit< tt, lit< tt, lit< tt) refl,
   siral-exact .fields-back (record { day = 1; millisecond = 2; microsecond = 3; extra = 4 }) room (lit< tt, lit< tt, lit< tt, lit< tt) refl,
-  sbt-exact .fields-back (record { 0 = 5 }) room (lit< tt) refl,
+  sbt-exact .fields-back 5 room (lit< tt) refl,
 )
 
 -- ---- the fraction rule, at 16 bits and at 24, for both roundings

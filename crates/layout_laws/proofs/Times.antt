@@ -10,18 +10,18 @@ use lib.IntN.{pos}
 use lib.ListN.{length}
 use lib.Signed.{leZ}
 use borrow.Author.Tests.{eqb-true, ltb-true, leb-true}
-use Rattle.axis.specs.Meaning.{placeOfDay}
+use Rattle.axis.specs.Meaning.{placeOfDay, Moment}
 use Rattle.axis.specs.Diff.{Way, way, below, above}
 use Rattle.axis.specs.Axis.{day-from, day-to}
 use Rattle.octets.specs.Field.{Bytes}
-use Rattle.scales.specs.Meaning.{andThen, sameScale, inSpan, Judged, given, gives, answer, outcome, Slip, Moment, dated, written}
+use Rattle.scales.specs.Meaning.{andThen, sameScale, inSpan, Judged, given, gives, answer, outcome, Slip, dated, written}
 use Rattle.scales.specs.Order.{Answers, last, next, numbered}
 use Rattle.scales.specs.Place.{Placed, placed, and-both, countOf}
 use Rattle.scales.specs.Same.{same-scale}
 use Rattle.scales.specs.declared.Scale.{Scale}
 use Rattle.scales.specs.declared.Scale.the-variants as S
-use Rattle.scales.specs.declared.Handed.{Handed}
-use Rattle.decimal.specs.Meaning.{scaleOf, isFinite, isInSpan, dayOf, microOf}
+use Rattle.handed.specs.declared.Handed.{Handed}
+use Rattle.handed.specs.Meaning.{scaleOf, isFinite, isInSpan, dayOf, microOf}
 use Rattle.layout_fields.specs.Meaning.{part}
 use Rattle.layout_fields.specs.Parts.{part-lt}
 use Rattle.layout_fields.specs.Cuc as FC
@@ -96,18 +96,18 @@ unfolding Cuc.write
 cuc-last h out r e = of-image (LastNotLater Cuc.read h) out (Cuc.writing h out) refl (λ s a. cuc-of h out s r a) e
 
 -- ---- Proteus: H3 comes back too
-pub slip-part : (j : Judged P.Fields) → Proteus.stamped (outcome (andThen j Proteus.dating)) .slip ≡ readOf S.Utc 32700 Proteus.microsOf j
+pub slip-part : (j : Judged P.Fields) → Proteus.stamped (outcome (andThen j Proteus.fieldsDating)) .slip ≡ readOf S.Utc 32700 Proteus.microsOf j
 slip-part (given true m rest) = slip-part rest
 slip-part (given false m rest) = refl
-slip-part (gives f) = go (inSpan S.Utc (Proteus.momentOf f .day) (Proteus.momentOf f .micro))
+slip-part (gives f) = go (inSpan S.Utc (Proteus.fieldsMoment f .day) (Proteus.fieldsMoment f .micro))
   where
-    go : (t : Bool) → Proteus.stamped (outcome (given t 7 (gives (record { moment = Proteus.momentOf f; h3 = f .h3 })))) .slip ≡
-        dated S.Utc (outcome (given t 7 (gives (Proteus.momentOf f))))
+    go : (t : Bool) → Proteus.stamped (outcome (given t 7 (gives (record { moment = Proteus.fieldsMoment f; h3 = f .h3 })))) .slip ≡
+        dated S.Utc (outcome (given t 7 (gives (Proteus.fieldsMoment f))))
     go true = refl
     go false = refl
 
-pub h3-part : {j : Judged P.Fields} {f : P.Fields} → Answers j f → inSpan S.Utc (Proteus.momentOf f .day) (Proteus.momentOf f .micro) ≡ true →
-    Proteus.stamped (outcome (andThen j Proteus.dating)) .h3 ≡ f .h3
+pub h3-part : {j : Judged P.Fields} {f : P.Fields} → Answers j f → inSpan S.Utc (Proteus.fieldsMoment f .day) (Proteus.fieldsMoment f .micro) ≡ true →
+    Proteus.stamped (outcome (andThen j Proteus.fieldsDating)) .h3 ≡ f .h3
 h3-part last e = rw e
 h3-part (next t r) e = rw t (h3-part r e)
 

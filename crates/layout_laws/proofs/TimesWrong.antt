@@ -10,9 +10,9 @@ use Rattle.octets.specs.Meaning.{number, field}
 use Rattle.scales.specs.Meaning.{andThen, sameScale, bound, given, gives, refused, answer, outcome, Slip, dated, recordOf, Wrote, written}
 use Rattle.scales.specs.Place.{firstAt}
 use Rattle.scales.specs.declared.Scale.the-variants as S
-use Rattle.scales.specs.declared.Handed.{Handed}
-use Rattle.scales.specs.declared.Handed.the-variants as H
-use Rattle.decimal.specs.Meaning.{scaleOf, dayOf, microOf}
+use Rattle.handed.specs.declared.Handed.{Handed}
+use Rattle.handed.specs.declared.Handed.the-variants as H
+use Rattle.handed.specs.Meaning.{scaleOf, dayOf, microOf}
 use Rattle.layout_fields.specs.Meaning.{placing}
 use Rattle.layout_fields.specs.Cuc as FC
 use Rattle.layout_fields.specs.Proteus as FP
@@ -59,7 +59,7 @@ cuc-endless = (refl, refl, byNumber (λ e. omega arith))
 
 -- ---- CUC write
 -- the fraction rounded down: 999,984 microseconds as FFFE, which is read as 999,969
-abbrev cucDown : Handed → List ℕ → Wrote
+abbrev cucDown : Handed → List ℕ → Wrote ℕ
 cucDown h out =
     let n = microsFrom Cuc.epoch (dayOf h) (microOf h) in
     written out (outcome (placing (FC.imageOf (record { seconds = n / 1000000; fraction = n % 1000000 * 65536 / 1000000 })) out))
@@ -70,7 +70,7 @@ unfolding Cuc.write field lastTo
 cuc-down = (refl, refl, differ (bytesAt 5) (λ e. omega arith))
 
 -- a time of another scale taken
-abbrev cucAnyScale : Handed → List ℕ → Wrote
+abbrev cucAnyScale : Handed → List ℕ → Wrote ℕ
 cucAnyScale h out = written out (outcome (placing (Cuc.imageAt (dayOf h) (microOf h)) out))
 
 pub cuc-any-scale : ShutOut (Cuc.write (tai (negsuc 7299) 999984) (sevens 8)) (keeps 12 (sevens 8)) (cucAnyScale (tai (negsuc 7299) 999984) (sevens 8))
@@ -79,12 +79,12 @@ unfolding Cuc.write field lastTo
 cuc-any-scale = (refl, refl, differ (bytesAt 0) (λ e. omega arith))
 
 -- 12 before 7
-abbrev cucScaleFirst : Handed → List ℕ → Wrote
+abbrev cucScaleFirst : Handed → List ℕ → Wrote ℕ
 cucScaleFirst h out = written out (outcome (given (sameScale S.Gps (scaleOf h)) 12 (Cuc.writing h out)))
 
 pub cuc-scale-first : ShutOut (Cuc.write (tai (pos 36525) 0) (sevens 8)) (keeps 7 (sevens 8)) (cucScaleFirst (tai (pos 36525) 0) (sevens 8)) (keeps 12 (sevens 8))
 unfolding Cuc.write field lastTo
-cuc-scale-first = (refl, refl, differ (λ (w : Wrote). w .number) (λ e. omega arith))
+cuc-scale-first = (refl, refl, differ (λ (w : Wrote ℕ). w .number) (λ e. omega arith))
 
 pub cuc-clearing : ShutOut (Cuc.write (gps (negsuc 7299) 999984) (sevens 8)) (got 6 (0 ∷ 0 ∷ 0 ∷ 0 ∷ 255 ∷ 255 ∷ 7 ∷ 7 ∷ []))
     (clearing (sevens 8) (Cuc.write (gps (negsuc 7299) 999984) (sevens 8))) (got 6 (0 ∷ 0 ∷ 0 ∷ 0 ∷ 255 ∷ 255 ∷ 0 ∷ 0 ∷ []))
@@ -126,7 +126,7 @@ proteus-no-h3 = (refl, refl, differ (λ (t : Proteus.Stamped). bit (t .h3)) (λ 
 
 -- ---- Proteus write
 -- second 60 taken as the first of the next day
-abbrev proteusSixty : Handed → Bool → List ℕ → Wrote
+abbrev proteusSixty : Handed → Bool → List ℕ → Wrote ℕ
 proteusSixty h b out = written out (outcome (placing (Proteus.imageAt (dayOf h) (microOf h) b) out))
 
 pub proteus-sixty : ShutOut (Proteus.write (utc (pos 6209) 86400999984) true (sevens 8)) (keeps 12 (sevens 8))
@@ -135,7 +135,7 @@ unfolding Proteus.write field lastTo
 proteus-sixty = (refl, refl, differ (bytesAt 0) (λ e. omega arith))
 
 -- through the leap list
-abbrev proteusAdded : Handed → Bool → List ℕ → Wrote
+abbrev proteusAdded : Handed → Bool → List ℕ → Wrote ℕ
 proteusAdded h b out = written out (outcome (placing (FP.imageOf (Proteus.fieldsAt b (microsFrom Proteus.epoch (dayOf h) (microOf h) + 18000000))) out))
 
 pub proteus-added : ShutOut (Proteus.write (utc (pos 6700) 999984) true (sevens 8)) (got 8 (125 ∷ 1 ∷ 0 ∷ 0 ∷ 0 ∷ 0 ∷ 255 ∷ 255 ∷ []))
@@ -169,7 +169,7 @@ cryosat-elsewhere = (refl, refl, differ (λ (t : Slip). firstAt (t .scale)) (λ 
 
 -- ---- CryoSat write
 -- a day before 0 taken as day 0
-abbrev cryosatHeld : Handed → List ℕ → Wrote
+abbrev cryosatHeld : Handed → List ℕ → Wrote ℕ
 cryosatHeld h out = written out (outcome (placing (Cryosat.imageAt (dayOf h) (microOf h)) out))
 
 pub cryosat-held : ShutOut (Cryosat.write (tai (negsuc 0) 2003) (sevens 8)) (keeps 12 (sevens 8)) (cryosatHeld (tai (negsuc 0) 2003) (sevens 8)) (got 8 (0 ∷ 0 ∷ 0 ∷ 0 ∷ 0 ∷ 2 ∷ 0 ∷ 3 ∷ []))
@@ -180,7 +180,7 @@ cryosat-held = (refl, refl, differ (bytesAt 0) (λ e. omega arith))
 pub cryosat-made-up : ShutOut (Cryosat.write (tai (pos 1) 2003) (sevens 8)) (got 8 (0 ∷ 1 ∷ 0 ∷ 0 ∷ 0 ∷ 2 ∷ 0 ∷ 3 ∷ []))
     (madeUp (Cryosat.write (tai (pos 1) 2003) (sevens 8))) (got 10 (0 ∷ 1 ∷ 0 ∷ 0 ∷ 0 ∷ 2 ∷ 0 ∷ 3 ∷ []))
 unfolding Cryosat.write field
-cryosat-made-up = (refl, refl, differ (λ (w : Wrote). w .length) (λ e. omega arith))
+cryosat-made-up = (refl, refl, differ (λ (w : Wrote ℕ). w .length) (λ e. omega arith))
 
 -- ---- SIRAL read
 -- the carry dropped: the microsecond goes round within its day
@@ -208,7 +208,7 @@ siral-twos = (refl, refl, byMicro (λ e. omega arith))
 
 -- ---- SIRAL write
 -- the extra counter left as it was
-abbrev siralEight : Handed → List ℕ → Wrote
+abbrev siralEight : Handed → List ℕ → Wrote ℕ
 siralEight h out = Cryosat.write h out
 
 pub siral-eight : ShutOut (Siral.write (tai (pos 1) 2003) (sevens 11)) (got 10 (0 ∷ 1 ∷ 0 ∷ 0 ∷ 0 ∷ 2 ∷ 0 ∷ 3 ∷ 0 ∷ 0 ∷ 7 ∷ []))

@@ -8,22 +8,21 @@ use lib.Dec.{T}
 use lib.Ieee.{binary64, fits}
 use lib.ListN.{length, take}
 use Rattle.octets.specs.Field.{Bytes}
-use Rattle.scales.specs.Meaning.{answer, Slip, dated, recordOf, Wrote, written}
+use Rattle.scales.specs.Meaning.{answer, Slip, dated, recordOf, Wrote, written, Valued, valued}
 use Rattle.scales.specs.Place.{countOf}
-use Rattle.scales.specs.declared.Handed.{Handed}
-use Rattle.scales.specs.declared.Handed.the-variants as H
-use Rattle.decimal.specs.Meaning.{scaleOf, dayOf, microOf}
-use Rattle.decimal.specs.Told.{countIn}
-use Rattle.layout_fields.specs.Meaning.{Valued, valued}
+use Rattle.handed.specs.declared.Handed.{Handed}
+use Rattle.handed.specs.declared.Handed.the-variants as H
+use Rattle.handed.specs.Told.{countIn}
+use Rattle.handed.specs.Meaning.{scaleOf, dayOf, microOf}
 use Rattle.layout_times.specs.Proteus as Proteus
 
 -- the bytes that a writer answered with
-abbrev pub image : Wrote → List ℕ
-image w = take (w .length) (w .bytes)
+abbrev pub image : Wrote ℕ → List ℕ
+image w = take (w .length) (w .lent)
 
 -- "Bytes to fields and back are exact in every layout", for every byte string and all fields that are answered: `zero` are the
 -- empty fields, and `Fits` says that a value fits the type of its field
-pub record Exact {A : Type 0} (zero : A) (Fits : A → Type 0) (read : List ℕ → Valued A) (write : A → List ℕ → Wrote) : Type 0 where
+pub record Exact {A : Type 0} (zero : A) (Fits : A → Type 0) (read : List ℕ → Valued A) (write : A → List ℕ → Wrote ℕ) : Type 0 where
   pub bytes-back : (s out : List ℕ) → Bytes s → read s .number ≡ 0 → length s ≤ length out → write (read s .value) out ≡ written out (answer s)
   pub fields-back : (a : A) (out : List ℕ) → Fits a → write a out .number ≡ 0 → read (image (write a out)) ≡ valued zero (answer a)
 

@@ -9,14 +9,13 @@ use lib.Signed.{leZ}
 use borrow.Author.Tests.{lt-ltb, le-ltb, le-leb, lt-leb, ltb-true, leb-true}
 use Rattle.axis.specs.Meaning.{placeOfDay}
 use Rattle.axis.specs.Axis.{day-from, day-to}
-use Rattle.scales.specs.Meaning.{sameScale, outcome}
+use Rattle.scales.specs.Meaning.{sameScale, outcome, some, no, valued, valueSlip}
 use Rattle.scales.specs.Place.{apart, day-part, micro-part, and-false, and-both}
 use Rattle.scales.specs.declared.Scale.the-variants as S
 use Rattle.scales.specs.declared.Refusal.{Refusal}
 use Rattle.scales.specs.declared.Refusal.the-variants as R
-use Rattle.scales.specs.declared.Handed.{Handed}
-use Rattle.decimal.specs.Meaning.{scaleOf, dayOf, microOf}
-use Rattle.layout_fields.specs.Meaning.{some, no, valued, slipOf}
+use Rattle.handed.specs.declared.Handed.{Handed}
+use Rattle.handed.specs.Meaning.{scaleOf, dayOf, microOf}
 use Rattle.layout_fields.specs.Cryosat as FC
 use Rattle.layout_fields.specs.Proteus as FP
 use Rattle.layout_times.specs.Meaning.{microsFrom}
@@ -42,7 +41,7 @@ module _ (h : Handed) where
   abbrev inWeeks : Bool
   inWeeks = leZ Proteus.epoch (dayOf h) && (leZ (dayOf h) (pos 21371) && ltb (microOf h) 86400000000)
 
-  pub proteus-no : (f : Refusal) → slipOf 0 (no f) ≡ valued 0 (outcome (dueIn S.Utc h)) → slipOf 0 (no f) ≡ valued 0 (outcome (since1980 h))
+  pub proteus-no : (f : Refusal) → valueSlip 0 (no f) ≡ valued 0 (outcome (dueIn S.Utc h)) → valueSlip 0 (no f) ≡ valued 0 (outcome (since1980 h))
   proteus-no f e = still-no S.Utc h (microsFrom Proteus.epoch (dayOf h) (microOf h)) inWeeks f e
 
   module _ (n : ℕ) (d : HeldIn S.Utc h n) where
@@ -55,27 +54,27 @@ module _ (h : Handed) where
     tests : inWeeks ≡ leb 32700 (n / 86401000000) && (leb (n / 86401000000) 61371 && ltb (n % 86401000000) 86400000000)
     tests = rw (day-from 32700 (dayOf h) (lit< tt) (lit≤ tt), day-to 61371 (dayOf h) (lit< tt), day-of, micro-of)
 
-    none : inWeeks ≡ false → slipOf 0 (no R.NoImage) ≡ valued 0 (outcome (since1980 h))
+    none : inWeeks ≡ false → valueSlip 0 (no R.NoImage) ≡ valued 0 (outcome (since1980 h))
     none e = now-no S.Utc h (microsFrom Proteus.epoch (dayOf h) (microOf h)) inWeeks d e
 
-    pub proteus-early : n / 86401000000 < 32700 → slipOf 0 (no R.NoImage) ≡ valued 0 (outcome (since1980 h))
+    pub proteus-early : n / 86401000000 < 32700 → valueSlip 0 (no R.NoImage) ≡ valued 0 (outcome (since1980 h))
     proteus-early k = none (tests ∙ rw (lt-leb 32700 (n / 86401000000) k))
 
-    pub proteus-late : 61371 < n / 86401000000 → slipOf 0 (no R.NoImage) ≡ valued 0 (outcome (since1980 h))
+    pub proteus-late : 61371 < n / 86401000000 → valueSlip 0 (no R.NoImage) ≡ valued 0 (outcome (since1980 h))
     proteus-late k = none (tests ∙ rw (lt-leb (n / 86401000000) 61371 k) (and-false (leb 32700 (n / 86401000000))))
 
-    pub proteus-sixty : 86400000000 ≤ n % 86401000000 → slipOf 0 (no R.NoImage) ≡ valued 0 (outcome (since1980 h))
+    pub proteus-sixty : 86400000000 ≤ n % 86401000000 → valueSlip 0 (no R.NoImage) ≡ valued 0 (outcome (since1980 h))
     proteus-sixty k =
         none (tests ∙ rw (le-ltb (n % 86401000000) 86400000000 k, and-false (leb (n / 86401000000) 61371), and-false (leb 32700 (n / 86401000000))))
 
     pub proteus-at : 32700 ≤ n / 86401000000 → n / 86401000000 ≤ 61371 → n % 86401000000 < 86400000000 →
-        slipOf 0 (some ((n / 86401000000 - 32700) * 86400000000 + n % 86401000000)) ≡ valued 0 (outcome (since1980 h))
+        valueSlip 0 (some ((n / 86401000000 - 32700) * 86400000000 + n % 86401000000)) ≡ valued 0 (outcome (since1980 h))
     proteus-at a b k =
         now-at S.Utc h (microsFrom Proteus.epoch (dayOf h) (microOf h)) inWeeks d
         (tests ∙ rw (le-leb 32700 (n / 86401000000) a, le-leb (n / 86401000000) 61371 b, lt-ltb (n % 86401000000) 86400000000 k))
         (ap₂ (λ (x y : ℕ). (x - 32700) * 86400000000 + y) day-of micro-of)
 
-  pub proteus-below : (n : ℕ) → slipOf 0 (some n) ≡ valued 0 (outcome (since1980 h)) → n < 2477260800000000
+  pub proteus-below : (n : ℕ) → valueSlip 0 (some n) ≡ valued 0 (outcome (since1980 h)) → n < 2477260800000000
   proteus-below n e =
       let d = held h (Proteus.hasImage (scaleOf h) (dayOf h) (microOf h)) (microsFrom Proteus.epoch (dayOf h) (microOf h)) n e in
       let w = and-both (sameScale S.Utc (scaleOf h)) inWeeks (d .image) .1 in
@@ -88,25 +87,25 @@ proteus-limits b n h = rw (lt-ltb (n / 604800000000) 4096 (omega arith), le-leb 
 
 -- ---- CryoSat and SIRAL
 module _ (h : Handed) where
-  pub cryosat-no : (f : Refusal) → slipOf 0 (no f) ≡ valued 0 (outcome (dueIn S.Tai h)) → slipOf 0 (no f) ≡ valued 0 (outcome (since2000 h))
+  pub cryosat-no : (f : Refusal) → valueSlip 0 (no f) ≡ valued 0 (outcome (dueIn S.Tai h)) → valueSlip 0 (no f) ≡ valued 0 (outcome (since2000 h))
   cryosat-no f e = still-no S.Tai h (microsFrom Cryosat.epoch (dayOf h) (microOf h)) (leZ Cryosat.epoch (dayOf h)) f e
 
   day-test : leZ Cryosat.epoch (dayOf h) ≡ leb 40000 (placeOfDay (dayOf h))
   day-test = day-from 40000 (dayOf h) (lit< tt) (lit≤ tt)
 
   module _ (n : ℕ) (d : HeldIn S.Tai h n) where
-    pub cryosat-early : n < 3456000000000000 → slipOf 0 (no R.NoImage) ≡ valued 0 (outcome (since2000 h))
+    pub cryosat-early : n < 3456000000000000 → valueSlip 0 (no R.NoImage) ≡ valued 0 (outcome (since2000 h))
     cryosat-early k =
         now-no S.Tai h (microsFrom Cryosat.epoch (dayOf h) (microOf h)) (leZ Cryosat.epoch (dayOf h)) d
         (day-test ∙ lt-leb 40000 (placeOfDay (dayOf h)) (omega (arith, d .is)))
 
-    pub cryosat-at : 3456000000000000 ≤ n → slipOf 0 (some (n - 3456000000000000)) ≡ valued 0 (outcome (since2000 h))
+    pub cryosat-at : 3456000000000000 ≤ n → valueSlip 0 (some (n - 3456000000000000)) ≡ valued 0 (outcome (since2000 h))
     cryosat-at k =
         let u = place-in S.Tai h d .under in
         now-at S.Tai h (microsFrom Cryosat.epoch (dayOf h) (microOf h)) (leZ Cryosat.epoch (dayOf h)) d
         (day-test ∙ le-leb 40000 (placeOfDay (dayOf h)) (omega (arith, d .is))) (omega (arith, d .is))
 
-  pub cryosat-below : (n : ℕ) → slipOf 0 (some n) ≡ valued 0 (outcome (since2000 h)) → n < 5662310400000000
+  pub cryosat-below : (n : ℕ) → valueSlip 0 (some n) ≡ valued 0 (outcome (since2000 h)) → n < 5662310400000000
   cryosat-below n e =
       let d = held h (Cryosat.hasImage (scaleOf h) (dayOf h)) (microsFrom Cryosat.epoch (dayOf h) (microOf h)) n e in
       omega (arith, d .is, d .place .to, d .place .under, apart (scaleOf h) .most)

@@ -4,11 +4,12 @@ use mathlib.Core.List.{List}
 use Prim.Native.Nat.{ℕ, _+_, _*_, _/_, _%_}
 use lib.IntN.{ℤ, pos}
 use lib.Signed.{leZ}
-use Rattle.scales.specs.Meaning.{andThen, sameScale, Judged, outcome, Slip, Moment, dated, Wrote, written}
+use Rattle.axis.specs.Meaning.{Moment}
+use Rattle.scales.specs.Meaning.{andThen, sameScale, Judged, outcome, Slip, dated, Wrote, written}
 use Rattle.scales.specs.declared.Scale.{Scale}
 use Rattle.scales.specs.declared.Scale.the-variants as S
-use Rattle.scales.specs.declared.Handed.{Handed}
-use Rattle.decimal.specs.Meaning.{scaleOf, dayOf, microOf}
+use Rattle.handed.specs.declared.Handed.{Handed}
+use Rattle.handed.specs.Meaning.{scaleOf, dayOf, microOf}
 use Rattle.layout_fields.specs.Cryosat as F
 use Rattle.layout_fields.specs.declared.cryosat.Fields.{Fields}
 use Rattle.layout_times.specs.Meaning.{momentFrom, microsFrom, judged, imaging}
@@ -40,5 +41,5 @@ hasImage s d = sameScale S.Tai s && leZ epoch d
 abbrev pub writing : Handed → List ℕ → Judged (List ℕ)
 writing h out = imaging h (hasImage (scaleOf h) (dayOf h)) (imageAt (dayOf h) (microOf h)) out
 
-unfoldable pub write : Handed → List ℕ → Wrote
+unfoldable pub write : Handed → List ℕ → Wrote ℕ
 write h out = written out (outcome (writing h out))

@@ -2,10 +2,11 @@
 use mathlib.Core.List.{List}
 use Prim.Native.Nat.{ℕ, _+_, _*_, _/_, _%_}
 use lib.IntN.{ℤ, negsuc}
-use Rattle.scales.specs.Meaning.{andThen, sameScale, Judged, outcome, Slip, Moment, dated, Wrote, written}
+use Rattle.axis.specs.Meaning.{Moment}
+use Rattle.scales.specs.Meaning.{andThen, sameScale, Judged, outcome, Slip, dated, Wrote, written}
 use Rattle.scales.specs.declared.Scale.the-variants as S
-use Rattle.scales.specs.declared.Handed.{Handed}
-use Rattle.decimal.specs.Meaning.{scaleOf, dayOf, microOf}
+use Rattle.handed.specs.declared.Handed.{Handed}
+use Rattle.handed.specs.Meaning.{scaleOf, dayOf, microOf}
 use Rattle.layout_fields.specs.Cuc as F
 use Rattle.layout_fields.specs.declared.cuc.Fields.{Fields}
 use Rattle.layout_times.specs.Meaning.{fractionMicros, fractionAt, momentFrom, microsFrom, judged, imaging}
@@ -33,5 +34,5 @@ imageAt d u = F.imageOf (fieldsAt (microsFrom epoch d u))
 abbrev pub writing : Handed → List ℕ → Judged (List ℕ)
 writing h out = imaging h (sameScale S.Gps (scaleOf h)) (imageAt (dayOf h) (microOf h)) out
 
-unfoldable pub write : Handed → List ℕ → Wrote
+unfoldable pub write : Handed → List ℕ → Wrote ℕ
 write h out = written out (outcome (writing h out))

@@ -3,10 +3,9 @@ use mathlib.Core.Path.{_≡_, refl, sym, ap, ap₂, _∙_}
 use Prim.Native.Nat.{ℕ, _+_, _-_, _*_, _/_, _%_, _≤_, _<_}
 use native.Mathlib.Omega.{arith}
 use lib.IntN.{ℤ}
-use Rattle.axis.specs.Meaning.{placeOfDay, dayAt}
+use Rattle.axis.specs.Meaning.{placeOfDay, dayAt, Moment}
 use Rattle.axis.specs.Axis.{place-day, day-place}
 use Rattle.axis.specs.Shift.{number-add}
-use Rattle.scales.specs.Meaning.{Moment}
 use Rattle.layout_times.specs.Meaning.{momentFrom, microsFrom}
 
 module _ (p : ℕ) where

@@ -5,11 +5,11 @@ use mathlib.Core.List.{List}
 use Prim.Native.Nat.{ℕ, zero, suc, _+_, _-_, _*_, _/_, _%_, _^_}
 use lib.Dec.{leb}
 use lib.IntN.{ℤ, pos, _+ℤ_}
-use Rattle.axis.specs.Meaning.{placeOfDay}
-use Rattle.scales.specs.Meaning.{Moment, Judged, given, spanning}
+use Rattle.axis.specs.Meaning.{placeOfDay, Moment}
+use Rattle.scales.specs.Meaning.{Judged, given, spanning}
 use Rattle.scales.specs.declared.Scale.{Scale}
-use Rattle.scales.specs.declared.Handed.{Handed}
-use Rattle.decimal.specs.Meaning.{isFinite, isInSpan}
+use Rattle.handed.specs.declared.Handed.{Handed}
+use Rattle.handed.specs.Meaning.{isFinite, isInSpan}
 use Rattle.layout_fields.specs.Meaning.{placing}
 
 -- ---- a fraction of n bits: f stands for f / 2 ^ n seconds, as a whole microsecond

@@ -6,13 +6,14 @@ use Prim.Native.Nat.{ℕ, _+_, _*_, _/_, _%_}
 use lib.Dec.{ltb}
 use lib.IntN.{ℤ, pos, negsuc}
 use lib.Signed.{leZ}
-use Rattle.scales.specs.Meaning.{andThen, sameScale, inSpan, Judged, given, gives, Outcome, refused, answer, outcome, Slip, Moment, dated, numberOf, Wrote, written}
+use Rattle.axis.specs.Meaning.{Moment}
+use Rattle.scales.specs.Meaning.{andThen, sameScale, inSpan, Judged, given, gives, Outcome, refused, answer, outcome, Slip, dated, numberOf, Wrote, written}
 use Rattle.scales.specs.Meaning as M
 use Rattle.scales.specs.declared.Scale.{Scale}
 use Rattle.scales.specs.declared.Scale.the-variants as S
 use Rattle.scales.specs.declared.Dated.the-variants as D
-use Rattle.scales.specs.declared.Handed.{Handed}
-use Rattle.decimal.specs.Meaning.{scaleOf, dayOf, microOf}
+use Rattle.handed.specs.declared.Handed.{Handed}
+use Rattle.handed.specs.Meaning.{scaleOf, dayOf, microOf}
 use Rattle.layout_fields.specs.Proteus as F
 use Rattle.layout_fields.specs.declared.proteus.Fields.{Fields}
 use Rattle.layout_times.specs.Meaning.{fractionMicros, fractionAt, momentFrom, microsFrom, imaging}
@@ -44,16 +45,16 @@ slip (P.Refused f) = stamped (refused (numberOf f))
 abbrev pub microsOf : Fields → ℕ
 microsOf f = (f .week * 604800 + f .second) * 1000000 + fractionMicros (f .fraction)
 
-abbrev pub momentOf : Fields → Moment
-momentOf f = momentFrom epoch (microsOf f)
+abbrev pub fieldsMoment : Fields → Moment
+fieldsMoment f = momentFrom epoch (microsOf f)
 
-abbrev pub dating : Fields → Judged Stamp
-dating f =
-    given (inSpan S.Utc (momentOf f .day) (momentOf f .micro)) 7
-    (gives (record { moment = momentOf f; h3 = f .h3 }))
+abbrev pub fieldsDating : Fields → Judged Stamp
+fieldsDating f =
+    given (inSpan S.Utc (fieldsMoment f .day) (fieldsMoment f .micro)) 7
+    (gives (record { moment = fieldsMoment f; h3 = f .h3 }))
 
 abbrev pub reading : List ℕ → Judged Stamp
-reading s = andThen (F.reading s) dating
+reading s = andThen (F.reading s) fieldsDating
 
 unfoldable pub read : List ℕ → Stamped
 read s = stamped (outcome (reading s))
@@ -72,5 +73,5 @@ hasImage s d u = sameScale S.Utc s && (leZ epoch d && (leZ d (pos 21371) && ltb 
 abbrev pub writing : Handed → Bool → List ℕ → Judged (List ℕ)
 writing h b out = imaging h (hasImage (scaleOf h) (dayOf h) (microOf h)) (imageAt (dayOf h) (microOf h) b) out
 
-unfoldable pub write : Handed → Bool → List ℕ → Wrote
+unfoldable pub write : Handed → Bool → List ℕ → Wrote ℕ
 write h b out = written out (outcome (writing h b out))

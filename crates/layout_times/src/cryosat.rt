@@ -1,15 +1,14 @@
 // CryoSat general: TAI days, milliseconds and microseconds from 1 January 2000.
 ghost use mathlib.Core.Path.{_≡_};
 ghost use Prim.Native.Nat.{_+_, _*_, _<_};
-ghost use Rattle.scales.specs.Meaning.{outcome, slip, wrote};
-ghost use Rattle.layout_fields.specs.Meaning.{valued, countSlip};
+ghost use Rattle.scales.specs.Meaning.{outcome, slip, wrote, valued, countSlip};
 ghost use Rattle.layout_times.specs.Due.{since2000};
 ghost use Rattle.layout_times.specs.Cryosat.{fieldsAt, read, write};
-use layout_fields::Counting;
+use handed::Handed;
+use layout_fields::cryosat::CryosatParted;
 use layout_fields::cryosat::Fields;
-use layout_fields::cryosat::Parted;
+use scales::Counted;
 use scales::Dated;
-use scales::Handed;
 use scales::Refusal;
 use scales::Scale;
 use scales::Written;
@@ -26,28 +25,28 @@ pub fn read(b: &[u8]) -> Dated
 {
     match layout_fields::cryosat::read(b) {
         // day 0
-        Parted::Fields(f) => crate::since(
+        CryosatParted::Fields(f) => crate::since(
             Scale::Tai,
             40000,
             micros(f.day, f.millisecond, f.microsecond),
         ),
-        Parted::Refused(r) => Dated::Refused(r, Scale::Tai),
+        CryosatParted::Refused(r) => Dated::Refused(r, Scale::Tai),
     }
 }
 
 // The microseconds since day 0 of a handed TAI time, or 4, 7, 12.
-pub(crate) fn since_2000(h: Handed) -> Counting
+pub(crate) fn since_2000(h: Handed) -> Counted
     ensures { λ r. ⌜ countSlip r ≡ valued 0 (outcome (since2000 h)) ⌝ }
 {
     match crate::due(h, Scale::Tai) {
-        Counting::Count(n) => {
+        Counted::Count(n) => {
             // 40,000 days: from day -40000 to day 0
             if n < 3_456_000_000_000_000 {
-                return Counting::Refused(Refusal::NoImage);
+                return Counted::Refused(Refusal::NoImage);
             }
-            Counting::Count(n - 3_456_000_000_000_000)
+            Counted::Count(n - 3_456_000_000_000_000)
         }
-        Counting::Refused(r) => Counting::Refused(r),
+        Counted::Refused(r) => Counted::Refused(r),
     }
 }
 
@@ -67,7 +66,7 @@ pub fn write(h: Handed, out: &mut [u8]) -> Written
     ensures { λ r. ⌜ wrote r (now (out .exit)) ≡ write h (now (out .entry)) ⌝ }
 {
     match since_2000(h) {
-        Counting::Count(n) => layout_fields::cryosat::write(fields_at(n), out),
-        Counting::Refused(r) => Written::Refused(r),
+        Counted::Count(n) => layout_fields::cryosat::write(fields_at(n), out),
+        Counted::Refused(r) => Written::Refused(r),
     }
 }

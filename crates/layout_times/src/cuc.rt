@@ -3,11 +3,11 @@ ghost use mathlib.Core.Path.{_≡_};
 ghost use Prim.Native.Nat.{_<_};
 ghost use Rattle.scales.specs.Meaning.{slip, wrote};
 ghost use Rattle.layout_times.specs.Cuc.{fieldsAt, read, write};
-use layout_fields::Counting;
+use handed::Handed;
+use layout_fields::cuc::CucParted;
 use layout_fields::cuc::Fields;
-use layout_fields::cuc::Parted;
+use scales::Counted;
 use scales::Dated;
-use scales::Handed;
 use scales::Scale;
 use scales::Written;
 
@@ -15,12 +15,12 @@ pub fn read(b: &[u8]) -> Dated
     ensures { λ r. ⌜ slip r ≡ read (now (b .entry)) ⌝ }
 {
     match layout_fields::cuc::read(b) {
-        Parted::Fields(f) => {
+        CucParted::Fields(f) => {
             let n = (f.seconds as u64) * 1_000_000 + crate::fraction_micros(f.fraction);
             // day -7300
             crate::since(Scale::Gps, 32700, n)
         }
-        Parted::Refused(r) => Dated::Refused(r, Scale::Gps),
+        CucParted::Refused(r) => Dated::Refused(r, Scale::Gps),
     }
 }
 
@@ -40,7 +40,7 @@ pub fn write(h: Handed, out: &mut [u8]) -> Written
 {
     match crate::due(h, Scale::Gps) {
         // 32,700 days: from day -40000 to day -7300
-        Counting::Count(n) => layout_fields::cuc::write(fields_at(n - 2_825_280_000_000_000), out),
-        Counting::Refused(r) => Written::Refused(r),
+        Counted::Count(n) => layout_fields::cuc::write(fields_at(n - 2_825_280_000_000_000), out),
+        Counted::Refused(r) => Written::Refused(r),
     }
 }

@@ -2,14 +2,13 @@
 ghost use mathlib.Core.Path.{_≡_};
 ghost use Prim.Native.Nat.{_≤_, _<_};
 ghost use Rattle.axis.specs.Meaning.{dayAt};
-ghost use Rattle.scales.specs.Meaning.{outcome, slip, spanned, timeCount};
-ghost use Rattle.layout_fields.specs.Meaning.{valued, countSlip};
+ghost use Rattle.scales.specs.Meaning.{outcome, slip, spanned, timeCount, valued, countSlip};
 ghost use Rattle.layout_times.specs.Meaning.{momentFrom, fractionMicros, fractionAt};
 ghost use Rattle.layout_times.specs.Due.{dueIn};
-use decimal::Taken;
-use layout_fields::Counting;
+use handed::Handed;
+use handed::Taken;
+use scales::Counted;
 use scales::Dated;
-use scales::Handed;
 use scales::Record;
 use scales::Refusal;
 use scales::Scale;
@@ -56,17 +55,17 @@ fn count(t: Time) -> u64
 }
 
 // The count of a handed time where a time of a scale is due, or 4, 7, 12.
-fn due(h: Handed, scale: Scale) -> Counting
+fn due(h: Handed, scale: Scale) -> Counted
     ensures { λ r. ⌜ countSlip r ≡ valued 0 (outcome (dueIn scale h)) ⌝ }
 {
-    match decimal::take(h) {
-        Taken::NotFinite(_) => Counting::Refused(Refusal::DecimalNotFinite),
-        Taken::Outside(_) => Counting::Refused(Refusal::OutsideSpan),
+    match handed::take(h) {
+        Taken::NotFinite(_) => Counted::Refused(Refusal::DecimalNotFinite),
+        Taken::Outside(_) => Counted::Refused(Refusal::OutsideSpan),
         Taken::At(t) => {
             if t.scale().code() == scale.code() {
-                return Counting::Count(count(t));
+                return Counted::Count(count(t));
             }
-            Counting::Refused(Refusal::NoImage)
+            Counted::Refused(Refusal::NoImage)
         }
     }
 }

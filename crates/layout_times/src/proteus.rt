@@ -1,15 +1,14 @@
 // Proteus, SMOS: UTC in weeks of 604,800 s from day -7300, with the bit H3. Neither way uses a leap list.
 ghost use mathlib.Core.Path.{_≡_};
 ghost use Prim.Native.Nat.{_<_};
-ghost use Rattle.scales.specs.Meaning.{outcome, wrote};
-ghost use Rattle.layout_fields.specs.Meaning.{valued, countSlip};
+ghost use Rattle.scales.specs.Meaning.{outcome, wrote, valued, countSlip};
 ghost use Rattle.layout_times.specs.Due.{since1980};
 ghost use Rattle.layout_times.specs.Proteus.{slip, fieldsAt, read, write};
-use layout_fields::Counting;
+use handed::Handed;
 use layout_fields::proteus::Fields;
-use layout_fields::proteus::Parted;
+use layout_fields::proteus::ProteusParted;
+use scales::Counted;
 use scales::Dated;
-use scales::Handed;
 use scales::Record;
 use scales::Refusal;
 use scales::Scale;
@@ -26,7 +25,7 @@ pub fn read(b: &[u8]) -> ProteusDated
     ensures { λ r. ⌜ slip r ≡ read (now (b .entry)) ⌝ }
 {
     match layout_fields::proteus::read(b) {
-        Parted::Fields(f) => {
+        ProteusParted::Fields(f) => {
             let seconds = (f.week as u64) * 604_800 + (f.second as u64);
             let n = seconds * 1_000_000 + crate::fraction_micros(f.fraction);
             let h3 = f.h3;
@@ -36,31 +35,31 @@ pub fn read(b: &[u8]) -> ProteusDated
                 Dated::Refused(r, _) => ProteusDated::Refused(r),
             }
         }
-        Parted::Refused(r) => ProteusDated::Refused(r),
+        ProteusParted::Refused(r) => ProteusDated::Refused(r),
     }
 }
 
 // The microseconds since day -7300 of a handed UTC time that has an image, days of 86,400 s; or 4, 7, 12.
-fn since_1980(h: Handed) -> Counting
+fn since_1980(h: Handed) -> Counted
     ensures { λ r. ⌜ countSlip r ≡ valued 0 (outcome (since1980 h)) ⌝ }
 {
     match crate::due(h, Scale::Utc) {
-        Counting::Count(n) => {
+        Counted::Count(n) => {
             // The day by its place on the axis: -7300 stands at 32700, 21371 at 61371.
             let day = n / Utc::BOUND;
             let micro = n % Utc::BOUND;
             if day < 32700 {
-                return Counting::Refused(Refusal::NoImage);
+                return Counted::Refused(Refusal::NoImage);
             }
             if 61371 < day {
-                return Counting::Refused(Refusal::NoImage);
+                return Counted::Refused(Refusal::NoImage);
             }
             if 86_400_000_000 <= micro {
-                return Counting::Refused(Refusal::NoImage);
+                return Counted::Refused(Refusal::NoImage);
             }
-            Counting::Count((day - 32700) * 86_400_000_000 + micro)
+            Counted::Count((day - 32700) * 86_400_000_000 + micro)
         }
-        Counting::Refused(r) => Counting::Refused(r),
+        Counted::Refused(r) => Counted::Refused(r),
     }
 }
 
@@ -81,7 +80,7 @@ pub fn write(h: Handed, h3: bool, out: &mut [u8]) -> Written
     ensures { λ r. ⌜ wrote r (now (out .exit)) ≡ write h h3 (now (out .entry)) ⌝ }
 {
     match since_1980(h) {
-        Counting::Count(n) => layout_fields::proteus::write(fields_at(h3, n), out),
-        Counting::Refused(r) => Written::Refused(r),
+        Counted::Count(n) => layout_fields::proteus::write(fields_at(h3, n), out),
+        Counted::Refused(r) => Written::Refused(r),
     }
 }

@@ -3,11 +3,11 @@ ghost use mathlib.Core.Path.{_≡_};
 ghost use Prim.Native.Nat.{_<_};
 ghost use Rattle.scales.specs.Meaning.{slip, wrote};
 ghost use Rattle.layout_times.specs.Siral.{fieldsAt, read, write};
-use layout_fields::Counting;
+use handed::Handed;
 use layout_fields::siral::Fields;
-use layout_fields::siral::Parted;
+use layout_fields::siral::SiralParted;
+use scales::Counted;
 use scales::Dated;
-use scales::Handed;
 use scales::Scale;
 use scales::Written;
 
@@ -15,12 +15,12 @@ pub fn read(b: &[u8]) -> Dated
     ensures { λ r. ⌜ slip r ≡ read (now (b .entry)) ⌝ }
 {
     match layout_fields::siral::read(b) {
-        Parted::Fields(f) => {
+        SiralParted::Fields(f) => {
             let n = crate::cryosat::micros(f.day, f.millisecond, f.microsecond);
             // day 0
             crate::since(Scale::Tai, 40000, n + (f.extra as u64) * 33 / 16)
         }
-        Parted::Refused(r) => Dated::Refused(r, Scale::Tai),
+        SiralParted::Refused(r) => Dated::Refused(r, Scale::Tai),
     }
 }
 
@@ -42,7 +42,7 @@ pub fn write(h: Handed, out: &mut [u8]) -> Written
     ensures { λ r. ⌜ wrote r (now (out .exit)) ≡ write h (now (out .entry)) ⌝ }
 {
     match crate::cryosat::since_2000(h) {
-        Counting::Count(n) => layout_fields::siral::write(fields_at(n), out),
-        Counting::Refused(r) => Written::Refused(r),
+        Counted::Count(n) => layout_fields::siral::write(fields_at(n), out),
+        Counted::Refused(r) => Written::Refused(r),
     }
 }

@@ -13,12 +13,12 @@ use lib.Seq.{drop-cons}
 use lib.Signed.{leZ, ltZ}
 use borrow.Author.Tests.{leb-true, eqb-true, le-leb, lt-leb, eq-eqb, ne-eqb}
 use Rattle.axis.specs.Meaning.{placeOfDay, dayAt}
-use Rattle.axis.specs.Axis.{day-from, day-to, day-place}
+use Rattle.axis.specs.Axis.{day-from, day-to, day-place, day-lt, day-next}
 use Rattle.scales.specs.Place.{and-false, and-both}
 use Rattle.calendar.specs.Meaning.{isFirst, allFirsts}
 use Rattle.calendar.specs.Told.{first-span}
 use Rattle.leap.specs.Meaning.{sameDay, areSteps, begins, risesFrom, rises, countsFrom, countsUp, endsIn, noneLater, accepted}
-use Rattle.leap.specs.Places.{day-lt, day-next, same-at}
+use Rattle.leap.specs.Places.{same-at}
 
 -- ---- a day that is the first of a month stands well on the axis
 pub first-at : (d : ℤ) → isFirst d ≡ true → dayAt (placeOfDay d) ≡ d

@@ -10,12 +10,11 @@ use lib.IntN.{ℤ}
 use lib.ListN.{length}
 use lib.Signed.{leZ}
 use borrow.Author.Tests.{le-leb, lt-leb}
-use Rattle.axis.specs.Meaning.{dayAt, microsAt}
+use Rattle.axis.specs.Meaning.{dayAt, microsAt, Moment, dayMicros}
 use Rattle.axis.specs.Diff.{Way, way, below, above}
-use Rattle.scales.specs.Meaning.{Moment}
-use Rattle.decimal.specs.Meaning.{dayMicros}
+use Rattle.axis.specs.Axis.{micros-le}
 use Rattle.leap.specs.Meaning.{through, begun, plain, taiOfStart, offsetOn, isStep, utcOf}
-use Rattle.leap.specs.Places.{micros-le, start-at, plainAt, plain-at, sixtyAt, sixty-at}
+use Rattle.leap.specs.Places.{start-at, plainAt, plain-at, sixtyAt, sixty-at}
 use Rattle.leap.specs.Walk.{through-snoc}
 use Rattle.leap.specs.Steps.{Grown, one, more, grown-even, grown-last}
 use Rattle.leap.specs.Force.{offset-from, offset-till, offset-top, offset-most, step-till, step-gain, step-kept, step-last, Either, which, before, here}

@@ -8,11 +8,11 @@ use lib.Dec.{eqb, leb, ltb}
 use lib.IntN.{ℤ, pos, negsuc, _+ℤ_, _-ℤ_}
 use lib.ListN.{length}
 use lib.Signed.{leZ, ltZ}
-use Rattle.scales.specs.Meaning.{Moment, momentAt}
+use Rattle.axis.specs.Meaning.{Moment, dayMicros, since, momentOf}
+use Rattle.scales.specs.Meaning.{momentAt}
 use Rattle.scales.specs.declared.Scale.the-variants as S
 use Rattle.scales.specs.declared.Utc.{Utc}
 use Rattle.calendar.specs.Meaning.{allFirsts}
-use Rattle.decimal.specs.Meaning.{dayMicros, since, momentOf}
 
 abbrev pub seconds : ℕ → ℤ
 seconds n = pos (n * 1000000)

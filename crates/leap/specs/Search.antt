@@ -9,12 +9,10 @@ use lib.IntN.{ℤ, pos}
 use lib.ListN.{length, getD, take}
 use lib.Signed.{leZ}
 use borrow.Author.Tests.{le-leb, lt-leb, eq-eqb, ne-eqb}
-use Rattle.axis.specs.Meaning.{placeOfDay, dayAt, microsAt}
-use Rattle.axis.specs.Axis.{day-to}
-use Rattle.scales.specs.Meaning.{Moment}
-use Rattle.decimal.specs.Meaning.{dayMicros}
+use Rattle.axis.specs.Meaning.{placeOfDay, dayAt, microsAt, Moment, dayMicros}
+use Rattle.axis.specs.Axis.{day-to, micros-le}
 use Rattle.leap.specs.Meaning.{through, onOrBefore, isStep, taiOfStart, plain, sixty, begun}
-use Rattle.leap.specs.Places.{same-at, micros-le, start-at, plainAt, plain-at, sixtyAt, sixty-at}
+use Rattle.leap.specs.Places.{same-at, start-at, plainAt, plain-at, sixtyAt, sixty-at}
 use Rattle.leap.specs.Walk.{or-true, or-false, said, step-said}
 use Rattle.leap.specs.Steps.{Usable}
 

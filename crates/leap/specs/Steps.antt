@@ -10,12 +10,12 @@ use lib.ListN.{length, getD, length-append}
 use lib.Signed.{leZ, ltZ}
 use borrow.Author.Tests.{leb-true, ltb-true, eqb-true}
 use Rattle.axis.specs.Meaning.{placeOfDay, dayAt}
-use Rattle.axis.specs.Axis.{day-place, day-to}
+use Rattle.axis.specs.Axis.{day-place, day-to, day-lt, day-next}
 use Rattle.scales.specs.Place.{and-both}
 use Rattle.calendar.specs.Meaning.{isFirst, allFirsts}
 use Rattle.calendar.specs.Told.{first-span}
 use Rattle.leap.specs.Meaning.{sameDay, areSteps, begins, risesFrom, rises, countsFrom, countsUp, endsIn, noneLater, accepted}
-use Rattle.leap.specs.Places.{day-lt, day-next, same-at}
+use Rattle.leap.specs.Places.{same-at}
 use Rattle.leap.specs.Accept.{first-at, firsts-at, ends-span}
 
 -- the steps up to (s, o), none later than place b

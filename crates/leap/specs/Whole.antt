@@ -7,11 +7,10 @@ use native.Mathlib.Omega.{arith}
 use lib.Dec.{ltb}
 use lib.IntN.{ℤ}
 use lib.Signed.{ltZ}
-use Rattle.axis.specs.Meaning.{placeOfDay, dayAt}
+use Rattle.axis.specs.Meaning.{placeOfDay, dayAt, dayMicros}
 use Rattle.axis.specs.Diff.{Way, way, below, above}
-use Rattle.decimal.specs.Meaning.{dayMicros}
+use Rattle.axis.specs.Axis.{day-lt}
 use Rattle.leap.specs.Meaning.{accepted, offsetOn, isExpiredDay}
-use Rattle.leap.specs.Places.{day-lt}
 use Rattle.leap.specs.Steps.{Steps, steps}
 use Rattle.leap.specs.Force.{offset-most, offset-mono, step-gain}
 use Rattle.leap.specs.Back.{Real, Right}

@@ -6,16 +6,15 @@ use Prim.Native.Nat.{ℕ, _+_, _-_, _*_, _/_, _%_, _<_, _≤_}
 use native.Mathlib.Omega.{arith}
 use lib.IntN.{ℤ}
 use borrow.Author.Tests.{lt-leb, leb-false}
-use Rattle.axis.specs.Meaning.{placeOfDay, dayAt, microsAt}
+use Rattle.axis.specs.Meaning.{placeOfDay, dayAt, microsAt, Moment, dayMicros, momentOf}
 use Rattle.axis.specs.Diff.{Way, way, below, above}
-use Rattle.scales.specs.Meaning.{inSpan, given, answer, outcome, Moment}
+use Rattle.axis.specs.Axis.{micros-minus, moment-at}
+use Rattle.scales.specs.Meaning.{inSpan, given, answer, outcome}
 use Rattle.scales.specs.declared.Scale.{Scale}
 use Rattle.scales.specs.declared.Scale.the-variants as S
 use Rattle.scales.specs.Place.{span-early, day-part, micro-part}
 use Rattle.scales.specs.Order.{no-answer}
-use Rattle.decimal.specs.Meaning.{dayMicros, momentOf}
 use Rattle.leap.specs.Meaning.{accepted, isExpiredTai, utcOf}
-use Rattle.leap.specs.Places.{micros-minus, moment-at}
 use Rattle.leap.specs.Steps.{Steps, steps}
 use Rattle.leap.specs.Back.{back, forth, none-before}
 use Rattle.leap.specs.Whole.{taiAt, offset-small, known-before, before-known}

@@ -8,15 +8,14 @@ use native.Mathlib.Omega.{arith}
 use native.Mathlib.Nat.{div-add-mod'}
 use lib.Dec.{lit<}
 use lib.IntN.{ℤ}
-use Rattle.axis.specs.Meaning.{placeOfDay, microsAt}
+use Rattle.axis.specs.Meaning.{placeOfDay, microsAt, Moment, dayMicros}
 use Rattle.axis.specs.Diff.{Way, way, below, above}
 use Rattle.axis.specs.Axis.{day-inj}
-use Rattle.scales.specs.Meaning.{andThen, bound, Judged, Outcome, refused, answer, outcome, Moment, momentAt}
+use Rattle.scales.specs.Meaning.{andThen, bound, Judged, Outcome, refused, answer, outcome, momentAt}
 use Rattle.scales.specs.Order.{onward, then-is, no-answer}
 use Rattle.scales.specs.Place.{count-inj, day-part, micro-part}
 use Rattle.scales.specs.declared.Scale.{Scale}
 use Rattle.scales.specs.declared.Scale.the-variants as S
-use Rattle.decimal.specs.Meaning.{dayMicros}
 use Rattle.leap.specs.Meaning.{accepted}
 use Rattle.leap.specs.Steps.{steps}
 use Rattle.leap.specs.Back.{forth}

@@ -8,7 +8,7 @@ use lib.IntN.{ℤ, pos, negsuc}
 use Rattle.scales.specs.Meaning.{Slip, recordOf}
 use Rattle.scales.specs.declared.Scale.{Scale}
 use Rattle.scales.specs.declared.Scale.the-variants as S
-use Rattle.scales.specs.declared.Handed.the-variants as H
+use Rattle.handed.specs.declared.Handed.the-variants as H
 use Rattle.ground_laws.proofs.Desks.{answered, empty}
 use Rattle.calendar.specs.Meaning.{leap, monthLength, lengthOf, firstDay, dayAfter, daysTo, walk, isFirst}
 use Rattle.leap.specs.Meaning.{begins, risesFrom, rises, countsFrom, countsUp, noneLater, accepted, allLater, Extends, through, isStep, publishedDays, publishedOffsets, publishedLast}

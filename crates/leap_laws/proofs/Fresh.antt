@@ -8,19 +8,17 @@ use lib.IntN.{ℤ, pos, _+ℤ_}
 use lib.ListN.{length}
 use lib.Signed.{leZ, ltZ}
 use borrow.Author.Tests.{lt-leb, le-leb, lt-ltb, le-ltb, leb-true, leb-false}
-use Rattle.axis.specs.Meaning.{placeOfDay, dayAt, microsAt}
+use Rattle.axis.specs.Meaning.{placeOfDay, dayAt, microsAt, Moment, dayMicros, since}
 use Rattle.axis.specs.Diff.{Way, way, below, above, le-not}
-use Rattle.axis.specs.Axis.{day-to, day-le}
-use Rattle.scales.specs.Meaning.{andThen, sameScale, Judged, given, gives, Outcome, refused, answer, outcome, Moment}
+use Rattle.axis.specs.Axis.{day-to, day-le, since-at, day-next, micros-add}
+use Rattle.scales.specs.Meaning.{andThen, sameScale, Judged, given, gives, Outcome, refused, answer, outcome}
 use Rattle.scales.specs.Order.{onward, then-is, no-answer}
 use Rattle.scales.specs.Place.{and-both}
 use Rattle.scales.specs.declared.Scale.{Scale}
 use Rattle.scales.specs.declared.Scale.the-variants as S
 use Rattle.calendar.specs.Meaning.{isFirst, allFirsts}
-use Rattle.decimal.specs.Meaning.{dayMicros, since}
-use Rattle.decimal.proofs.Image.{since-at}
 use Rattle.leap.specs.Meaning.{seconds, accepted, allLater, through, onOrBefore, begun, plain, offsetOn, taiOf, isStep, hasMicro, isExpiredDay, utcOf}
-use Rattle.leap.specs.Places.{day-next, micros-add, tai-at}
+use Rattle.leap.specs.Places.{tai-at}
 use Rattle.leap.specs.Walk.{or-false, through-append, step-append}
 use Rattle.leap.specs.Accept.{first-at}
 use Rattle.leap.specs.Steps.{Steps, steps, parts, usable}

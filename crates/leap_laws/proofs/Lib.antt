@@ -7,3 +7,4 @@ pub mod Fresh
 pub mod Promises
 pub mod Wrong
 pub mod Instances
+pub mod Asked

@@ -4,12 +4,13 @@ use mathlib.Core.Bool.{Bool, true}
 use mathlib.Core.List.{List, [], _∷_}
 use Prim.Native.Nat.{ℕ}
 use lib.IntN.{ℤ}
-use Rattle.scales.specs.Meaning.{Moment, numbers, order, standsIn}
+use Rattle.axis.specs.Meaning.{Moment}
+use Rattle.scales.specs.Meaning.{numbers, order, standsIn}
 use Rattle.scales.specs.declared.Scale.{Scale}
 use Rattle.scales.specs.declared.Scale.the-variants as S
-use Rattle.scales.specs.declared.Handed.{Handed}
-use Rattle.decimal.specs.Meaning.{scaleOf, isInSpan}
-use Rattle.changes.specs.Meaning.{listed, taiInGps, gpsInTai, utcInTai, utcInGps, taiInUtc, gpsInUtc, moving, momentIn, changing}
+use Rattle.handed.specs.declared.Handed.{Handed}
+use Rattle.handed.specs.Meaning.{scaleOf, isInSpan}
+use Rattle.changes.specs.Meaning.{withList, taiInGps, gpsInTai, utcInTai, utcInGps, taiInUtc, gpsInUtc, moving, momentIn, changing}
 
 module _ (ds : List ℤ) (os : List ℕ) (e : ℤ) (n : ℕ) where
   pub tai-gps : numbers (taiInGps n) ≡ 7 ∷ 11 ∷ []
@@ -18,16 +19,16 @@ module _ (ds : List ℤ) (os : List ℕ) (e : ℤ) (n : ℕ) where
   pub gps-tai : numbers (gpsInTai n) ≡ 7 ∷ 11 ∷ []
   gps-tai = refl
 
-  pub utc-tai : numbers (listed ds os e (utcInTai ds os e n)) ≡ 5 ∷ 7 ∷ 9 ∷ 10 ∷ 11 ∷ []
+  pub utc-tai : numbers (withList ds os e (utcInTai ds os e n)) ≡ 5 ∷ 7 ∷ 9 ∷ 10 ∷ 11 ∷ []
   utc-tai = refl
 
-  pub utc-gps : numbers (listed ds os e (utcInGps ds os e n)) ≡ 5 ∷ 7 ∷ 9 ∷ 10 ∷ 11 ∷ []
+  pub utc-gps : numbers (withList ds os e (utcInGps ds os e n)) ≡ 5 ∷ 7 ∷ 9 ∷ 10 ∷ 11 ∷ []
   utc-gps = refl
 
-  pub tai-utc : numbers (listed ds os e (taiInUtc ds os e n)) ≡ 5 ∷ 7 ∷ 9 ∷ 11 ∷ []
+  pub tai-utc : numbers (withList ds os e (taiInUtc ds os e n)) ≡ 5 ∷ 7 ∷ 9 ∷ 11 ∷ []
   tai-utc = refl
 
-  pub gps-utc : numbers (listed ds os e (gpsInUtc ds os e n)) ≡ 5 ∷ 7 ∷ 9 ∷ 11 ∷ []
+  pub gps-utc : numbers (withList ds os e (gpsInUtc ds os e n)) ≡ 5 ∷ 7 ∷ 9 ∷ 11 ∷ []
   gps-utc = refl
 
 -- a change stays in the order from 7 on, and a change to the same scale brings only that scale's refusals

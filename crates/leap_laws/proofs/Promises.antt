@@ -7,17 +7,17 @@ use Prim.Native.Nat.{ℕ, _/_, _%_}
 use native.Mathlib.Omega.{arith}
 use lib.IntN.{ℤ, pos, _+ℤ_}
 use lib.Signed.{leZ}
-use Rattle.axis.specs.Meaning.{placeOfDay}
+use Rattle.axis.specs.Meaning.{placeOfDay, Moment}
 use Rattle.axis.specs.Axis.{day-place}
-use Rattle.scales.specs.Meaning.{bound, inSpan, given, Outcome, refused, outcome, Slip, Moment, dated, momentAt}
+use Rattle.scales.specs.Meaning.{bound, inSpan, given, Outcome, refused, outcome, Slip, dated, momentAt}
 use Rattle.scales.specs.Place.{apart}
 use Rattle.scales.specs.declared.Scale.{Scale}
 use Rattle.scales.specs.declared.Scale.the-variants as S
-use Rattle.scales.specs.declared.Handed.{Handed}
-use Rattle.decimal.specs.Meaning.{scaleOf, isFinite, isInSpan, dayOf, microOf}
-use Rattle.decimal.specs.Told.{loose}
+use Rattle.handed.specs.declared.Handed.{Handed}
+use Rattle.handed.specs.Told.{loose}
+use Rattle.handed.specs.Meaning.{scaleOf, isFinite, isInSpan, dayOf, microOf}
 use Rattle.leap.specs.Meaning.{accepted, Extends, allLater, publishedDays, publishedOffsets, publishedLast}
-use Rattle.changes.specs.Meaning.{listed, usesList, moving, momentIn, utcToTai, utcToGps, taiToUtc, gpsToUtc, changeOf}
+use Rattle.changes.specs.Meaning.{withList, changeUsesList, moving, momentIn, utcToTai, utcToGps, taiToUtc, gpsToUtc, changeOf}
 use Rattle.changes.specs.Ways.{list-in}
 use Rattle.changes.specs.General.{seven}
 use Rattle.leap_laws.proofs.Stands.{moment}
@@ -40,9 +40,9 @@ module _ (ds : List ℤ) (os : List ℕ) (e : ℤ) (w : accepted ds os e ≡ tru
     (v : accepted (ds ++ cs) (os ++ ps) f ≡ true) (far : allLater cs (e +ℤ pos 1) ≡ true) (ends : leZ e f ≡ true) where
   -- a count, typed
   typed : (s to : Scale) (n : ℕ) → let j = inSpan s (momentAt s n .day) (momentAt s n .micro) in
-      (dated to (outcome (listed ds os e (moving s to ds os e j (momentAt s n)))) .number ≡ 9 → ⊥)
-      → dated to (outcome (listed (ds ++ cs) (os ++ ps) f (moving s to (ds ++ cs) (os ++ ps) f j (momentAt s n))))
-      ≡ dated to (outcome (listed ds os e (moving s to ds os e j (momentAt s n))))
+      (dated to (outcome (withList ds os e (moving s to ds os e j (momentAt s n)))) .number ≡ 9 → ⊥)
+      → dated to (outcome (withList (ds ++ cs) (os ++ ps) f (moving s to (ds ++ cs) (os ++ ps) f j (momentAt s n))))
+      ≡ dated to (outcome (withList ds os e (moving s to ds os e j (momentAt s n))))
   typed s to n h =
       let j = inSpan s (momentAt s n .day) (momentAt s n .micro) in
       let A = moving s to ds os e j (momentAt s n) in
@@ -65,19 +65,19 @@ module _ (ds : List ℤ) (os : List ℕ) (e : ℤ) (w : accepted ds os e ≡ tru
       m = momentIn h
 
       slipA : Bool → Bool → Slip
-      slipA p q = dated to (outcome (given p 4 (given (not (usesList (scaleOf h) to) || accepted ds os e) 5 (moving (scaleOf h) to ds os e q m))))
+      slipA p q = dated to (outcome (given p 4 (given (not (changeUsesList (scaleOf h) to) || accepted ds os e) 5 (moving (scaleOf h) to ds os e q m))))
 
       slipB : Bool → Bool → Slip
       slipB p q =
           dated to
           (outcome
-          (given p 4 (given (not (usesList (scaleOf h) to) || accepted (ds ++ cs) (os ++ ps) f) 5 (moving (scaleOf h) to (ds ++ cs) (os ++ ps) f q m))))
+          (given p 4 (given (not (changeUsesList (scaleOf h) to) || accepted (ds ++ cs) (os ++ ps) f) 5 (moving (scaleOf h) to (ds ++ cs) (os ++ ps) f q m))))
 
       A : (q : Bool) → slipA true q ≡ dated to (outcome (moving (scaleOf h) to ds os e q m))
-      A q = rw (used (not (usesList (scaleOf h) to)) (accepted ds os e) w)
+      A q = rw (used (not (changeUsesList (scaleOf h) to)) (accepted ds os e) w)
 
       B : (q : Bool) → slipB true q ≡ dated to (outcome (moving (scaleOf h) to (ds ++ cs) (os ++ ps) f q m))
-      B q = rw (used (not (usesList (scaleOf h) to)) (accepted (ds ++ cs) (os ++ ps) f) v)
+      B q = rw (used (not (changeUsesList (scaleOf h) to)) (accepted (ds ++ cs) (os ++ ps) f) v)
 
       go : (p : Bool) → isFinite h ≡ p → (q : Bool) → isInSpan h ≡ q → (slipA p q .number ≡ 9 → ⊥) → slipB p q ≡ slipA p q
       go false x q y k = refl

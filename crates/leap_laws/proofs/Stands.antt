@@ -7,17 +7,16 @@ use native.Mathlib.Omega.{arith}
 use lib.Dec.{leb, ltb}
 use lib.IntN.{ℤ, _+ℤ_}
 use borrow.Author.Tests.{ltb-true, leb-true, le-ltb, ltb-false, not-true}
-use Rattle.axis.specs.Meaning.{placeOfDay, dayAt, microsAt}
+use Rattle.axis.specs.Meaning.{placeOfDay, dayAt, microsAt, Moment, dayMicros}
 use Rattle.axis.specs.Diff.{Way, way, below, above}
-use Rattle.scales.specs.Meaning.{bound, inSpan, given, gives, answer, outcome, Moment}
+use Rattle.axis.specs.Axis.{since-at, micros-add}
+use Rattle.scales.specs.Meaning.{bound, inSpan, given, gives, answer, outcome}
 use Rattle.scales.specs.declared.Scale.{Scale}
 use Rattle.scales.specs.declared.Scale.the-variants as S
 use Rattle.scales.specs.Place.{firstAt, and-both, span-at, span-in}
 use Rattle.scales.specs.Order.{no-answer, passed}
-use Rattle.decimal.specs.Meaning.{dayMicros}
-use Rattle.decimal.proofs.Image.{since-at}
 use Rattle.leap.specs.Meaning.{seconds, accepted, taiOf, isStep, hasMicro, isExpiredDay}
-use Rattle.leap.specs.Places.{micros-add, tai-at}
+use Rattle.leap.specs.Places.{tai-at}
 use Rattle.leap.specs.Back.{Real}
 use Rattle.leap.specs.Whole.{expired-at, taiAt}
 use Rattle.changes.specs.Meaning.{fromScale}

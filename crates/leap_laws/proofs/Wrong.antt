@@ -8,13 +8,12 @@ use native.Mathlib.Omega.{arith}
 use lib.IntN.{ℤ, pos, negsuc, _+ℤ_, _-ℤ_}
 use lib.ListN.{getD, take}
 use Rattle.evidence.specs.ShutOut.{ShutOut, differ}
-use Rattle.axis.specs.Meaning.{placeOfDay}
-use Rattle.scales.specs.Meaning.{andThen, Judged, given, gives, outcome, Slip, Moment, dated, recordOf}
+use Rattle.axis.specs.Meaning.{placeOfDay, Moment, since, momentOf}
+use Rattle.scales.specs.Meaning.{andThen, Judged, given, gives, outcome, Slip, dated, recordOf}
 use Rattle.scales.specs.declared.Scale.{Scale}
 use Rattle.scales.specs.declared.Scale.the-variants as S
-use Rattle.scales.specs.declared.Handed.the-variants as H
+use Rattle.handed.specs.declared.Handed.the-variants as H
 use Rattle.calendar.specs.Meaning.{leap, monthLength, lengthOf, firstDay, dayAfter, daysTo, walk, isFirst, allFirsts}
-use Rattle.decimal.specs.Meaning.{since, momentOf}
 use Rattle.leap.specs.Meaning.{seconds, areSteps, begins, risesFrom, rises, countsFrom, countsUp, endsIn, noneLater, accepted, through, offsetOn, taiOf, isStep, hasMicro, isExpiredDay, publishedDays, publishedOffsets, publishedLast}
 use Rattle.changes.specs.Meaning.{fromTai, fromUtc, within, toTai, toGps, toUtc, ofCount, moving, taiToGps, gpsToTai, utcToTai, utcToGps, taiToUtc, gpsToUtc, changeOf}
 use Rattle.ground_laws.proofs.Desks.{answered, empty, byNumber, byMicro, refusesAll, dayZero}

@@ -4,18 +4,18 @@ use mathlib.Core.Bool.{true}
 use mathlib.Core.List.{List}
 use Prim.Native.Nat.{ℕ}
 use lib.IntN.{ℤ}
-use Rattle.scales.specs.Meaning.{inSpan, Outcome, refused, answer, outcome, Moment, dated, numberOf, slip}
+use Rattle.axis.specs.Meaning.{Moment}
+use Rattle.scales.specs.Meaning.{inSpan, Outcome, refused, answer, outcome, dated, numberOf, slip}
 use Rattle.scales.specs.Order.{onward, then-is, ends, no-answer}
 use Rattle.scales.specs.declared.Scale.{Scale}
 use Rattle.scales.specs.declared.Scale.the-variants as S
 use Rattle.scales.specs.declared.Record.{Record}
 use Rattle.scales.specs.declared.Refusal.{Refusal}
 use Rattle.scales.specs.declared.Dated.the-variants as D
+use Rattle.changes.specs.Asked.{recordMoment, sound, slip-answer, slip-refused}
 use Rattle.text_read.specs.Meaning.{scaleIn, reading}
-use Rattle.text_read.specs.Stage.{recordMoment}
-use Rattle.text_read.specs.Judging.{sound, slip-answer, slip-refused}
 use Rattle.text_read.specs.In.{into}
-use Rattle.lines.specs.Meaning.{dating}
+use Rattle.lines.specs.Meaning.{lineDating}
 
 module _ (ds : List ℤ) (os : List ℕ) (e : ℤ) where
   abbrev Inside : Moment → Type 0
@@ -32,20 +32,20 @@ module _ (ds : List ℤ) (os : List ℕ) (e : ℤ) where
   passes S.Gps m = sound (into S.Tai ds os e S.Gps m) refl
 
   module _ (s : List ℕ) where
-    never : outcome (dating ds os e s) ≡ refused 0 → ⊥
+    never : outcome (lineDating ds os e s) ≡ refused 0 → ⊥
     never q = go (outcome (reading s ds os e)) refl (sym (then-is (reading s ds os e) (into S.Tai ds os e (scaleIn s))) ∙ q)
       where
         go : (o : Outcome Moment) → outcome (reading s ds os e) ≡ o → onward (into S.Tai ds os e (scaleIn s)) o ≡ refused 0 → ⊥
         go (refused n) p q = sound (reading s ds os e) refl (p ∙ q)
         go (answer m) p q = passes (scaleIn s) m q
 
-    pub line-answer : (t : Record) → slip (D.At t) ≡ dated S.Tai (outcome (dating ds os e s)) → (t .scale ≡ S.Tai) × (outcome (dating ds os e s) ≡ answer (recordMoment t))
-    line-answer t q = slip-answer S.Tai (outcome (dating ds os e s)) never t q
+    pub line-answer : (t : Record) → slip (D.At t) ≡ dated S.Tai (outcome (lineDating ds os e s)) → (t .scale ≡ S.Tai) × (outcome (lineDating ds os e s) ≡ answer (recordMoment t))
+    line-answer t q = slip-answer S.Tai (outcome (lineDating ds os e s)) never t q
 
-    pub line-refused : (f : Refusal) (z : Scale) → slip (D.Refused f z) ≡ dated S.Tai (outcome (dating ds os e s)) → outcome (dating ds os e s) ≡ refused (numberOf f)
-    line-refused f z q = slip-refused S.Tai (outcome (dating ds os e s)) f z q
+    pub line-refused : (f : Refusal) (z : Scale) → slip (D.Refused f z) ≡ dated S.Tai (outcome (lineDating ds os e s)) → outcome (lineDating ds os e s) ≡ refused (numberOf f)
+    line-refused f z q = slip-refused S.Tai (outcome (lineDating ds os e s)) f z q
 
-    pub line-inside : (n : Moment) → outcome (dating ds os e s) ≡ answer n → Inside n
+    pub line-inside : (n : Moment) → outcome (lineDating ds os e s) ≡ answer n → Inside n
     line-inside n q = go (outcome (reading s ds os e)) (sym (then-is (reading s ds os e) (into S.Tai ds os e (scaleIn s))) ∙ q)
       where
         go : (o : Outcome Moment) → onward (into S.Tai ds os e (scaleIn s)) o ≡ answer n → Inside n

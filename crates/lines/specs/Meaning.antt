@@ -7,8 +7,9 @@ use lib.Dec.{eqb, ltb}
 use lib.IntN.{ℤ}
 use lib.ListN.{length, take}
 use lib.Seq.{slice}
+use Rattle.axis.specs.Meaning.{Moment}
 use Rattle.octets.specs.Meaning.{onto}
-use Rattle.scales.specs.Meaning.{Judged, Outcome, refused, answer, outcome, Moment}
+use Rattle.scales.specs.Meaning.{Judged, Outcome, refused, answer, outcome}
 use Rattle.scales.specs.declared.Scale.the-variants as S
 use Rattle.leap.specs.Meaning.{publishedDays, publishedOffsets, publishedLast}
 use Rattle.text_read.specs.Meaning.{readingIn}
@@ -42,11 +43,11 @@ told (answer m) = imageOf F.PrefixedMicros S.Tai m
 
 module _ (ds : List ℤ) (os : List ℕ) (e : ℤ) where
   -- the time that the text stands for, changed to TAI
-  abbrev pub dating : List ℕ → Judged Moment
-  dating s = readingIn S.Tai s ds os e
+  abbrev pub lineDating : List ℕ → Judged Moment
+  lineDating s = readingIn S.Tai s ds os e
 
   unfoldable pub answerTo : List ℕ → List ℕ
-  answerTo s = told (outcome (dating s)) ++ (10 ∷ [])
+  answerTo s = told (outcome (lineDating s)) ++ (10 ∷ [])
 
   unfoldable pub answers : List (List ℕ) → List ℕ
   answers [] = []

@@ -9,9 +9,10 @@ use lib.IntN.{ℤ}
 use lib.ListN.{length, drop, getD, set, length-append}
 use lib.Seq.{drop-cons, set-at}
 use borrow.Author.Tests.{le-leb, lt-ltb, le-ltb}
+use Rattle.axis.specs.Meaning.{Moment}
 use Rattle.octets.specs.Meaning.{onto}
 use Rattle.octets.specs.Place.{onto-room}
-use Rattle.scales.specs.Meaning.{Outcome, refused, answer, outcome, Moment, wrote}
+use Rattle.scales.specs.Meaning.{Outcome, refused, answer, outcome, wrote}
 use Rattle.scales.specs.declared.Scale.{Scale}
 use Rattle.scales.specs.declared.Scale.the-variants as S
 use Rattle.scales.specs.declared.Written.{Written}
@@ -20,7 +21,7 @@ use Rattle.text_read.specs.Meaning.{prefixOf}
 use Rattle.text_write.specs.Meaning.{textOf, imageOf}
 use Rattle.text_write.specs.Stage.{imaged}
 use Rattle.text_write.specs.declared.Form.the-variants as F
-use Rattle.lines.specs.Meaning.{digit, refusedText, told, dating, answerTo}
+use Rattle.lines.specs.Meaning.{digit, refusedText, told, lineDating, answerTo}
 use Rattle.lines.specs.Stage.{refusedLine, Put}
 
 -- ---- `refused N`
@@ -52,7 +53,7 @@ module _ (z : Scale) (m : Moment) (out : List ℕ) (room : 32 ≤ length out) wh
   abbrev image : List ℕ
   image = imageOf F.PrefixedMicros z m
 
-  imaged-is : imaged F.PrefixedMicros z m out ≡ record { number = 0; length = length image; bytes = image ++ drop (length image) out }
+  imaged-is : imaged F.PrefixedMicros z m out ≡ record { number = 0; length = length image; lent = image ++ drop (length image) out }
   unfolding imaged
   imaged-is = rw (le-leb (length image) (length out) (omega (arith, image-length z m)))
 
@@ -61,7 +62,7 @@ module _ (z : Scale) (m : Moment) (out : List ℕ) (room : 32 ≤ length out) wh
       let l = image-length z m in
       let b : length (image ++ (10 ∷ [])) ≡ 32 = omega (arith, l, length-append image (10 ∷ [])) in
       let e : after ≡ image ++ (getD out 31 0 ∷ drop 32 out) =
-      left w ∙ (λ i. (q ∙ imaged-is) i .bytes) ∙ ap (λ (n : ℕ). image ++ drop n out) l ∙ ap (λ (x : List ℕ). image ++ x) (drop-cons out 31 0 (omega arith)) in
+      left w ∙ (λ i. (q ∙ imaged-is) i .lent) ∙ ap (λ (n : ℕ). image ++ drop n out) l ∙ ap (λ (x : List ℕ). image ++ x) (drop-cons out 31 0 (omega arith)) in
       record {
         length-is = sym b;
         bytes-are =
@@ -71,7 +72,7 @@ module _ (z : Scale) (m : Moment) (out : List ℕ) (room : 32 ≤ length out) wh
             ∙ sym (onto-room (image ++ (10 ∷ [])) out (omega arith) ∙ ap (λ (n : ℕ). (image ++ (10 ∷ [])) ++ drop n out) b);
       }
     where
-      left : (w : Written) → after ≡ wrote w after .bytes
+      left : (w : Written) → after ≡ wrote w after .lent
       left (W.Bytes n) = refl
       left (W.Refused f) = refl
 
@@ -88,8 +89,8 @@ told-small (answer m) = omega (arith, image-length S.Tai m)
 module _ (ds : List ℤ) (os : List ℕ) (e : ℤ) (s : List ℕ) where
   pub answer-small : length (answerTo ds os e s) ≤ 32
   unfolding answerTo
-  answer-small = omega (arith, told-small (outcome (dating ds os e s)), length-append (told (outcome (dating ds os e s))) (10 ∷ []))
+  answer-small = omega (arith, told-small (outcome (lineDating ds os e s)), length-append (told (outcome (lineDating ds os e s))) (10 ∷ []))
 
-  pub answer-is : (o : Outcome Moment) → outcome (dating ds os e s) ≡ o → told o ++ (10 ∷ []) ≡ answerTo ds os e s
+  pub answer-is : (o : Outcome Moment) → outcome (lineDating ds os e s) ≡ o → told o ++ (10 ∷ []) ≡ answerTo ds os e s
   unfolding answerTo
   answer-is o q = ap (λ (x : Outcome Moment). told x ++ (10 ∷ [])) (sym q)

@@ -6,7 +6,7 @@ ghost use Prim.Native.Nat.{_+_, _≤_, min};
 ghost use lib.ListN.{length, drop};
 ghost use Rattle.scales.specs.Meaning.{inSpan, numberOf};
 ghost use Rattle.leap.specs.Meaning.{accepted};
-ghost use Rattle.text_read.specs.Stage.{recordMoment};
+ghost use Rattle.changes.specs.Asked.{recordMoment};
 ghost use Rattle.text_write.specs.Meaning.{imageOf};
 ghost use Rattle.lines.specs.Meaning.{digit as digitOf, answerTo, done, doneUnder, dateLines, moved, keep};
 ghost use Rattle.lines.specs.Stage.{beforeNewline, refusedLine, Put};

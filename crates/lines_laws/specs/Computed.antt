@@ -8,8 +8,9 @@ use native.Mathlib.Omega.{arith}
 use lib.Dec.{eqb}
 use lib.IntN.{pos}
 use lib.ListN.{length, take, drop, replicate}
+use Rattle.axis.specs.Meaning.{Moment}
 use Rattle.evidence.specs.ShutOut.{ShutOut}
-use Rattle.scales.specs.Meaning.{Outcome, refused, answer, outcome, Moment}
+use Rattle.scales.specs.Meaning.{Outcome, refused, answer, outcome}
 use Rattle.calendar.specs.Meaning.{leap, monthLength, lengthOf, firstDay, isDate, dayAfter, daysTo, walk, dayOfDate, dateOfDay}
 use Rattle.leap.specs.Meaning.{through, isStep, publishedDays, publishedOffsets, publishedLast}
 use Rattle.leap.specs.Published.{published}
@@ -17,10 +18,10 @@ use Rattle.text_read.specs.Meaning.{digitOf, twoOf, fourOf, sixOf, names, lette
 use Rattle.text_write.specs.Meaning.{textOf}
 use Rattle.text_laws.specs.Computed.{sixty}
 use Rattle.lines_laws.specs.Run.{kept-is}
-use Rattle.lines.specs.Meaning.{linesOf, refusedText, told, dating, answerTo, answers, desk, wholeIn}
+use Rattle.lines.specs.Meaning.{linesOf, refusedText, told, lineDating, answerTo, answers, desk, wholeIn}
 
 abbrev pub dates : List ℕ → Outcome Moment
-dates s = outcome (dating publishedDays publishedOffsets publishedLast s)
+dates s = outcome (lineDating publishedDays publishedOffsets publishedLast s)
 
 -- ---- the example
 -- UTC=31-DEC-2016 23:59:60.000000

@@ -7,7 +7,8 @@ use native.Mathlib.Omega.{arith}
 use lib.Dec.{eqb, ltb}
 use lib.ListN.{length, getD}
 use borrow.Author.Tests.{ne-eqb, not-true}
-use Rattle.scales.specs.Meaning.{Outcome, refused, answer, Moment}
+use Rattle.axis.specs.Meaning.{Moment}
+use Rattle.scales.specs.Meaning.{Outcome, refused, answer}
 use Rattle.scales.specs.Place.{and-both}
 use Rattle.text_read.specs.Meaning.{names, letter, prefixOf}
 use Rattle.text_write.specs.Meaning.{textOf}

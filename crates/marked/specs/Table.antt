@@ -7,7 +7,7 @@ use lib.Ieee.{Float, fin}
 use Rattle.scales.specs.Meaning.{Slip, recordOf}
 use Rattle.scales.specs.declared.Scale.{Scale}
 use Rattle.scales.specs.declared.Scale.the-variants as S
-use Rattle.scales.specs.declared.Handed.the-variants as H
+use Rattle.handed.specs.declared.Handed.the-variants as H
 use Rattle.decimal.specs.Meaning.{readOf}
 use Rattle.leap.specs.Meaning.{publishedDays, publishedOffsets, publishedLast}
 use Rattle.changes.specs.Meaning.{changeOf}

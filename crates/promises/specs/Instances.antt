@@ -7,11 +7,12 @@ use Prim.Native.Nat.{ℕ}
 use native.Mathlib.Omega.{arith}
 use lib.Dec.{lit≤}
 use lib.IntN.{ℤ, pos, negsuc}
+use Rattle.axis.specs.Meaning.{Moment, since}
 use Rattle.octets.specs.Meaning.{number}
-use Rattle.scales.specs.Meaning.{Outcome, answer, Moment, dated, order, recordOf}
+use Rattle.scales.specs.Meaning.{Outcome, answer, dated, order, recordOf, valued}
 use Rattle.scales.specs.declared.Scale.the-variants as S
-use Rattle.scales.specs.declared.Handed.the-variants as H
-use Rattle.decimal.specs.Meaning.{since, plusZero}
+use Rattle.double.specs.Meaning.{plusZero}
+use Rattle.handed.specs.declared.Handed.the-variants as H
 use Rattle.leap.specs.Meaning.{publishedDays, publishedOffsets, publishedLast}
 use Rattle.leap.specs.Published.{published}
 use Rattle.changes.specs.Meaning.{changeOf}
@@ -21,10 +22,9 @@ use Rattle.layout_times.specs.Cryosat as Cryosat
 use Rattle.text_read.specs.Meaning.{readText}
 use Rattle.text_write.specs.Meaning.{writeText}
 use Rattle.text_laws.specs.Computed.{reads, sixty, read-early, blank, write-early}
-use Rattle.sbt.specs.Meaning as Correlation
+use Rattle.sbt.specs.Meaning as Sbt
 use Rattle.sbt_laws.proofs.Cases.{marked, either-side}
 use Rattle.sbt_laws.proofs.Wider.{widened}
-use Rattle.layout_fields.specs.Meaning.{valued}
 use Rattle.goce.specs.Meaning as Goce
 use Rattle.goce_laws.proofs.Cases as GoceCases
 use Rattle.goce_laws.proofs.Wider as GoceWider
@@ -32,7 +32,7 @@ use Rattle.promises.specs.Meaning.{lengthIsNone}
 use Rattle.promises.specs.First.{exactly}
 use Rattle.promises.specs.One.{cuc-read, cuc-write}
 use Rattle.promises.specs.Two.{cuc-time, proteus-time, cryosat-time, siral-time}
-use Rattle.c_api.specs.Meaning as Rack
+use Rattle.c_api.specs.Meaning as CApi
 use Rattle.c_api.specs.Bytes as Bytes
 use Rattle.c_api.specs.Counts as Counts
 use Rattle.c_api.specs.Texts as Texts
@@ -50,7 +50,7 @@ pub exactly-instance : lengthIsNone (Cuc.reading []) ≡ true
 unfolding Cuc.read
 exactly-instance = exactly (cuc-read []) [] (drop 1 order) 1 refl .0 refl .1
 
-pub kept-instance : Cuc.write (H.Record (recordOf S.Tai (pos 0) 0)) (9 ∷ []) ≡ record { number = 12; length = 0; bytes = 9 ∷ [] }
+pub kept-instance : Cuc.write (H.Record (recordOf S.Tai (pos 0) 0)) (9 ∷ []) ≡ record { number = 12; length = 0; lent = 9 ∷ [] }
 unfolding Cuc.write
 kept-instance = cuc-write (H.Record (recordOf S.Tai (pos 0) 0)) (9 ∷ []) .empty (λ q. omega arith)
 
@@ -73,12 +73,12 @@ unfolding number
 siral-time-instance = siral-time (0 ∷ 1 ∷ 5 ∷ 38 ∷ 91 ∷ 255 ∷ 3 ∷ 231 ∷ 0 ∷ 16 ∷ []) (record { day = pos 2; micro = 32 }) refl
 
 -- ---- demand 3: the published steps with E = 6209 and with E = 9131, and windows of 10 ticks and 10 counts widened
-accepts : Correlation.accepted (marked 10) ≡ true
-unfolding Correlation.accepted
+accepts : Sbt.accepted (marked 10) ≡ true
+unfolding Sbt.accepted
 accepts = refl
 
-wider : Correlation.accepted (widened (marked 10) 11 12) ≡ true
-unfolding Correlation.accepted
+wider : Sbt.accepted (widened (marked 10) 11 12) ≡ true
+unfolding Sbt.accepted
 wider = refl
 
 goce-accepts : Goce.accepted (GoceCases.zero 10) ≡ true
@@ -103,29 +103,29 @@ abbrev handed : ℕ → ℤ → ℕ → VrkHanded
 handed scale d u = record { kind = 0; scale = scale; day = d; micro = u; decimal = plusZero }
 
 -- the last microsecond of that second 60, in TAI
-changed-early : Rack.changed (handed 1 (pos 6209) 86400999999) 0 publishedDays publishedOffsets (pos 6209) ≡ record { refusal = 0; scale = 0; day = pos 6210; micro = 36999999 }
-unfolding Rack.changed changeOf
-changed-early = ap Rack.timeOut (computed .last-second)
+changed-early : CApi.changed (handed 1 (pos 6209) 86400999999) 0 publishedDays publishedOffsets (pos 6209) ≡ record { refusal = 0; scale = 0; day = pos 6210; micro = 36999999 }
+unfolding CApi.changed changeOf
+changed-early = ap CApi.timeOut (computed .last-second)
 
 pub change-for-c-instance :
-    Rack.changed (handed 1 (pos 6209) 86400999999) 0 publishedDays publishedOffsets publishedLast ≡ record { refusal = 0; scale = 0; day = pos 6210; micro = 36999999 }
+    CApi.changed (handed 1 (pos 6209) 86400999999) 0 publishedDays publishedOffsets publishedLast ≡ record { refusal = 0; scale = 0; day = pos 6210; micro = 36999999 }
 change-for-c-instance =
     change-for-c publishedDays publishedOffsets (pos 6209) publishedDays publishedOffsets publishedLast published-6209 published extended (handed 1 (pos 6209) 86400999999) 0
     (λ q. let z : _≡_ {A = ℕ} 0 9 = (λ i. sym changed-early i .refusal) ∙ q in omega arith)
     ∙ changed-early
 
-pub text-read-for-c-instance : Rack.timeOut (reads sixty) ≡ Rack.timeOut (readText sixty publishedDays publishedOffsets (pos 6209))
+pub text-read-for-c-instance : CApi.timeOut (reads sixty) ≡ CApi.timeOut (readText sixty publishedDays publishedOffsets (pos 6209))
 text-read-for-c-instance =
     text-read-for-c publishedDays publishedOffsets (pos 6209) publishedDays publishedOffsets publishedLast published-6209 published extended sixty
     (λ q. let z : _≡_ {A = ℕ} 0 9 = (λ i. sym read-early i .number) ∙ q in omega arith)
 
 -- the second 60 itself, written in the longest form
-written-early : Bytes.writes (Bytes.handedWriting (Texts.textWriting 31 publishedDays publishedOffsets (pos 6209)) (handed 1 (pos 6209) 86400000000)) blank ≡ record { number = 0; length = 31; bytes = sixty }
+written-early : Bytes.writes (Bytes.handedWriting (Texts.textWriting 31 publishedDays publishedOffsets (pos 6209)) (handed 1 (pos 6209) 86400000000)) blank ≡ record { number = 0; length = 31; lent = sixty }
 unfolding Bytes.writes writeText
 written-early = write-early
 
 pub text-write-for-c-instance :
-    Bytes.writes (Bytes.handedWriting (Texts.textWriting 31 publishedDays publishedOffsets publishedLast) (handed 1 (pos 6209) 86400000000)) blank ≡ record { number = 0; length = 31; bytes = sixty }
+    Bytes.writes (Bytes.handedWriting (Texts.textWriting 31 publishedDays publishedOffsets publishedLast) (handed 1 (pos 6209) 86400000000)) blank ≡ record { number = 0; length = 31; lent = sixty }
 text-write-for-c-instance =
     text-write-for-c publishedDays publishedOffsets (pos 6209) publishedDays publishedOffsets publishedLast published-6209 published extended (handed 1 (pos 6209) 86400000000) 31 blank
     (λ q. let z : _≡_ {A = ℕ} 0 9 = (λ i. sym written-early i .number) ∙ q in omega arith)
@@ -135,29 +135,29 @@ text-write-for-c-instance =
 abbrev reference : VrkSbtCorrelation
 reference = record { tick = 4294967295; scale = 0; day = pos 0; micro = 0; period = 3906250000; back = 10; ahead = 10 }
 
-dated-before : Rack.sbtDate 0 reference (pos 0) 3906 ≡ record { refusal = 0; scale = 0; day = pos 0; micro = 3906 }
-unfolding Rack.sbtDate Rack.correlationOf Correlation.dateOf
-dated-before = ap (λ (o : Outcome Moment). Rack.timeOut (dated S.Tai o)) (either-side .0)
+dated-before : CApi.sbtDate 0 reference (pos 0) 3906 ≡ record { refusal = 0; scale = 0; day = pos 0; micro = 3906 }
+unfolding CApi.sbtDate CApi.correlationOf Sbt.dateOf
+dated-before = ap (λ (o : Outcome Moment). CApi.timeOut (dated S.Tai o)) (either-side .0)
 
-reference-accepted : Correlation.accepted (Rack.correlationOf reference) ≡ true
-unfolding Rack.correlationOf
+reference-accepted : Sbt.accepted (CApi.correlationOf reference) ≡ true
+unfolding CApi.correlationOf
 reference-accepted = accepts
 
-reference-wider : Correlation.accepted (Rack.correlationOf (widenedForC reference 11 12)) ≡ true
-unfolding Rack.correlationOf
+reference-wider : Sbt.accepted (CApi.correlationOf (widenedForC reference 11 12)) ≡ true
+unfolding CApi.correlationOf
 reference-wider = wider
 
-pub date-for-c-instance : Rack.sbtDate 0 (widenedForC reference 11 12) (pos 0) 3906 ≡ record { refusal = 0; scale = 0; day = pos 0; micro = 3906 }
+pub date-for-c-instance : CApi.sbtDate 0 (widenedForC reference 11 12) (pos 0) 3906 ≡ record { refusal = 0; scale = 0; day = pos 0; micro = 3906 }
 date-for-c-instance =
     date-for-c reference 11 12 (lit≤ tt) (lit≤ tt) reference-accepted reference-wider 0 (pos 0) 3906
     (λ q. let z : _≡_ {A = ℕ} 0 8 = (λ i. sym dated-before i .refusal) ∙ q in omega arith)
     ∙ dated-before
 
-turned-before : Rack.sbtTick (handed 0 (pos 0) 3906) reference ≡ record { refusal = 0; count = 0 }
-unfolding Rack.sbtTick Rack.correlationOf
-turned-before = ap (λ (o : Outcome ℕ). Rack.tickOut (Correlation.ticked o)) (either-side .2)
+turned-before : CApi.sbtTick (handed 0 (pos 0) 3906) reference ≡ record { refusal = 0; count = 0 }
+unfolding CApi.sbtTick CApi.correlationOf
+turned-before = ap (λ (o : Outcome ℕ). CApi.countOut (valued 0 o)) (either-side .2)
 
-pub tick-for-c-instance : Rack.sbtTick (handed 0 (pos 0) 3906) (widenedForC reference 11 12) ≡ record { refusal = 0; count = 0 }
+pub tick-for-c-instance : CApi.sbtTick (handed 0 (pos 0) 3906) (widenedForC reference 11 12) ≡ record { refusal = 0; count = 0 }
 tick-for-c-instance =
     tick-for-c reference 11 12 (lit≤ tt) (lit≤ tt) reference-accepted reference-wider (handed 0 (pos 0) 3906)
     (λ q. let z : _≡_ {A = ℕ} 0 8 = (λ i. sym turned-before i .refusal) ∙ q in omega arith)
@@ -169,7 +169,7 @@ clock = record { obt0 = 0; utc0 = 0; offset = pos 0; gradient = 1000000000; back
 
 goce-dated-before : Counts.goceDate 281474976710655 clock (pos 0) 0 ≡ record { refusal = 0; scale = 1; day = negsuc 0; micro = 86399999984 }
 unfolding Counts.goceDate Goce.dateOf
-goce-dated-before = ap (λ (o : Outcome Moment). Rack.timeOut (dated S.Utc o)) (GoceCases.either-side .1)
+goce-dated-before = ap (λ (o : Outcome Moment). CApi.timeOut (dated S.Utc o)) (GoceCases.either-side .1)
 
 pub goce-date-for-c-instance : Counts.goceDate 281474976710655 (goceWidenedForC clock 11 12) (pos 0) 0 ≡ record { refusal = 0; scale = 1; day = negsuc 0; micro = 86399999984 }
 goce-date-for-c-instance =
@@ -179,7 +179,7 @@ goce-date-for-c-instance =
 
 goce-turned-before : Counts.goceCount (handed 1 (negsuc 0) 86399999984) clock ≡ record { refusal = 0; count = 281474976710655 }
 unfolding Counts.goceCount
-goce-turned-before = ap (λ (o : Outcome ℕ). Bytes.countOut (valued 0 o)) (GoceCases.either-side .3)
+goce-turned-before = ap (λ (o : Outcome ℕ). CApi.countOut (valued 0 o)) (GoceCases.either-side .3)
 
 pub goce-count-for-c-instance : Counts.goceCount (handed 1 (negsuc 0) 86399999984) (goceWidenedForC clock 11 12) ≡ record { refusal = 0; count = 281474976710655 }
 goce-count-for-c-instance =

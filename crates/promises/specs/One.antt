@@ -5,22 +5,22 @@ use mathlib.Core.Bool.{Bool, true}
 use mathlib.Core.List.{List}
 use Prim.Native.Nat.{ℕ}
 use lib.Ieee.{Float}
-use lib.IntN.{ℤ}
-use Rattle.scales.specs.Meaning.{Judged, Outcome, refused, answer, outcome, numbers, order, standsIn, Slip, Moment, dated, spanning, spanned, Wrote, written}
+use lib.IntN.{ℤ, pos}
+use Rattle.axis.specs.Meaning.{Moment}
+use Rattle.scales.specs.Meaning.{Judged, Outcome, refused, answer, outcome, numbers, order, standsIn, Slip, dated, spanning, spanned, Wrote, written, Valued, valued}
 use Rattle.scales.specs.declared.Scale.{Scale}
 use Rattle.scales.specs.declared.Scale.the-variants as S
-use Rattle.scales.specs.declared.Tick.{Tick}
-use Rattle.scales.specs.declared.Handed.{Handed}
+use Rattle.handed.specs.declared.Handed.{Handed}
 use Rattle.calendar.specs.Meaning as Calendar
 use Rattle.calendar.specs.declared.Date.{Date}
+use Rattle.double.specs.Meaning.{plusZero}
 use Rattle.decimal.specs.Meaning as Decimal
 use Rattle.changes.specs.Meaning as Changes
 use Rattle.leap_laws.proofs.Order.{any}
-use Rattle.sbt.specs.Meaning as Correlation
+use Rattle.sbt.specs.Meaning as Sbt
 use Rattle.sbt.specs.declared.Correlation.{Correlation}
 use Rattle.goce.specs.Meaning as Goce
 use Rattle.goce.specs.declared.Correlation as GoceDeclared
-use Rattle.layout_fields.specs.Meaning.{Valued, valued}
 use Rattle.layout_fields.specs.Cuc as CucFields
 use Rattle.layout_fields.specs.Goce as GoceFields
 use Rattle.layout_fields.specs.Obet as ObetFields
@@ -52,8 +52,8 @@ time s = record { of-refusal = λ n. refl; of-answer = λ a. refl }
 times : (s : Scale) (j : Judged Moment) → standsIn (numbers j) order ≡ true → Times s (dated s (outcome j)) j
 times s j r = promised (time s) j r
 
-abbrev pub Writes : List ℕ → Wrote → Judged (List ℕ) → Type 0
-Writes out r j = Promise (written out) (λ (x : Wrote). x .number) r j
+abbrev pub Writes : List ℕ → Wrote ℕ → Judged (List ℕ) → Type 0
+Writes out r j = Promise (written out) (λ (x : Wrote ℕ). x .number) r j
 
 pub writes : (out : List ℕ) (j : Judged (List ℕ)) → standsIn (numbers j) order ≡ true → Writes out (written out (outcome j)) j
 writes out j r = promised (record { of-refusal = λ n. refl; of-answer = λ a. refl }) j r
@@ -70,28 +70,28 @@ pub record-judged : (s : Scale) (d : ℤ) (u : ℕ) → Times s (spanned s d u) 
 unfolding spanned
 record-judged s d u = times s (spanning s d u) refl
 
-pub date-of : (d : ℤ) → Promise Calendar.dateHanded (λ (x : Calendar.DateSlip). x .number) (Calendar.dateOfDay d) (Calendar.dating d)
+pub date-of : (d : ℤ) → Values Calendar.noDate (Calendar.dateOfDay d) (Calendar.givingDate d)
 unfolding Calendar.dateOfDay
-date-of d = promised (record { of-refusal = λ n. refl; of-answer = λ a. refl }) (Calendar.dating d) refl
+date-of d = values Calendar.noDate (Calendar.givingDate d) refl
 
-pub day-of : (t : Date) → Promise Calendar.dayHanded (λ (x : Calendar.DaySlip). x .number) (Calendar.dayOfDate t) (Calendar.counting t)
+pub day-of : (t : Date) → Values (pos 0) (Calendar.dayOfDate t) (Calendar.givingDay t)
 unfolding Calendar.dayOfDate
-day-of t = promised (record { of-refusal = λ n. refl; of-answer = λ a. refl }) (Calendar.counting t) refl
+day-of t = values (pos 0) (Calendar.givingDay t) refl
 
 pub decimal-read : (x : Float) (s : Scale) → Times s (Decimal.readOf x s) (Decimal.reading x s)
 unfolding Decimal.readOf
 decimal-read x s = times s (Decimal.reading x s) refl
 
 -- a decimal day that is written is allowed by a relation
-pub decimal-write : (h : Handed) (w : Decimal.DecimalSlip) → Decimal.Allowed (outcome (Decimal.writing h)) w
-    → (w .number ≡ firstOf order (applies (Decimal.writing h))) × ((w .number ≡ 0 → ⊥) → w .day ≡ Decimal.plusZero)
+pub decimal-write : (h : Handed) (w : Valued Float) → Decimal.Allowed (outcome (Decimal.writing h)) w
+    → (w .number ≡ firstOf order (applies (Decimal.writing h))) × ((w .number ≡ 0 → ⊥) → w .value ≡ plusZero)
 decimal-write h w q = (numbered (outcome (Decimal.writing h)) q ∙ first-is order (Decimal.writing h) order-clear refl, bare (outcome (Decimal.writing h)) q)
   where
     numbered : (o : Outcome ℤ) → Decimal.Allowed o w → w .number ≡ numberIn o
     numbered (refused n) q = q .0
     numbered (answer z) q = q .0
 
-    bare : (o : Outcome ℤ) → Decimal.Allowed o w → (w .number ≡ 0 → ⊥) → w .day ≡ Decimal.plusZero
+    bare : (o : Outcome ℤ) → Decimal.Allowed o w → (w .number ≡ 0 → ⊥) → w .value ≡ plusZero
     bare (refused n) q k = q .1
     bare (answer z) q k = absurd (k (q .0))
 
@@ -109,31 +109,31 @@ pub gps-to-tai : (n : ℕ) → Times S.Tai (Changes.gpsToTai n) (Changes.gpsInTa
 unfolding Changes.gpsToTai
 gps-to-tai n = times S.Tai (Changes.gpsInTai n) refl
 
-pub utc-to-tai : (n : ℕ) (ds : List ℤ) (os : List ℕ) (e : ℤ) → Times S.Tai (Changes.utcToTai n ds os e) (Changes.listed ds os e (Changes.utcInTai ds os e n))
+pub utc-to-tai : (n : ℕ) (ds : List ℤ) (os : List ℕ) (e : ℤ) → Times S.Tai (Changes.utcToTai n ds os e) (Changes.withList ds os e (Changes.utcInTai ds os e n))
 unfolding Changes.utcToTai
-utc-to-tai n ds os e = times S.Tai (Changes.listed ds os e (Changes.utcInTai ds os e n)) refl
+utc-to-tai n ds os e = times S.Tai (Changes.withList ds os e (Changes.utcInTai ds os e n)) refl
 
-pub utc-to-gps : (n : ℕ) (ds : List ℤ) (os : List ℕ) (e : ℤ) → Times S.Gps (Changes.utcToGps n ds os e) (Changes.listed ds os e (Changes.utcInGps ds os e n))
+pub utc-to-gps : (n : ℕ) (ds : List ℤ) (os : List ℕ) (e : ℤ) → Times S.Gps (Changes.utcToGps n ds os e) (Changes.withList ds os e (Changes.utcInGps ds os e n))
 unfolding Changes.utcToGps
-utc-to-gps n ds os e = times S.Gps (Changes.listed ds os e (Changes.utcInGps ds os e n)) refl
+utc-to-gps n ds os e = times S.Gps (Changes.withList ds os e (Changes.utcInGps ds os e n)) refl
 
-pub tai-to-utc : (n : ℕ) (ds : List ℤ) (os : List ℕ) (e : ℤ) → Times S.Utc (Changes.taiToUtc n ds os e) (Changes.listed ds os e (Changes.taiInUtc ds os e n))
+pub tai-to-utc : (n : ℕ) (ds : List ℤ) (os : List ℕ) (e : ℤ) → Times S.Utc (Changes.taiToUtc n ds os e) (Changes.withList ds os e (Changes.taiInUtc ds os e n))
 unfolding Changes.taiToUtc
-tai-to-utc n ds os e = times S.Utc (Changes.listed ds os e (Changes.taiInUtc ds os e n)) refl
+tai-to-utc n ds os e = times S.Utc (Changes.withList ds os e (Changes.taiInUtc ds os e n)) refl
 
-pub gps-to-utc : (n : ℕ) (ds : List ℤ) (os : List ℕ) (e : ℤ) → Times S.Utc (Changes.gpsToUtc n ds os e) (Changes.listed ds os e (Changes.gpsInUtc ds os e n))
+pub gps-to-utc : (n : ℕ) (ds : List ℤ) (os : List ℕ) (e : ℤ) → Times S.Utc (Changes.gpsToUtc n ds os e) (Changes.withList ds os e (Changes.gpsInUtc ds os e n))
 unfolding Changes.gpsToUtc
-gps-to-utc n ds os e = times S.Utc (Changes.listed ds os e (Changes.gpsInUtc ds os e n)) refl
+gps-to-utc n ds os e = times S.Utc (Changes.withList ds os e (Changes.gpsInUtc ds os e n)) refl
 
 -- ---- SBT correlation
 
-pub sbt-date : (c : Correlation) (t : ℕ) (d : ℤ) (u : ℕ) → Times (c .scale) (Correlation.dateOf c t d u) (Correlation.dating c t d u)
-unfolding Correlation.dateOf
-sbt-date c t d u = times (c .scale) (Correlation.dating c t d u) refl
+pub sbt-date : (c : Correlation) (t : ℕ) (d : ℤ) (u : ℕ) → Times (c .scale) (Sbt.dateOf c t d u) (Sbt.dating c t d u)
+unfolding Sbt.dateOf
+sbt-date c t d u = times (c .scale) (Sbt.dating c t d u) refl
 
-pub sbt-tick : (c : Correlation) (h : Handed) → Promise Correlation.ticked (λ (x : Correlation.TickSlip). x .number) (Correlation.tickOf c h) (Correlation.turning c h)
-unfolding Correlation.tickOf
-sbt-tick c h = promised (record { of-refusal = λ n. refl; of-answer = λ a. refl }) (Correlation.turning c h) refl
+pub sbt-tick : (c : Correlation) (h : Handed) → Values 0 (Sbt.tickOf c h) (Sbt.turning c h)
+unfolding Sbt.tickOf
+sbt-tick c h = values 0 (Sbt.turning c h) refl
 
 -- ---- GOCE's correlation
 
@@ -195,11 +195,11 @@ pub siral-fields-write : (f : SiralDeclared.Fields) (out : List ℕ) → Writes 
 unfolding SiralFields.write
 siral-fields-write f out = writes out (SiralFields.writing f out) refl
 
-pub sbt-read : (s : List ℕ) → Values SbtFields.empty (SbtFields.read s) (SbtFields.reading s)
+pub sbt-read : (s : List ℕ) → Values 0 (SbtFields.read s) (SbtFields.reading s)
 unfolding SbtFields.read
-sbt-read s = values SbtFields.empty (SbtFields.reading s) refl
+sbt-read s = values 0 (SbtFields.reading s) refl
 
-pub sbt-write : (f : Tick) (out : List ℕ) → Writes out (SbtFields.write f out) (SbtFields.writing f out)
+pub sbt-write : (f : ℕ) (out : List ℕ) → Writes out (SbtFields.write f out) (SbtFields.writing f out)
 unfolding SbtFields.write
 sbt-write f out = writes out (SbtFields.writing f out) refl
 

@@ -5,15 +5,14 @@ use mathlib.Core.List.{List}
 use Prim.Native.Nat.{ℕ}
 use lib.Ieee.{Float}
 use lib.IntN.{ℤ}
-use Rattle.scales.specs.Meaning.{scaleAt, Judged, given, Outcome, outcome, numbers, order, standsIn, Moment, dated}
+use Rattle.axis.specs.Meaning.{Moment}
+use Rattle.scales.specs.Meaning.{scaleAt, Judged, given, Outcome, outcome, numbers, order, standsIn, dated, valued}
 use Rattle.scales.specs.declared.Scale.{Scale}
 use Rattle.scales.specs.declared.Scale.the-variants as S
-use Rattle.scales.specs.declared.Tick.{Tick}
 use Rattle.decimal.specs.Meaning as Decimal
 use Rattle.leap_laws.proofs.Order.{any}
-use Rattle.sbt.specs.Meaning as Correlation
+use Rattle.sbt.specs.Meaning as Sbt
 use Rattle.goce.specs.Meaning as Goce
-use Rattle.layout_fields.specs.Meaning.{valued}
 use Rattle.layout_fields.specs.Cuc as CucFields
 use Rattle.layout_fields.specs.Goce as GoceFields
 use Rattle.layout_fields.specs.Obet as ObetFields
@@ -26,7 +25,7 @@ use Rattle.layout_times.specs.Proteus as Proteus
 use Rattle.layout_times.specs.Cryosat as Cryosat
 use Rattle.layout_times.specs.Siral as Siral
 use Rattle.text_read.specs.Meaning as TextRead
-use Rattle.c_api.specs.Meaning as Rack
+use Rattle.c_api.specs.Meaning as CApi
 use Rattle.c_api.specs.Bytes as Bytes
 use Rattle.c_api.specs.Counts as CountsForC
 use Rattle.c_api.specs.Parts as Parts
@@ -47,42 +46,42 @@ use Rattle.promises.specs.One.{Writes, writes}
 
 -- ---- the kinds of answers
 abbrev pub Times : Scale → VrkTime → Judged Moment → Type 0
-Times s r j = Promise (λ (o : Outcome Moment). Rack.timeOut (dated s o)) (λ (x : VrkTime). x .refusal) r j
+Times s r j = Promise (λ (o : Outcome Moment). CApi.timeOut (dated s o)) (λ (x : VrkTime). x .refusal) r j
 
-times : (s : Scale) (j : Judged Moment) → standsIn (numbers j) order ≡ true → Times s (Rack.timeOut (dated s (outcome j))) j
+times : (s : Scale) (j : Judged Moment) → standsIn (numbers j) order ≡ true → Times s (CApi.timeOut (dated s (outcome j))) j
 times s j r = promised (record { of-refusal = λ n. refl; of-answer = λ a. refl }) j r
 
 abbrev pub Counts : VrkCount → Judged ℕ → Type 0
-Counts r j = Promise (λ (o : Outcome ℕ). Bytes.countOut (valued 0 o)) (λ (x : VrkCount). x .refusal) r j
+Counts r j = Promise (λ (o : Outcome ℕ). CApi.countOut (valued 0 o)) (λ (x : VrkCount). x .refusal) r j
 
-counts : (j : Judged ℕ) → standsIn (numbers j) order ≡ true → Counts (Bytes.countOut (valued 0 (outcome j))) j
+counts : (j : Judged ℕ) → standsIn (numbers j) order ≡ true → Counts (CApi.countOut (valued 0 (outcome j))) j
 counts j r = promised (record { of-refusal = λ n. refl; of-answer = λ a. refl }) j r
 
-pub decimal-read : (x : Float) (c : ℕ) → Times (scaleAt c) (Rack.decimalRead x c) (given (Rack.knownScale c) 3 (Decimal.reading x (scaleAt c)))
-unfolding Rack.decimalRead
-decimal-read x c = times (scaleAt c) (given (Rack.knownScale c) 3 (Decimal.reading x (scaleAt c))) refl
+pub decimal-read : (x : Float) (c : ℕ) → Times (scaleAt c) (CApi.decimalRead x c) (given (CApi.knownScale c) 3 (Decimal.reading x (scaleAt c)))
+unfolding CApi.decimalRead
+decimal-read x c = times (scaleAt c) (given (CApi.knownScale c) 3 (Decimal.reading x (scaleAt c))) refl
 
-pub change : (h : VrkHanded) (c : ℕ) (ds : List ℤ) (os : List ℕ) (e : ℤ) → Times (scaleAt c) (Rack.changed h c ds os e) (Rack.changingOf h c ds os e)
-unfolding Rack.changed
-change h c ds os e = times (scaleAt c) (Rack.changingOf h c ds os e) (any (Rack.handedOf h) (scaleAt c) ds os e)
+pub change : (h : VrkHanded) (c : ℕ) (ds : List ℤ) (os : List ℕ) (e : ℤ) → Times (scaleAt c) (CApi.changed h c ds os e) (CApi.changingOf h c ds os e)
+unfolding CApi.changed
+change h c ds os e = times (scaleAt c) (CApi.changingOf h c ds os e) (any (CApi.handedOf h) (scaleAt c) ds os e)
 
-pub sbt-date : (t : ℕ) (c : VrkSbtCorrelation) (d : ℤ) (u : ℕ) → Times (Rack.correlationOf c .scale) (Rack.sbtDate t c d u) (Correlation.dating (Rack.correlationOf c) t d u)
-unfolding Rack.sbtDate Correlation.dateOf
-sbt-date t c d u = times (Rack.correlationOf c .scale) (Correlation.dating (Rack.correlationOf c) t d u) refl
+pub sbt-date : (t : ℕ) (c : VrkSbtCorrelation) (d : ℤ) (u : ℕ) → Times (CApi.correlationOf c .scale) (CApi.sbtDate t c d u) (Sbt.dating (CApi.correlationOf c) t d u)
+unfolding CApi.sbtDate Sbt.dateOf
+sbt-date t c d u = times (CApi.correlationOf c .scale) (Sbt.dating (CApi.correlationOf c) t d u) refl
 
-pub sbt-tick : (h : VrkHanded) (c : VrkSbtCorrelation) → Promise (λ (o : Outcome ℕ). Rack.tickOut (Correlation.ticked o)) (λ (x : VrkCount). x .refusal) (Rack.sbtTick h c) (given (Rack.known h) 3 (Correlation.turning (Rack.correlationOf c) (Rack.handedOf h)))
-unfolding Rack.sbtTick
-sbt-tick h c = promised (record { of-refusal = λ n. refl; of-answer = λ a. refl }) (given (Rack.known h) 3 (Correlation.turning (Rack.correlationOf c) (Rack.handedOf h))) refl
+pub sbt-tick : (h : VrkHanded) (c : VrkSbtCorrelation) → Counts (CApi.sbtTick h c) (given (CApi.known h) 3 (Sbt.turning (CApi.correlationOf c) (CApi.handedOf h)))
+unfolding CApi.sbtTick
+sbt-tick h c = counts (given (CApi.known h) 3 (Sbt.turning (CApi.correlationOf c) (CApi.handedOf h))) refl
 
 pub goce-date : (t : ℕ) (c : VrkGoceCorrelation) (d : ℤ) (u : ℕ) → Times S.Utc (CountsForC.goceDate t c d u) (Goce.dating (CountsForC.goceOf c) t d u)
 unfolding CountsForC.goceDate Goce.dateOf
 goce-date t c d u = times S.Utc (Goce.dating (CountsForC.goceOf c) t d u) refl
 
-pub goce-count : (h : VrkHanded) (c : VrkGoceCorrelation) → Counts (CountsForC.goceCount h c) (given (Rack.known h) 3 (Goce.turning (CountsForC.goceOf c) (Rack.handedOf h)))
+pub goce-count : (h : VrkHanded) (c : VrkGoceCorrelation) → Counts (CountsForC.goceCount h c) (given (CApi.known h) 3 (Goce.turning (CountsForC.goceOf c) (CApi.handedOf h)))
 unfolding CountsForC.goceCount
-goce-count h c = counts (given (Rack.known h) 3 (Goce.turning (CountsForC.goceOf c) (Rack.handedOf h))) refl
+goce-count h c = counts (given (CApi.known h) 3 (Goce.turning (CountsForC.goceOf c) (CApi.handedOf h))) refl
 
-pub cuc-read : (s : List ℕ) → Times S.Gps (Rack.timeOut (Cuc.read s)) (Cuc.reading s)
+pub cuc-read : (s : List ℕ) → Times S.Gps (CApi.timeOut (Cuc.read s)) (Cuc.reading s)
 unfolding Cuc.read
 cuc-read s = times S.Gps (Cuc.reading s) refl
 
@@ -90,7 +89,7 @@ pub cuc-write : (h : VrkHanded) (out : List ℕ) → Writes out (Bytes.writes (B
 unfolding Bytes.writes
 cuc-write h out = writes out (Bytes.handedWriting Cuc.writing h out) refl
 
-pub cryosat-read : (s : List ℕ) → Times S.Tai (Rack.timeOut (Cryosat.read s)) (Cryosat.reading s)
+pub cryosat-read : (s : List ℕ) → Times S.Tai (CApi.timeOut (Cryosat.read s)) (Cryosat.reading s)
 unfolding Cryosat.read
 cryosat-read s = times S.Tai (Cryosat.reading s) refl
 
@@ -98,7 +97,7 @@ pub cryosat-write : (h : VrkHanded) (out : List ℕ) → Writes out (Bytes.write
 unfolding Bytes.writes
 cryosat-write h out = writes out (Bytes.handedWriting Cryosat.writing h out) refl
 
-pub siral-read : (s : List ℕ) → Times S.Tai (Rack.timeOut (Siral.read s)) (Siral.reading s)
+pub siral-read : (s : List ℕ) → Times S.Tai (CApi.timeOut (Siral.read s)) (Siral.reading s)
 unfolding Siral.read
 siral-read s = times S.Tai (Siral.reading s) refl
 
@@ -114,17 +113,17 @@ pub proteus-write : (h : VrkHanded) (b : ℕ) (out : List ℕ) → Writes out (B
 unfolding Bytes.writes
 proteus-write h b out = writes out (Bytes.handedWriting (Bytes.proteusWriting b) h out) refl
 
-pub goce-read : (s : List ℕ) → Counts (Bytes.countOut (GoceFields.read s)) (GoceFields.reading s)
+pub goce-read : (s : List ℕ) → Counts (CApi.countOut (GoceFields.read s)) (GoceFields.reading s)
 unfolding GoceFields.read
 goce-read s = counts (GoceFields.reading s) refl
 
-pub obet-read : (s : List ℕ) → Counts (Bytes.countOut (ObetFields.read s)) (ObetFields.reading s)
+pub obet-read : (s : List ℕ) → Counts (CApi.countOut (ObetFields.read s)) (ObetFields.reading s)
 unfolding ObetFields.read
 obet-read s = counts (ObetFields.reading s) refl
 
-pub sbt-read : (s : List ℕ) → Promise (λ (o : Outcome Tick). Bytes.sbtOut (valued SbtFields.empty o)) (λ (x : VrkCount). x .refusal) (Bytes.sbtOut (SbtFields.read s)) (SbtFields.reading s)
+pub sbt-read : (s : List ℕ) → Counts (CApi.countOut (SbtFields.read s)) (SbtFields.reading s)
 unfolding SbtFields.read
-sbt-read s = promised (record { of-refusal = λ n. refl; of-answer = λ a. refl }) (SbtFields.reading s) refl
+sbt-read s = counts (SbtFields.reading s) refl
 
 pub cuc-fields-read : (s : List ℕ) → Promise (λ (o : Outcome _). Parts.cucFields (valued CucFields.empty o)) (λ (x : VrkCucFields). x .refusal) (Parts.cucFields (CucFields.read s)) (CucFields.reading s)
 unfolding CucFields.read
@@ -158,7 +157,7 @@ pub siral-fields-write : (day millisecond microsecond extra : ℕ) (out : List �
 unfolding Bytes.writes
 siral-fields-write day millisecond microsecond extra out = writes out (Parts.siralFieldsWriting day millisecond microsecond extra out) refl
 
-pub text-read : (s : List ℕ) (ds : List ℤ) (os : List ℕ) (e : ℤ) → Promise (λ (o : Outcome Moment). Rack.timeOut (TextRead.datedIn (TextRead.scaleIn s) o)) (λ (x : VrkTime). x .refusal) (Rack.timeOut (TextRead.readText s ds os e)) (TextRead.reading s ds os e)
+pub text-read : (s : List ℕ) (ds : List ℤ) (os : List ℕ) (e : ℤ) → Promise (λ (o : Outcome Moment). CApi.timeOut (TextRead.datedIn (TextRead.scaleIn s) o)) (λ (x : VrkTime). x .refusal) (CApi.timeOut (TextRead.readText s ds os e)) (TextRead.reading s ds os e)
 unfolding TextRead.readText
 text-read s ds os e = promised (record { of-refusal = λ n. refl; of-answer = λ a. refl }) (TextRead.reading s ds os e) refl
 

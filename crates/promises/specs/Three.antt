@@ -5,15 +5,15 @@ use mathlib.Core.Bool.{Bool, true, false, _&&_}
 use mathlib.Core.List.{List}
 use Prim.Native.Nat.{ℕ, _≤_}
 use lib.IntN.{ℤ}
-use Rattle.scales.specs.Meaning.{scaleAt, given, Outcome, outcome, Moment, dated, written}
+use Rattle.axis.specs.Meaning.{Moment}
+use Rattle.scales.specs.Meaning.{scaleAt, given, Outcome, outcome, dated, written, valued}
 use Rattle.scales.specs.declared.Scale.the-variants as S
-use Rattle.scales.specs.declared.Handed.{Handed}
+use Rattle.handed.specs.declared.Handed.{Handed}
 use Rattle.leap.specs.Meaning as Leap
 use Rattle.leap_laws.proofs.Promises.{Fresh, fresh}
-use Rattle.sbt.specs.Meaning as Correlation
+use Rattle.sbt.specs.Meaning as Sbt
 use Rattle.sbt.specs.declared.Correlation.{Correlation}
 use Rattle.sbt_laws.proofs.Wider.{widened, date-kept, tick-kept}
-use Rattle.layout_fields.specs.Meaning.{valued}
 use Rattle.goce.specs.Meaning as Goce
 use Rattle.goce.specs.declared.Correlation as GoceDeclared
 use Rattle.goce_laws.proofs.Wider as GoceWider
@@ -21,7 +21,7 @@ use Rattle.changes.specs.Meaning.{changing, changeOf}
 use Rattle.text_read.specs.Meaning.{readText}
 use Rattle.text_write.specs.Meaning.{writing, writeText}
 use Rattle.text_laws.specs.Fresh.{Again, again}
-use Rattle.c_api.specs.Meaning as Rack
+use Rattle.c_api.specs.Meaning as CApi
 use Rattle.c_api.specs.Bytes as Bytes
 use Rattle.c_api.specs.Counts as Counts
 use Rattle.c_api.specs.Texts as Texts
@@ -42,8 +42,8 @@ pub record FreshPaper (ds : List ℤ) (os : List ℕ) (e : ℤ) (cs : List ℤ) 
     (g : GoceDeclared.Correlation) (y x : ℕ) : Type 0 where
   pub changes : Fresh ds os e cs ps f
   pub texts : Again ds os e cs ps f
-  pub date : (t : ℕ) (d : ℤ) (u : ℕ) → (Correlation.dateOf c t d u .number ≡ 8 → ⊥) → Correlation.dateOf (widened c b a) t d u ≡ Correlation.dateOf c t d u
-  pub tick : (h : Handed) → (Correlation.tickOf c h .number ≡ 8 → ⊥) → Correlation.tickOf (widened c b a) h ≡ Correlation.tickOf c h
+  pub date : (t : ℕ) (d : ℤ) (u : ℕ) → (Sbt.dateOf c t d u .number ≡ 8 → ⊥) → Sbt.dateOf (widened c b a) t d u ≡ Sbt.dateOf c t d u
+  pub tick : (h : Handed) → (Sbt.tickOf c h .number ≡ 8 → ⊥) → Sbt.tickOf (widened c b a) h ≡ Sbt.tickOf c h
   pub goce-date : (t : ℕ) (d : ℤ) (u : ℕ) → (Goce.dateOf g t d u .number ≡ 8 → ⊥) → Goce.dateOf (GoceWider.widened g y x) t d u ≡ Goce.dateOf g t d u
   pub goce-count : (h : Handed) → (Goce.obtOf g h .number ≡ 8 → ⊥) → Goce.obtOf (GoceWider.widened g y x) h ≡ Goce.obtOf g h
 
@@ -58,79 +58,79 @@ module _ (g : GoceDeclared.Correlation) (y x : ℕ) (l : g .back ≤ y) (m : g .
   goce-count-kept h n = ap (valued 0) (GoceWider.count-kept g y x l m v w h (λ q. n (ap (λ (o : Outcome ℕ). valued 0 o .number) q)))
 
 module _ (ds : List ℤ) (os : List ℕ) (e : ℤ) (cs : List ℤ) (ps : List ℕ) (f : ℤ) (v : Leap.accepted ds os e ≡ true) (w : Leap.accepted cs ps f ≡ true) (x : Leap.Extends ds os e cs ps f)
-    (c : Correlation) (b a : ℕ) (l : c .back ≤ b) (m : c .ahead ≤ a) (y : Correlation.accepted c ≡ true) (z : Correlation.accepted (widened c b a) ≡ true)
+    (c : Correlation) (b a : ℕ) (l : c .back ≤ b) (m : c .ahead ≤ a) (y : Sbt.accepted c ≡ true) (z : Sbt.accepted (widened c b a) ≡ true)
     (g : GoceDeclared.Correlation) (j i : ℕ) (p : g .back ≤ j) (q : g .ahead ≤ i) (r : Goce.accepted g ≡ true) (s : Goce.accepted (GoceWider.widened g j i) ≡ true) where
   pub old-dates-stay : FreshPaper ds os e cs ps f c b a g j i
-  unfolding Correlation.dateOf Correlation.tickOf
+  unfolding Sbt.dateOf Sbt.tickOf
   old-dates-stay =
       record {
         changes = fresh ds os e cs ps f v w x;
         texts = again ds os e cs ps f v w x;
         date = λ t d u n. ap (dated (c .scale)) (date-kept c b a l m y z t d u (λ k. n (ap (λ (o : Outcome Moment). dated (c .scale) o .number) k)));
-        tick = λ h n. ap Correlation.ticked (tick-kept c b a l m y z h (λ k. n (ap (λ (o : Outcome ℕ). Correlation.ticked o .number) k)));
+        tick = λ h n. ap (valued 0) (tick-kept c b a l m y z h (λ k. n (ap (λ (o : Outcome ℕ). valued 0 o .number) k)));
         goce-date = goce-date-kept g j i p q r s;
         goce-count = goce-count-kept g j i p q r s;
       }
 
 -- ---- the same for C, where a number that stands for nothing is refused 3 first
 module _ (ds : List ℤ) (os : List ℕ) (e : ℤ) (cs : List ℤ) (ps : List ℕ) (f : ℤ) (v : Leap.accepted ds os e ≡ true) (w : Leap.accepted cs ps f ≡ true) (x : Leap.Extends ds os e cs ps f) where
-  pub change-for-c : (h : VrkHanded) (c : ℕ) → (Rack.changed h c ds os e .refusal ≡ 9 → ⊥) → Rack.changed h c cs ps f ≡ Rack.changed h c ds os e
-  unfolding Rack.changed changeOf
-  change-for-c h c n = go (Rack.knownScale c && Rack.known h) n
+  pub change-for-c : (h : VrkHanded) (c : ℕ) → (CApi.changed h c ds os e .refusal ≡ 9 → ⊥) → CApi.changed h c cs ps f ≡ CApi.changed h c ds os e
+  unfolding CApi.changed changeOf
+  change-for-c h c n = go (CApi.knownScale c && CApi.known h) n
     where
-      go : (k : Bool) → (Rack.timeOut (dated (scaleAt c) (outcome (given k 3 (changing (Rack.handedOf h) (scaleAt c) ds os e)))) .refusal ≡ 9 → ⊥)
-          → Rack.timeOut (dated (scaleAt c) (outcome (given k 3 (changing (Rack.handedOf h) (scaleAt c) cs ps f))))
-          ≡ Rack.timeOut (dated (scaleAt c) (outcome (given k 3 (changing (Rack.handedOf h) (scaleAt c) ds os e))))
-      go true n = ap Rack.timeOut (fresh ds os e cs ps f v w x .change (Rack.handedOf h) (scaleAt c) n)
+      go : (k : Bool) → (CApi.timeOut (dated (scaleAt c) (outcome (given k 3 (changing (CApi.handedOf h) (scaleAt c) ds os e)))) .refusal ≡ 9 → ⊥)
+          → CApi.timeOut (dated (scaleAt c) (outcome (given k 3 (changing (CApi.handedOf h) (scaleAt c) cs ps f))))
+          ≡ CApi.timeOut (dated (scaleAt c) (outcome (given k 3 (changing (CApi.handedOf h) (scaleAt c) ds os e))))
+      go true n = ap CApi.timeOut (fresh ds os e cs ps f v w x .change (CApi.handedOf h) (scaleAt c) n)
       go false n = refl
 
-  pub text-read-for-c : (s : List ℕ) → (Rack.timeOut (readText s ds os e) .refusal ≡ 9 → ⊥) → Rack.timeOut (readText s cs ps f) ≡ Rack.timeOut (readText s ds os e)
-  text-read-for-c s n = ap Rack.timeOut (again ds os e cs ps f v w x .read s n)
+  pub text-read-for-c : (s : List ℕ) → (CApi.timeOut (readText s ds os e) .refusal ≡ 9 → ⊥) → CApi.timeOut (readText s cs ps f) ≡ CApi.timeOut (readText s ds os e)
+  text-read-for-c s n = ap CApi.timeOut (again ds os e cs ps f v w x .read s n)
 
   pub text-write-for-c : (h : VrkHanded) (m : ℕ) (out : List ℕ) → (Bytes.writes (Bytes.handedWriting (Texts.textWriting m ds os e) h) out .number ≡ 9 → ⊥)
       → Bytes.writes (Bytes.handedWriting (Texts.textWriting m cs ps f) h) out ≡ Bytes.writes (Bytes.handedWriting (Texts.textWriting m ds os e) h) out
   unfolding Bytes.writes writeText
-  text-write-for-c h m out n = go (Rack.known h) (Texts.knownForm m) n
+  text-write-for-c h m out n = go (CApi.known h) (Texts.knownForm m) n
     where
-      go : (k l : Bool) → (written out (outcome (given k 3 (given l 3 (writing (Rack.handedOf h) (Texts.formAt m) ds os e out)))) .number ≡ 9 → ⊥)
-          → written out (outcome (given k 3 (given l 3 (writing (Rack.handedOf h) (Texts.formAt m) cs ps f out))))
-          ≡ written out (outcome (given k 3 (given l 3 (writing (Rack.handedOf h) (Texts.formAt m) ds os e out))))
-      go true true n = again ds os e cs ps f v w x .write (Rack.handedOf h) (Texts.formAt m) out n
+      go : (k l : Bool) → (written out (outcome (given k 3 (given l 3 (writing (CApi.handedOf h) (Texts.formAt m) ds os e out)))) .number ≡ 9 → ⊥)
+          → written out (outcome (given k 3 (given l 3 (writing (CApi.handedOf h) (Texts.formAt m) cs ps f out))))
+          ≡ written out (outcome (given k 3 (given l 3 (writing (CApi.handedOf h) (Texts.formAt m) ds os e out))))
+      go true true n = again ds os e cs ps f v w x .write (CApi.handedOf h) (Texts.formAt m) out n
       go true false n = refl
       go false l n = refl
 
 module _ (c : VrkSbtCorrelation) (b a : ℕ) (l : c .back ≤ b) (m : c .ahead ≤ a)
-    (y : Correlation.accepted (Rack.correlationOf c) ≡ true) (z : Correlation.accepted (Rack.correlationOf (widenedForC c b a)) ≡ true) where
-  pub date-for-c : (t : ℕ) (d : ℤ) (u : ℕ) → (Rack.sbtDate t c d u .refusal ≡ 8 → ⊥) → Rack.sbtDate t (widenedForC c b a) d u ≡ Rack.sbtDate t c d u
-  unfolding Rack.sbtDate Rack.correlationOf Correlation.dateOf
+    (y : Sbt.accepted (CApi.correlationOf c) ≡ true) (z : Sbt.accepted (CApi.correlationOf (widenedForC c b a)) ≡ true) where
+  pub date-for-c : (t : ℕ) (d : ℤ) (u : ℕ) → (CApi.sbtDate t c d u .refusal ≡ 8 → ⊥) → CApi.sbtDate t (widenedForC c b a) d u ≡ CApi.sbtDate t c d u
+  unfolding CApi.sbtDate CApi.correlationOf Sbt.dateOf
   date-for-c t d u n =
-      let k = Rack.correlationOf c in
-      ap (λ (o : Outcome Moment). Rack.timeOut (dated (k .scale) o)) (date-kept k b a l m y z t d u (λ q. n (ap (λ (o : Outcome Moment). dated (k .scale) o .number) q)))
+      let k = CApi.correlationOf c in
+      ap (λ (o : Outcome Moment). CApi.timeOut (dated (k .scale) o)) (date-kept k b a l m y z t d u (λ q. n (ap (λ (o : Outcome Moment). dated (k .scale) o .number) q)))
 
-  pub tick-for-c : (h : VrkHanded) → (Rack.sbtTick h c .refusal ≡ 8 → ⊥) → Rack.sbtTick h (widenedForC c b a) ≡ Rack.sbtTick h c
-  unfolding Rack.sbtTick Rack.correlationOf
-  tick-for-c h n = go (Rack.known h) n
+  pub tick-for-c : (h : VrkHanded) → (CApi.sbtTick h c .refusal ≡ 8 → ⊥) → CApi.sbtTick h (widenedForC c b a) ≡ CApi.sbtTick h c
+  unfolding CApi.sbtTick CApi.correlationOf
+  tick-for-c h n = go (CApi.known h) n
     where
-      go : (k : Bool) → (Rack.tickOut (Correlation.ticked (outcome (given k 3 (Correlation.turning (Rack.correlationOf c) (Rack.handedOf h))))) .refusal ≡ 8 → ⊥)
-          → Rack.tickOut (Correlation.ticked (outcome (given k 3 (Correlation.turning (Rack.correlationOf (widenedForC c b a)) (Rack.handedOf h)))))
-          ≡ Rack.tickOut (Correlation.ticked (outcome (given k 3 (Correlation.turning (Rack.correlationOf c) (Rack.handedOf h)))))
+      go : (k : Bool) → (CApi.countOut (valued 0 (outcome (given k 3 (Sbt.turning (CApi.correlationOf c) (CApi.handedOf h))))) .refusal ≡ 8 → ⊥)
+          → CApi.countOut (valued 0 (outcome (given k 3 (Sbt.turning (CApi.correlationOf (widenedForC c b a)) (CApi.handedOf h)))))
+          ≡ CApi.countOut (valued 0 (outcome (given k 3 (Sbt.turning (CApi.correlationOf c) (CApi.handedOf h)))))
       go true n =
-          ap (λ (o : Outcome ℕ). Rack.tickOut (Correlation.ticked o))
-          (tick-kept (Rack.correlationOf c) b a l m y z (Rack.handedOf h) (λ q. n (ap (λ (o : Outcome ℕ). Correlation.ticked o .number) q)))
+          ap (λ (o : Outcome ℕ). CApi.countOut (valued 0 o))
+          (tick-kept (CApi.correlationOf c) b a l m y z (CApi.handedOf h) (λ q. n (ap (λ (o : Outcome ℕ). valued 0 o .number) q)))
       go false n = refl
 
 module _ (c : VrkGoceCorrelation) (b a : ℕ) (l : c .back ≤ b) (m : c .ahead ≤ a)
     (y : Goce.accepted (Counts.goceOf c) ≡ true) (z : Goce.accepted (Counts.goceOf (goceWidenedForC c b a)) ≡ true) where
   pub goce-date-for-c : (t : ℕ) (d : ℤ) (u : ℕ) → (Counts.goceDate t c d u .refusal ≡ 8 → ⊥) → Counts.goceDate t (goceWidenedForC c b a) d u ≡ Counts.goceDate t c d u
   unfolding Counts.goceDate
-  goce-date-for-c t d u n = ap Rack.timeOut (goce-date-kept (Counts.goceOf c) b a l m y z t d u n)
+  goce-date-for-c t d u n = ap CApi.timeOut (goce-date-kept (Counts.goceOf c) b a l m y z t d u n)
 
   pub goce-count-for-c : (h : VrkHanded) → (Counts.goceCount h c .refusal ≡ 8 → ⊥) → Counts.goceCount h (goceWidenedForC c b a) ≡ Counts.goceCount h c
   unfolding Counts.goceCount Goce.obtOf
-  goce-count-for-c h n = go (Rack.known h) n
+  goce-count-for-c h n = go (CApi.known h) n
     where
-      go : (k : Bool) → (Bytes.countOut (valued 0 (outcome (given k 3 (Goce.turning (Counts.goceOf c) (Rack.handedOf h))))) .refusal ≡ 8 → ⊥)
-          → Bytes.countOut (valued 0 (outcome (given k 3 (Goce.turning (Counts.goceOf (goceWidenedForC c b a)) (Rack.handedOf h)))))
-          ≡ Bytes.countOut (valued 0 (outcome (given k 3 (Goce.turning (Counts.goceOf c) (Rack.handedOf h)))))
-      go true n = ap Bytes.countOut (goce-count-kept (Counts.goceOf c) b a l m y z (Rack.handedOf h) n)
+      go : (k : Bool) → (CApi.countOut (valued 0 (outcome (given k 3 (Goce.turning (Counts.goceOf c) (CApi.handedOf h))))) .refusal ≡ 8 → ⊥)
+          → CApi.countOut (valued 0 (outcome (given k 3 (Goce.turning (Counts.goceOf (goceWidenedForC c b a)) (CApi.handedOf h)))))
+          ≡ CApi.countOut (valued 0 (outcome (given k 3 (Goce.turning (Counts.goceOf c) (CApi.handedOf h)))))
+      go true n = ap CApi.countOut (goce-count-kept (Counts.goceOf c) b a l m y z (CApi.handedOf h) n)
       go false n = refl

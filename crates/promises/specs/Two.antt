@@ -5,11 +5,10 @@ use mathlib.Core.List.{List}
 use Prim.Native.Nat.{ℕ, _+_, _*_, _/_, _%_}
 use native.Mathlib.Omega.{arith}
 use lib.IntN.{ℤ}
-use Rattle.axis.specs.Meaning.{dayAt, microsAt}
-use Rattle.scales.specs.Meaning.{answer, outcome, Moment}
+use Rattle.axis.specs.Meaning.{dayAt, microsAt, Moment, dayMicros, since}
+use Rattle.axis.specs.Axis.{since-at}
+use Rattle.scales.specs.Meaning.{answer, outcome}
 use Rattle.scales.specs.Order.{ends}
-use Rattle.decimal.specs.Meaning.{dayMicros, since}
-use Rattle.decimal.proofs.Image.{since-at}
 use Rattle.layout_fields.specs.Cuc as CucFields
 use Rattle.layout_fields.specs.Proteus as ProteusFields
 use Rattle.layout_fields.specs.Cryosat as CryosatFields

@@ -5,9 +5,9 @@ use Prim.Native.Nat.{_-_, _≤_, _<_}
 use native.Mathlib.Omega.{arith}
 use lib.Dec.{leb, ltb, lit<}
 use borrow.Author.Tests.{leb-true, ltb-true, le-leb, lt-leb}
+use Rattle.axis.specs.Meaning.{dayMicros}
 use Rattle.scales.specs.Meaning.{inSpan}
 use Rattle.scales.specs.Place.{and-both}
-use Rattle.decimal.specs.Meaning.{dayMicros}
 use Rattle.sbt.specs.Meaning.{accepted, clockOf}
 use Rattle.clock.specs.Stage.{placeIn, Held, held}
 use Rattle.clock.specs.Window.{Runs}

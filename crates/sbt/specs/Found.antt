@@ -7,13 +7,13 @@ use native.Mathlib.Nat.{mul-le-mul}
 use lib.IntN.{ℤ, pos, _*ℤ_}
 use Rattle.axis.specs.Meaning.{microsAt}
 use Rattle.axis.specs.Diff.{sub-mul}
-use Rattle.scales.specs.Meaning.{dated, refused, answer, outcome}
-use Rattle.scales.specs.declared.Handed.{Handed}
+use Rattle.scales.specs.Meaning.{dated, refused, answer, outcome, valued}
+use Rattle.handed.specs.declared.Handed.{Handed}
 use Rattle.clock.specs.Places as C
 use Rattle.clock.specs.Stage.{spot, covering, unacceptedBy, found, none, instant-place}
 use Rattle.clock.specs.Turning as T
 use Rattle.clock.specs.declared.inner.Place.the-variants as P
-use Rattle.sbt.specs.Meaning.{accepted, clockOf, dateOf, ticked, tickOf}
+use Rattle.sbt.specs.Meaning.{accepted, clockOf, dateOf, tickOf}
 use Rattle.sbt.specs.Places.{placeOf, endsAt, lastAt, tickFrom, Windowed, Near}
 use Rattle.sbt.specs.Accepted.{Sound, sound, runs}
 use Rattle.sbt.specs.declared.Correlation.{Correlation}
@@ -25,9 +25,9 @@ pub date-6 : (c : Correlation) (t : ℕ) (d : ℤ) (u : ℕ) → placeOf c ≡ P
 unfolding dateOf
 date-6 c t d u e = rw (not-accepted c e)
 
-pub tick-unaccepted : (c : Correlation) (h : Handed) → placeOf c ≡ P.Outside → ticked (refused (unacceptedBy h)) ≡ tickOf c h
+pub tick-unaccepted : (c : Correlation) (h : Handed) → placeOf c ≡ P.Outside → valued 0 (refused (unacceptedBy h)) ≡ tickOf c h
 unfolding tickOf
-tick-unaccepted c h e = ap ticked (T.turn-unaccepted (accepted c) (not-accepted c e) (clockOf c) h)
+tick-unaccepted c h e = ap (valued 0) (T.turn-unaccepted (accepted c) (not-accepted c e) (clockOf c) h)
 
 -- ---- an accepted correlation with its reference at r
 module _ (c : Correlation) (r : ℕ) (e : placeOf c ≡ P.At r) where
@@ -67,9 +67,9 @@ module _ (c : Correlation) (r : ℕ) (e : placeOf c ≡ P.At r) where
   -- ---- the way back
   module _ (h : Handed) where
     pub tick-not : (n : ℕ) → refused n ≡ outcome (covering (c .scale) (C.coverOf (endsAt r (c .period) (c .back) (c .ahead))) h) →
-        ticked (refused n) ≡ tickOf c h
+        valued 0 (refused n) ≡ tickOf c h
     unfolding tickOf
-    tick-not n f = ap ticked (T.turn-not (accepted c) is-accepted (clockOf c) (r * 1000000) clock-based h n f)
+    tick-not n f = ap (valued 0) (T.turn-not (accepted c) is-accepted (clockOf c) (r * 1000000) clock-based h n f)
 
     module _ (w : ℕ) (f : answer (microsAt w) ≡ outcome (covering (c .scale) (C.coverOf (endsAt r (c .period) (c .back) (c .ahead))) h)) where
       pub near : Near r (c .period) w
@@ -81,6 +81,6 @@ module _ (c : Correlation) (r : ℕ) (e : placeOf c ≡ P.At r) where
       pub few : lastAt r (c .period) w < 4294967296
       few = T.few (accepted c) is-accepted (clockOf c) (r * 1000000) clock-based h w f
 
-      pub tick-is : ticked (answer (tickFrom (c .tick .0) (lastAt r (c .period) w))) ≡ tickOf c h
+      pub tick-is : valued 0 (answer (tickFrom (c .tick .0) (lastAt r (c .period) w))) ≡ tickOf c h
       unfolding tickOf
-      tick-is = ap ticked (T.turn-is (accepted c) is-accepted (clockOf c) (r * 1000000) clock-based h w f)
+      tick-is = ap (valued 0) (T.turn-is (accepted c) is-accepted (clockOf c) (r * 1000000) clock-based h w f)

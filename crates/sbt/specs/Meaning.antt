@@ -3,11 +3,9 @@ use mathlib.Core.Bool.{Bool, _&&_}
 use Prim.Native.Nat.{ℕ}
 use lib.Dec.{leb, ltb}
 use lib.IntN.{ℤ, pos, _*ℤ_}
-use Rattle.scales.specs.Meaning.{inSpan, Judged, Outcome, refused, answer, outcome, Moment, Slip, dated, numberOf}
-use Rattle.scales.specs.declared.Handed.{Handed}
-use Rattle.scales.specs.declared.Ticked.{Ticked}
-use Rattle.scales.specs.declared.Ticked.the-variants as K
-use Rattle.decimal.specs.Meaning.{dayMicros}
+use Rattle.axis.specs.Meaning.{Moment, dayMicros}
+use Rattle.scales.specs.Meaning.{inSpan, Judged, outcome, Slip, dated, Valued, valued}
+use Rattle.handed.specs.declared.Handed.{Handed}
 use Rattle.clock.specs.Meaning as C
 use Rattle.sbt.specs.declared.Correlation.{Correlation}
 
@@ -47,18 +45,5 @@ dateOf c t d u = dated (c .scale) (outcome (dating c t d u))
 abbrev pub turning : Correlation → Handed → Judged ℕ
 turning c h = C.turning (accepted c) (clockOf c) h
 
--- ---- the number and the value of an answer: "Every refusal returns its number, .. or count, tick .. zero"; "An answer returns 0"
-pub record TickSlip : Type 0 where
-  pub number : ℕ
-  pub tick : ℕ
-
-abbrev pub ticked : Outcome ℕ → TickSlip
-ticked (refused n) = record { number = n; tick = 0 }
-ticked (answer t) = record { number = 0; tick = t }
-
-abbrev pub tickSlip : Ticked → TickSlip
-tickSlip (K.Tick t) = ticked (answer (t .0))
-tickSlip (K.Refused f) = ticked (refused (numberOf f))
-
-unfoldable pub tickOf : Correlation → Handed → TickSlip
-tickOf c h = ticked (outcome (turning c h))
+unfoldable pub tickOf : Correlation → Handed → Valued ℕ
+tickOf c h = valued 0 (outcome (turning c h))

@@ -2,14 +2,14 @@
 // Inside, a time is its place on the axis of microseconds, and an elapsed count k is held as k + 2^31.
 ghost use mathlib.Core.Path.{_≡_};
 ghost use Prim.Native.Nat.{_<_};
-ghost use Rattle.scales.specs.Meaning.{slip};
-ghost use Rattle.sbt.specs.Meaning.{dateOf, tickSlip, tickOf};
+ghost use Rattle.scales.specs.Meaning.{slip, tickSlip};
+ghost use Rattle.sbt.specs.Meaning.{dateOf, tickOf};
 ghost use Rattle.sbt.specs.Places.{placeOf, timeAt, endsAt, countFrom, lastAt, tickFrom, Based, Windowed, Near};
 use clock::inner::Ends;
 use clock::inner::Place;
 use clock::inner::Turned;
+use handed::Handed;
 use scales::Dated;
-use scales::Handed;
 use scales::Refusal;
 use scales::Scale;
 use scales::Tick;

@@ -2,9 +2,9 @@
 use mathlib.Core.Path.{_≡_}
 use Prim.Native.Nat.{ℕ}
 use lib.IntN.{ℤ}
-use Rattle.scales.specs.Meaning.{answer, outcome, Moment}
-use Rattle.scales.specs.declared.Handed.{Handed}
-use Rattle.decimal.specs.Meaning.{since}
+use Rattle.axis.specs.Meaning.{Moment, since}
+use Rattle.scales.specs.Meaning.{answer, outcome}
+use Rattle.handed.specs.declared.Handed.{Handed}
 use Rattle.clock.specs.Meaning.{elapsed, time}
 use Rattle.clock_laws.proofs.Answers as G
 use Rattle.sbt.specs.Meaning.{accepted, clockOf, dating, turning}

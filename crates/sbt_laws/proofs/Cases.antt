@@ -7,12 +7,12 @@ use lib.Dec.{lit<, lit≤}
 use lib.IntN.{ℤ, pos, negsuc, _+ℤ_}
 use lib.Signed.{leZ}
 use lib.Ieee.{fin, nan}
-use Rattle.scales.specs.Meaning.{Moment, Outcome, answer, refused, outcome, recordOf}
+use Rattle.axis.specs.Meaning.{Moment, since}
+use Rattle.scales.specs.Meaning.{Outcome, answer, refused, outcome, recordOf}
 use Rattle.scales.specs.declared.Scale.the-variants as S
-use Rattle.scales.specs.declared.Handed.{Handed}
-use Rattle.scales.specs.declared.Handed.the-variants as H
+use Rattle.handed.specs.declared.Handed.{Handed}
+use Rattle.handed.specs.declared.Handed.the-variants as H
 use Rattle.scales.specs.Order.{no-answer}
-use Rattle.decimal.specs.Meaning.{since}
 use Rattle.clock.specs.Meaning.{clock, time, inWindow, within, covers, elapsed, latest}
 use Rattle.sbt.specs.Meaning.{accepted, clockOf, dating, turning}
 use Rattle.sbt.specs.declared.Correlation.{Correlation}

@@ -5,8 +5,8 @@ use mathlib.Core.Bool.{true}
 use Prim.Native.Nat.{ℕ, _%_}
 use lib.IntN.{ℤ}
 use lib.Signed.{ltZ}
-use Rattle.scales.specs.Meaning.{refused, answer, outcome, Moment}
-use Rattle.decimal.specs.Meaning.{since}
+use Rattle.axis.specs.Meaning.{Moment, since}
+use Rattle.scales.specs.Meaning.{refused, answer, outcome}
 use Rattle.clock.specs.Meaning.{receivable, time, inWindow, cover, countAt}
 use Rattle.clock_laws.proofs.Night as G
 use Rattle.sbt.specs.Meaning.{accepted, clockOf, dating}

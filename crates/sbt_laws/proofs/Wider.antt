@@ -5,7 +5,7 @@ use mathlib.Core.Bool.{true}
 use Prim.Native.Nat.{ℕ, _≤_}
 use lib.IntN.{ℤ}
 use Rattle.scales.specs.Meaning.{outcome, refused}
-use Rattle.scales.specs.declared.Handed.{Handed}
+use Rattle.handed.specs.declared.Handed.{Handed}
 use Rattle.clock_laws.proofs.Wider as G
 use Rattle.sbt.specs.Meaning.{accepted, clockOf, dating, turning}
 use Rattle.sbt.specs.Accepted.{runs}

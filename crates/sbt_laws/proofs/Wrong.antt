@@ -5,13 +5,13 @@ use Prim.Native.Nat.{ℕ}
 use native.Mathlib.Omega.{arith}
 use lib.IntN.{ℤ, pos, negsuc}
 use Rattle.evidence.specs.ShutOut.{ShutOut, differ}
-use Rattle.scales.specs.Meaning.{Slip, Outcome, answer, refused, recordOf}
+use Rattle.scales.specs.Meaning.{Slip, Outcome, answer, refused, recordOf, Valued, valued}
 use Rattle.scales.specs.declared.Scale.the-variants as S
-use Rattle.scales.specs.declared.Handed.{Handed}
-use Rattle.scales.specs.declared.Handed.the-variants as H
+use Rattle.handed.specs.declared.Handed.{Handed}
+use Rattle.handed.specs.declared.Handed.the-variants as H
 use Rattle.clock.specs.Meaning.{Clock, elapsed, clock, time, inWindow, within, inForce, latest}
 use Rattle.clock_laws.proofs.Desks.{dateBy, windowIgnored, receiptIgnored, swapped, unsigned, towardsZero, countBy, scaleIgnored, secondIgnored, forceFirst}
-use Rattle.sbt.specs.Meaning.{accepted, clockOf, dateOf, TickSlip, ticked, tickOf}
+use Rattle.sbt.specs.Meaning.{accepted, clockOf, dateOf, tickOf}
 use Rattle.sbt.specs.declared.Correlation.{Correlation}
 use Rattle.sbt_laws.proofs.Cases.{marked, autumn, utc}
 use Rattle.ground_laws.proofs.Desks.{answered, empty, byNumber, byMicro}
@@ -59,29 +59,29 @@ unfolding dateOf accepted clock inWindow within
 ends-swapped = (refl, refl, byNumber (λ e. omega arith))
 
 -- ---- tick_of: the same
-abbrev tickOn : (Bool → Clock → Handed → Outcome ℕ) → Correlation → Handed → TickSlip
-tickOn desk c h = ticked (desk (accepted c) (clockOf c) h)
+abbrev tickOn : (Bool → Clock → Handed → Outcome ℕ) → Correlation → Handed → Valued ℕ
+tickOn desk c h = valued 0 (desk (accepted c) (clockOf c) h)
 
-apart-ticks : {x y : TickSlip} → (x .number ≡ y .number → ⊥) → x ≡ y → ⊥
-apart-ticks d e = differ (λ (s : TickSlip). s .number) d e
+apart-ticks : {x y : Valued ℕ} → (x .number ≡ y .number → ⊥) → x ≡ y → ⊥
+apart-ticks d e = differ (λ (s : Valued ℕ). s .number) d e
 
 -- a time of another scale taken as the correlation's
 pub scale-ignored :
-    ShutOut (tickOf (marked 10) (H.Record (recordOf S.Gps (pos 0) 0))) (ticked (refused 12))
-    (tickOn (countBy scaleIgnored) (marked 10) (H.Record (recordOf S.Gps (pos 0) 0))) (ticked (answer 4294967295))
+    ShutOut (tickOf (marked 10) (H.Record (recordOf S.Gps (pos 0) 0))) (valued 0 (refused 12))
+    (tickOn (countBy scaleIgnored) (marked 10) (H.Record (recordOf S.Gps (pos 0) 0))) (valued 0 (answer 4294967295))
 unfolding tickOf accepted clock within latest
 scale-ignored = (refl, refl, apart-ticks (λ e. omega arith))
 
 -- second 60 taken for the next day's first
 pub second-ignored :
-    ShutOut (tickOf utc (H.Record (recordOf S.Utc (pos 0) 86400000000))) (ticked (refused 12))
-    (tickOn (countBy secondIgnored) utc (H.Record (recordOf S.Utc (pos 0) 86400000000))) (ticked (answer 7))
+    ShutOut (tickOf utc (H.Record (recordOf S.Utc (pos 0) 86400000000))) (valued 0 (refused 12))
+    (tickOn (countBy secondIgnored) utc (H.Record (recordOf S.Utc (pos 0) 86400000000))) (valued 0 (answer 7))
 unfolding tickOf accepted clock within latest
 second-ignored = (refl, refl, apart-ticks (λ e. omega arith))
 
 -- 8 judged before 12: a GPS time outside the cover of a TAI correlation
 pub force-first :
-    ShutOut (tickOf (marked 10) (H.Record (recordOf S.Gps (pos 1) 0))) (ticked (refused 12))
-    (tickOn forceFirst (marked 10) (H.Record (recordOf S.Gps (pos 1) 0))) (ticked (refused 8))
+    ShutOut (tickOf (marked 10) (H.Record (recordOf S.Gps (pos 1) 0))) (valued 0 (refused 12))
+    (tickOn forceFirst (marked 10) (H.Record (recordOf S.Gps (pos 1) 0))) (valued 0 (refused 8))
 unfolding tickOf accepted clock within latest
 force-first = (refl, refl, apart-ticks (λ e. omega arith))

@@ -5,28 +5,28 @@ use Prim.Native.Nat.{ℕ, _+_, _*_, _≤_, _<_}
 use native.Mathlib.Nat.{mul-le-mul}
 use native.Mathlib.Omega.{arith}
 use lib.IntN.{ℤ}
-use Rattle.axis.specs.Meaning.{placeOfDay}
+use Rattle.axis.specs.Meaning.{placeOfDay, Moment}
 use Rattle.axis.specs.Shift.{place-top}
-use Rattle.scales.specs.Meaning.{bound, inSpan, answer, dated, Moment, momentAt, at, no, slipOf, spanned, timeScale, timeCount, timeAt, slipTimed}
-use Rattle.scales.specs.Place.{firstAt, lastAt, apart, out-early, out-late, out-over, in-span, spanOf, countOf, moment-of, count-inj, counted, spanned-in, spanned-out}
-use Rattle.scales.specs.Same.{some, refusals, time-is, time-scale, time-count}
+use Rattle.scales.specs.Meaning.{bound, inSpan, answer, dated, momentAt, some, no, timeSlip, spanned, timeScale, timeCount, timeAt, slipTimed}
+use Rattle.scales.specs.Place.{firstAt, lastAt, apart, out-early, out-late, out-over, in-span, spanOf, countOf, moment-of, count-inj, fitOf, spanned-in, spanned-out}
+use Rattle.scales.specs.Same.{no-zero, refusals, time-is, time-scale, time-count}
 use Rattle.scales.specs.declared.Scale.{Scale}
 use Rattle.scales.specs.declared.Refusal.{Refusal}
 use Rattle.scales.specs.declared.Refusal.the-variants as R
 use Rattle.scales.specs.declared.Time.{Time}
 use Rattle.scales.specs.declared.Timed.the-variants as TD
-use Rattle.scales.specs.declared.counting.Span.{Span}
-use Rattle.scales.specs.declared.counting.Counted.the-variants as C
+use Rattle.scales.specs.declared.spans.Span.{Span}
+use Rattle.scales.specs.declared.spans.Fit.the-variants as C
 
 -- ---- the ways out of the one test of a span: p is the day's place, w the span
 module _ (s : Scale) (d : ℤ) (u p : ℕ) (w : Span) (e : p ≡ placeOfDay d) (q : w ≡ spanOf s) where
-  pub count-early : p < w .first → C.Outside ≡ counted s d u
+  pub count-early : p < w .first → C.Outside ≡ fitOf s d u
   count-early h = let f : w .first ≡ firstAt s = ap (λ (x : Span). x .first) q in rw (out-early s d u (omega arith))
 
-  pub count-late : w .last < p → C.Outside ≡ counted s d u
+  pub count-late : w .last < p → C.Outside ≡ fitOf s d u
   count-late h = let f : w .last ≡ lastAt s = ap (λ (x : Span). x .last) q in rw (out-late s d u (omega arith))
 
-  pub count-over : w .bound ≤ u → C.Outside ≡ counted s d u
+  pub count-over : w .bound ≤ u → C.Outside ≡ fitOf s d u
   count-over h = let f : w .bound ≡ bound s = ap (λ (x : Span). x .bound) q in rw (out-over s d u (omega arith))
 
   -- the product and the sum fit with much to spare
@@ -37,7 +37,7 @@ module _ (s : Scale) (d : ℤ) (u p : ℕ) (w : Span) (e : p ≡ placeOfDay d) (
       let k : p ≤ 100000 = omega (arith, place-top 40000 100000 d) in
       omega (arith, mul-le-mul {n₂ = 100000} {m₂ = 86401000000} k b)
 
-  pub count-within : w .first ≤ p → p ≤ w .last → u < w .bound → C.At (p * w .bound + u) ≡ counted s d u
+  pub count-within : w .first ≤ p → p ≤ w .last → u < w .bound → C.At (p * w .bound + u) ≡ fitOf s d u
   count-within h k l =
       rw (e, q)
       (rw (in-span s d u (record {
@@ -56,40 +56,40 @@ module _ (s : Scale) (d : ℤ) (u : ℕ) where
   out-by true e f = absurd (let z : _≡_ {A = ℕ} 0 1 = cc in omega arith)
   out-by false e f = e
 
-  pub counted-at : (n : ℕ) → counted s d u ≡ C.At n → (inSpan s d u ≡ true) × (n ≡ countOf s d u)
-  counted-at n e = at-by (inSpan s d u) refl n e
+  pub fit-at : (n : ℕ) → fitOf s d u ≡ C.At n → (inSpan s d u ≡ true) × (n ≡ countOf s d u)
+  fit-at n e = at-by (inSpan s d u) refl n e
 
-  pub counted-out : counted s d u ≡ C.Outside → inSpan s d u ≡ false
-  counted-out e = out-by (inSpan s d u) refl e
+  pub fit-out : fitOf s d u ≡ C.Outside → inSpan s d u ≡ false
+  fit-out e = out-by (inSpan s d u) refl e
 
-  pub count-at : (n : ℕ) → counted s d u ≡ C.At n → slipOf s (at n) ≡ spanned s d u
+  pub count-at : (n : ℕ) → fitOf s d u ≡ C.At n → timeSlip s (some n) ≡ spanned s d u
   count-at n e =
-      let k = counted-at n e in
+      let k = fit-at n e in
       ap (λ (m : Moment). dated s (answer m)) (ap (momentAt s) (k .1) ∙ moment-of s d u (k .0)) ∙ sym (spanned-in s d u (k .0))
 
-  pub count-out : counted s d u ≡ C.Outside → slipOf s (no R.OutsideSpan) ≡ spanned s d u
-  count-out e = sym (spanned-out s d u (counted-out e))
+  pub count-out : fitOf s d u ≡ C.Outside → timeSlip s (no R.OutsideSpan) ≡ spanned s d u
+  count-out e = sym (spanned-out s d u (fit-out e))
 
   -- ---- from the slip of a constructor: the test and the count, or the test and the refusal
-  typed-by : (t : Bool) → inSpan s d u ≡ t → (n : ℕ) → slipOf s (at n) ≡ spanned s d u → (inSpan s d u ≡ true) × (n ≡ countOf s d u)
+  typed-by : (t : Bool) → inSpan s d u ≡ t → (n : ℕ) → timeSlip s (some n) ≡ spanned s d u → (inSpan s d u ≡ true) × (n ≡ countOf s d u)
   typed-by true e n f =
       let g = f ∙ spanned-in s d u e in
       (e, count-inj s n (countOf s d u) ((λ i. record { day = g i .day; micro = g i .micro }) ∙ sym (moment-of s d u e)))
   typed-by false e n f = absurd (let g = f ∙ spanned-out s d u e in let z : _≡_ {A = ℕ} 0 7 = λ i. g i .number in omega arith)
 
-  pub typed-at : (n : ℕ) → slipOf s (at n) ≡ spanned s d u → (inSpan s d u ≡ true) × (n ≡ countOf s d u)
+  pub typed-at : (n : ℕ) → timeSlip s (some n) ≡ spanned s d u → (inSpan s d u ≡ true) × (n ≡ countOf s d u)
   typed-at n e = typed-by (inSpan s d u) refl n e
 
-  no-by : (t : Bool) → inSpan s d u ≡ t → (f : Refusal) → slipOf s (no f) ≡ spanned s d u → (inSpan s d u ≡ false) × (f ≡ R.OutsideSpan)
-  no-by true e f g = absurd (some f (λ i. (g ∙ spanned-in s d u e) i .number))
+  no-by : (t : Bool) → inSpan s d u ≡ t → (f : Refusal) → timeSlip s (no f) ≡ spanned s d u → (inSpan s d u ≡ false) × (f ≡ R.OutsideSpan)
+  no-by true e f g = absurd (no-zero f (λ i. (g ∙ spanned-in s d u e) i .number))
   no-by false e f g = (e, refusals f R.OutsideSpan (λ i. (g ∙ spanned-out s d u e) i .number))
 
-  pub typed-no : (f : Refusal) → slipOf s (no f) ≡ spanned s d u → (inSpan s d u ≡ false) × (f ≡ R.OutsideSpan)
+  pub typed-no : (f : Refusal) → timeSlip s (no f) ≡ spanned s d u → (inSpan s d u ≡ false) × (f ≡ R.OutsideSpan)
   typed-no f e = no-by (inSpan s d u) refl f e
 
 -- ---- the same of a time whose scale is a value
-pub timed-count : (s : Scale) (n : ℕ) → slipTimed (TD.At (timeAt s n)) ≡ slipOf s (at n)
-timed-count s n = ap₂ (λ (x : Scale) (m : ℕ). slipOf x (at m)) (time-scale s n) (time-count s n)
+pub timed-count : (s : Scale) (n : ℕ) → slipTimed (TD.At (timeAt s n)) ≡ timeSlip s (some n)
+timed-count s n = ap₂ (λ (x : Scale) (m : ℕ). timeSlip x (some m)) (time-scale s n) (time-count s n)
 
 module _ (s : Scale) (d : ℤ) (u : ℕ) where
   spanned-scale : (t : Bool) → inSpan s d u ≡ t → spanned s d u .scale ≡ s
@@ -99,11 +99,11 @@ module _ (s : Scale) (d : ℤ) (u : ℕ) where
   pub timed-at : (t : Time) → slipTimed (TD.At t) ≡ spanned s d u → (inSpan s d u ≡ true) × (t ≡ timeAt s (countOf s d u))
   timed-at t e =
       let k : timeScale t ≡ s = (λ i. e i .scale) ∙ spanned-scale (inSpan s d u) refl in
-      let q = typed-at s d u (timeCount t) (ap (λ (x : Scale). slipOf x (at (timeCount t))) (sym k) ∙ e) in
+      let q = typed-at s d u (timeCount t) (ap (λ (x : Scale). timeSlip x (some (timeCount t))) (sym k) ∙ e) in
       (q .0, sym (time-is t) ∙ ap₂ timeAt k (q .1))
 
   pub timed-no : (f : Refusal) (r : Scale) → slipTimed (TD.Refused f r) ≡ spanned s d u → (inSpan s d u ≡ false) × ((f ≡ R.OutsideSpan) × (r ≡ s))
   timed-no f r e =
       let k : r ≡ s = (λ i. e i .scale) ∙ spanned-scale (inSpan s d u) refl in
-      let q = typed-no s d u f (ap (λ (x : Scale). slipOf x (no f)) (sym k) ∙ e) in
+      let q = typed-no s d u f (ap (λ (x : Scale). timeSlip x (no f)) (sym k) ∙ e) in
       (q .0, (q .1, k))

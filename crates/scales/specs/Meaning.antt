@@ -7,7 +7,7 @@ use lib.Dec.{ltb, eqb}
 use lib.IntN.{ℤ, pos, negsuc}
 use lib.ListN.{length, drop}
 use lib.Signed.{leZ}
-use Rattle.axis.specs.Meaning.{dayAt}
+use Rattle.axis.specs.Meaning.{dayAt, Moment}
 use Rattle.scales.specs.declared.Scale.{Scale}
 use Rattle.scales.specs.declared.Scale.the-variants as S
 use Rattle.scales.specs.declared.Refusal.{Refusal}
@@ -21,6 +21,10 @@ use Rattle.scales.specs.declared.DatedUtc.{DatedUtc}
 use Rattle.scales.specs.declared.DatedUtc.the-variants as DU
 use Rattle.scales.specs.declared.DatedGps.{DatedGps}
 use Rattle.scales.specs.declared.DatedGps.the-variants as DG
+use Rattle.scales.specs.declared.Ticked.{Ticked}
+use Rattle.scales.specs.declared.Ticked.the-variants as TK
+use Rattle.scales.specs.declared.Counted.{Counted}
+use Rattle.scales.specs.declared.Counted.the-variants as C
 use Rattle.scales.specs.declared.Written.{Written}
 use Rattle.scales.specs.declared.Written.the-variants as W
 use Rattle.scales.specs.declared.Time.{Time}
@@ -100,25 +104,31 @@ pub record Slip : Type 0 where
   pub day : ℤ
   pub micro : ℕ
 
-pub record Moment : Type 0 where
-  pub day : ℤ
-  pub micro : ℕ
-
 -- "Every refusal returns its number, day 0 microsecond 0 of the scale that the answer would have had"; "An answer returns 0"
 abbrev pub dated : Scale → Outcome Moment → Slip
 dated s (refused n) = record { number = n; scale = s; day = pos 0; micro = 0 }
 dated s (answer t) = record { number = 0; scale = s; day = t .day; micro = t .micro }
 
--- ---- what it hands back of a writing: the number, the length, and all bytes of the lent slice
-pub record Wrote : Type 0 where
+-- ---- what it hands back of any other value, a count, a tick, fields or a date: the number and the value
+pub record Valued (A : Type 0) : Type 0 where
+  pub number : ℕ
+  pub value : A
+
+-- "Every refusal returns its number, .. or count, tick, length .. zero"; "An answer returns 0"
+abbrev pub valued : {A : Type 0} → A → Outcome A → Valued A
+valued zero (refused n) = record { number = n; value = zero }
+valued zero (answer a) = record { number = 0; value = a }
+
+-- ---- what it hands back of a writing: the number, how many elements were written, and the whole lent slice, of bytes or of numbers
+pub record Wrote (A : Type 0) : Type 0 where
   pub number : ℕ
   pub length : ℕ
-  pub bytes : List ℕ
+  pub lent : List A
 
 -- "lent memory keeps all its bytes"; "bytes after the written part stay"
-abbrev pub written : List ℕ → Outcome (List ℕ) → Wrote
-written out (refused n) = record { number = n; length = 0; bytes = out }
-written out (answer image) = record { number = 0; length = length image; bytes = image ++ drop (length image) out }
+abbrev pub written : {A : Type 0} → List A → Outcome (List A) → Wrote A
+written out (refused n) = record { number = n; length = 0; lent = out }
+written out (answer image) = record { number = 0; length = length image; lent = image ++ drop (length image) out }
 
 -- ---- this paper's number and values for each case of an answer
 abbrev pub numberOf : Refusal → ℕ
@@ -141,43 +151,62 @@ slip (D.At r) = dated (r .scale) (answer (record { day = r .day; micro = r .micr
 slip (D.Refused f s) = dated s (refused (numberOf f))
 
 -- the second argument is the lent slice as the writer leaves it
-abbrev pub wrote : Written → List ℕ → Wrote
-wrote (W.Bytes n) out = record { number = 0; length = n; bytes = out }
-wrote (W.Refused f) out = record { number = numberOf f; length = 0; bytes = out }
+abbrev pub wrote : {A : Type 0} → Written → List A → Wrote A
+wrote (W.Bytes n) out = record { number = 0; length = n; lent = out }
+wrote (W.Refused f) out = record { number = numberOf f; length = 0; lent = out }
+
+-- every other answer holds one value or a refusal, and its type says of what
+pub data Reply (A : Type 0) : Type 0 where
+  some : A → Reply A
+  no : Refusal → Reply A
+
+abbrev pub valueSlip : {A : Type 0} → A → Reply A → Valued A
+valueSlip zero (some a) = valued zero (answer a)
+valueSlip zero (no f) = valued zero (refused (numberOf f))
+
+abbrev pub replyTick : Ticked → Reply ℕ
+replyTick (TK.Tick t) = some (t .0)
+replyTick (TK.Refused f) = no f
+
+abbrev pub replyCount : Counted → Reply ℕ
+replyCount (C.Count n) = some n
+replyCount (C.Refused f) = no f
+
+abbrev pub tickSlip : Ticked → Valued ℕ
+tickSlip r = valueSlip 0 (replyTick r)
+
+abbrev pub countSlip : Counted → Valued ℕ
+countSlip r = valueSlip 0 (replyCount r)
 
 -- a count of scale s holds `bound s` microseconds a day, from day -40000 on
 abbrev pub momentAt : Scale → ℕ → Moment
 momentAt s n = record { day = dayAt (n / bound s); micro = n % bound s }
 
--- an answer whose type tells its scale is a count or a refusal
-pub data Typed : Type 0 where
-  at : ℕ → Typed
-  no : Refusal → Typed
+-- an answer whose type tells its scale is such a count or a refusal
+abbrev pub timeSlip : Scale → Reply ℕ → Slip
+timeSlip s (some n) = dated s (answer (momentAt s n))
+timeSlip s (no f) = dated s (refused (numberOf f))
 
-abbrev pub slipOf : Scale → Typed → Slip
-slipOf s (at n) = dated s (answer (momentAt s n))
-slipOf s (no f) = dated s (refused (numberOf f))
+abbrev pub replyTai : DatedTai → Reply ℕ
+replyTai (DT.At t) = some (t .0)
+replyTai (DT.Refused f) = no f
 
-abbrev pub typedTai : DatedTai → Typed
-typedTai (DT.At t) = at (t .0)
-typedTai (DT.Refused f) = no f
+abbrev pub replyUtc : DatedUtc → Reply ℕ
+replyUtc (DU.At t) = some (t .0)
+replyUtc (DU.Refused f) = no f
 
-abbrev pub typedUtc : DatedUtc → Typed
-typedUtc (DU.At t) = at (t .0)
-typedUtc (DU.Refused f) = no f
-
-abbrev pub typedGps : DatedGps → Typed
-typedGps (DG.At t) = at (t .0)
-typedGps (DG.Refused f) = no f
+abbrev pub replyGps : DatedGps → Reply ℕ
+replyGps (DG.At t) = some (t .0)
+replyGps (DG.Refused f) = no f
 
 abbrev pub slipTai : DatedTai → Slip
-slipTai r = slipOf S.Tai (typedTai r)
+slipTai r = timeSlip S.Tai (replyTai r)
 
 abbrev pub slipUtc : DatedUtc → Slip
-slipUtc r = slipOf S.Utc (typedUtc r)
+slipUtc r = timeSlip S.Utc (replyUtc r)
 
 abbrev pub slipGps : DatedGps → Slip
-slipGps r = slipOf S.Gps (typedGps r)
+slipGps r = timeSlip S.Gps (replyGps r)
 
 -- a time is a scale and a count
 abbrev pub timeScale : Time → Scale
@@ -196,8 +225,8 @@ timeAt S.Utc n = TM.Utc (record { 0 = n })
 timeAt S.Gps n = TM.Gps (record { 0 = n })
 
 abbrev pub slipTimed : Timed → Slip
-slipTimed (TD.At t) = slipOf (timeScale t) (at (timeCount t))
-slipTimed (TD.Refused f s) = slipOf s (no f)
+slipTimed (TD.At t) = timeSlip (timeScale t) (some (timeCount t))
+slipTimed (TD.Refused f s) = timeSlip s (no f)
 
 -- ---- the functions of this crate
 abbrev pub recordOf : Scale → ℤ → ℕ → Record

@@ -13,9 +13,9 @@ use Rattle.axis.specs.Axis.{day-from, day-to, day-le, day-place, day-inj}
 use Rattle.scales.specs.Meaning.{first, last, bound, inSpan, refused, answer, dated, momentAt, spanned}
 use Rattle.scales.specs.declared.Scale.{Scale}
 use Rattle.scales.specs.declared.Scale.the-variants as S
-use Rattle.scales.specs.declared.counting.Span.{Span}
-use Rattle.scales.specs.declared.counting.Counted.{Counted}
-use Rattle.scales.specs.declared.counting.Counted.the-variants as C
+use Rattle.scales.specs.declared.spans.Span.{Span}
+use Rattle.scales.specs.declared.spans.Fit.{Fit}
+use Rattle.scales.specs.declared.spans.Fit.the-variants as C
 
 -- ---- the places of a span
 abbrev pub firstAt : Scale → ℕ
@@ -152,5 +152,5 @@ spanFrom f l b = record { first = placeOfDay f; last = placeOfDay l; bound = b }
 abbrev pub spanOf : Scale → Span
 spanOf s = spanFrom (first s) (last s) (bound s)
 
-abbrev pub counted : Scale → ℤ → ℕ → Counted
-counted s d u = cond (inSpan s d u) (C.At (countOf s d u)) C.Outside
+abbrev pub fitOf : Scale → ℤ → ℕ → Fit
+fitOf s d u = cond (inSpan s d u) (C.At (countOf s d u)) C.Outside

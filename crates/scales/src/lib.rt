@@ -2,12 +2,12 @@
 ghost use mathlib.Core.Path.{_≡_};
 ghost use Rattle.scales.specs.Meaning.{codeOf, numberOf, slip, slipTai, slipUtc, slipGps, slipTimed, spanned, recordOf, recordAt, timeScale, timeCount};
 
-mod counting;
+mod spans;
 
-use counting::Counted;
-use counting::count_of;
-use counting::record_at;
-use counting::time_at;
+use spans::Fit;
+use spans::count_of;
+use spans::record_at;
+use spans::time_at;
 
 pub enum Scale {
     Tai,
@@ -51,12 +51,6 @@ pub enum Time {
     Tai(Tai),
     Utc(Utc),
     Gps(Gps),
-}
-
-// What a caller hands in: a record, or a decimal day with its scale.
-pub enum Handed {
-    Record(Record),
-    Decimal(f64, Scale),
 }
 
 // The rows of the refusal slip, as refusals.txt lists them.
@@ -132,6 +126,12 @@ pub enum Ticked {
     Refused(Refusal),
 }
 
+// A count, or a refusal: then count 0.
+pub enum Counted {
+    Count(u64),
+    Refused(Refusal),
+}
+
 // How many bytes were written onto the front of a lent slice, or a refusal: then none.
 pub enum Written {
     Bytes(usize),
@@ -174,8 +174,8 @@ impl Record {
     {
         let scale = self.scale;
         match count_of(scale, self.day, self.micro) {
-            Counted::At(n) => Timed::At(time_at(scale, n)),
-            Counted::Outside => Timed::Refused(Refusal::OutsideSpan, scale),
+            Fit::At(n) => Timed::At(time_at(scale, n)),
+            Fit::Outside => Timed::Refused(Refusal::OutsideSpan, scale),
         }
     }
 
@@ -185,8 +185,8 @@ impl Record {
     {
         let scale = self.scale;
         match count_of(scale, self.day, self.micro) {
-            Counted::At(_) => Dated::At(self),
-            Counted::Outside => Dated::Refused(Refusal::OutsideSpan, scale),
+            Fit::At(_) => Dated::At(self),
+            Fit::Outside => Dated::Refused(Refusal::OutsideSpan, scale),
         }
     }
 }
@@ -202,8 +202,8 @@ impl Tai {
         ensures { λ r. ⌜ slipTai r ≡ spanned Scale.Tai day micro ⌝ }
     {
         match count_of(Scale::Tai, day, micro) {
-            Counted::At(n) => DatedTai::At(Tai(n)),
-            Counted::Outside => DatedTai::Refused(Refusal::OutsideSpan),
+            Fit::At(n) => DatedTai::At(Tai(n)),
+            Fit::Outside => DatedTai::Refused(Refusal::OutsideSpan),
         }
     }
 
@@ -225,8 +225,8 @@ impl Utc {
         ensures { λ r. ⌜ slipUtc r ≡ spanned Scale.Utc day micro ⌝ }
     {
         match count_of(Scale::Utc, day, micro) {
-            Counted::At(n) => DatedUtc::At(Utc(n)),
-            Counted::Outside => DatedUtc::Refused(Refusal::OutsideSpan),
+            Fit::At(n) => DatedUtc::At(Utc(n)),
+            Fit::Outside => DatedUtc::Refused(Refusal::OutsideSpan),
         }
     }
 
@@ -248,8 +248,8 @@ impl Gps {
         ensures { λ r. ⌜ slipGps r ≡ spanned Scale.Gps day micro ⌝ }
     {
         match count_of(Scale::Gps, day, micro) {
-            Counted::At(n) => DatedGps::At(Gps(n)),
-            Counted::Outside => DatedGps::Refused(Refusal::OutsideSpan),
+            Fit::At(n) => DatedGps::At(Gps(n)),
+            Fit::Outside => DatedGps::Refused(Refusal::OutsideSpan),
         }
     }
 

@@ -11,16 +11,16 @@ use lib.ListN.{length, take, drop}
 use lib.Seq.{take-at}
 use lib.Ieee.{binary64, fits}
 use borrow.Author.Tests.{le-leb, lt-ltb, le-ltb, eqb-true}
-use Rattle.axis.specs.Meaning.{placeOfDay}
+use Rattle.axis.specs.Meaning.{placeOfDay, dayMicros}
 use Rattle.axis.specs.Diff.{Way, way, below, above}
 use Rattle.octets.specs.Meaning.{hasRoom}
-use Rattle.scales.specs.Meaning.{bound, inSpan, Judged, given, gives, Outcome, refused, answer, outcome, dated, written}
+use Rattle.scales.specs.Meaning.{bound, inSpan, Judged, given, gives, Outcome, refused, answer, outcome, dated, written, Valued}
 use Rattle.scales.specs.Place.{apart, placed, and-both}
 use Rattle.scales.specs.declared.Scale.{Scale}
 use Rattle.scales.specs.declared.Scale.the-variants as S
 use Rattle.scales.specs.declared.Record.{Record}
-use Rattle.scales.specs.declared.Handed.{Handed}
-use Rattle.scales.specs.declared.Handed.the-variants as H
+use Rattle.handed.specs.declared.Handed.{Handed}
+use Rattle.handed.specs.declared.Handed.the-variants as H
 use Rattle.scales.specs.Order.{passed}
 use Rattle.calendar.specs.Meaning.{isDate, dateAt, walk, dayHanded, dateOfDay, dayOfDate}
 use Rattle.calendar.specs.Gregorian.{month-bounds}
@@ -29,15 +29,15 @@ use Rattle.calendar.specs.Dates.{Real, real-is}
 use Rattle.calendar.specs.Told.{counted}
 use Rattle.calendar.specs.declared.Date.{Date}
 use Rattle.calendar_laws.specs.Undo.{day-of-date}
-use Rattle.decimal.specs.Meaning.{dayMicros, scaleOf, isFinite, isInSpan, dayOf, microOf}
-use Rattle.decimal.proofs.Ways.{kept-decimal}
+use Rattle.handed.proofs.Ways.{kept-decimal}
+use Rattle.handed.specs.Meaning.{scaleOf, isFinite, isInSpan, dayOf, microOf}
 use Rattle.leap.specs.Meaning.{accepted, isExpiredDay, hasMicro}
-use Rattle.changes.specs.Meaning.{isUtc, momentIn}
+use Rattle.changes.specs.Meaning.{isUtc, momentIn, asked}
+use Rattle.changes.specs.Asked.{sound}
 use Rattle.text_read.specs.Meaning as R
-use Rattle.text_read.specs.Meaning.{listed, inLimits, isBody, hasMarks, stampIn, scaleIn, bodyIn, isPrefixed, isPlain, isPrefixRight, hasPrefix, prefixOf, momentOf, spans, datedIn, readText}
-use Rattle.text_read.specs.Judging.{sound}
+use Rattle.text_read.specs.Meaning.{inLimits, isBody, hasMarks, stampIn, scaleIn, bodyIn, isPrefixed, isPlain, isPrefixRight, hasPrefix, prefixOf, stampMoment, stampSpans, datedIn, readText}
 use Rattle.text_read.specs.declared.Stamp.{Stamp}
-use Rattle.text_write.specs.Meaning.{stampOf, textOf, hasMicros, showsScale, fullText, dateIn, imageOf, hasImage, imaging, writing, writeText}
+use Rattle.text_write.specs.Meaning.{stampOf, textOf, hasMicros, showsScale, fullText, imageOf, hasImage, imaging, writing, writeText}
 use Rattle.text_write.specs.declared.Form.{Form}
 use Rattle.text_write.specs.declared.Form.the-variants as F
 use Rattle.text_laws.specs.Digits.{Small, stamp-long, stamp-short}
@@ -63,7 +63,7 @@ module _ (t : Stamp) (w : Small t) where
   text-reads F.PrefixedMicros S.Gps m g = record { known = refl; prefix = refl; scale = refl; marks = refl; stamp = stamp-long t w }
 
 reading-is : (s : List ℕ) (z : Scale) (t : Stamp) → Reads s z t → inLimits z t ≡ true → isDate (t .date) ≡ true → (ds : List ℤ) (os : List ℕ) (e : ℤ)
-    → readText s ds os e ≡ datedIn z (outcome (listed z ds os e (spans z t) (momentOf t) (gives (momentOf t))))
+    → readText s ds os e ≡ datedIn z (outcome (asked z ds os e (stampSpans z t) (stampMoment t) (gives (stampMoment t))))
 unfolding readText isBody
 reading-is s z t r l d ds os e = rw (r .known, r .prefix, r .scale, r .marks, r .stamp, l, d)
 
@@ -86,10 +86,10 @@ module _ (t : Date) (u : ℕ) where
       go S.Tai h (above k) = absurd (omega arith)
       go S.Gps h (above k) = absurd (omega arith)
 
-  stamp-micro : u < 86401000000 → R.microOf (stampOf t u) ≡ u
+  stamp-micro : u < 86401000000 → R.stampMicro (stampOf t u) ≡ u
   stamp-micro h = go (way u dayMicros)
     where
-      go : Way u dayMicros → R.microOf (stampOf t u) ≡ u
+      go : Way u dayMicros → R.stampMicro (stampOf t u) ≡ u
       go (below k) = rw (lt-ltb u dayMicros k) (omega arith)
       go (above k) = rw (le-ltb u dayMicros k) (omega arith)
 
@@ -122,15 +122,15 @@ module _ (t : Date) (u : ℕ) where
 
 -- ---- the date of a day of a span
 record Dates (d : ℤ) : Type 0 where
-  real : Real (dateIn (dateOfDay d))
-  back : dayOfDate (dateIn (dateOfDay d)) ≡ dayHanded (answer d)
+  real : Real (dateOfDay d .value)
+  back : dayOfDate (dateOfDay d .value) ≡ dayHanded (answer d)
 
 dates : (z : Scale) (d : ℤ) (u : ℕ) → inSpan z d u ≡ true → Dates d
 dates z d u w =
     let p = placed z d u w in
     let q = date-within d (omega (arith, apart z .from, p .from)) (omega (arith, apart z .to, p .to)) in
     let t = dateAt (walk 1536 0 (placeOfDay d - 29773)) in
-    let k : t ≡ dateIn (dateOfDay d) = ap dateIn q in
+    let k : t ≡ dateOfDay d .value = ap (λ (x : Valued Date). x .value) q in
     let b = day-of-date d t (sym q) in
     record { real = subst Real k (counted t d b .rule); back = subst (λ (x : Date). dayOfDate x ≡ dayHanded (answer d)) k b }
 
@@ -149,10 +149,10 @@ or-false false b q f = q
 
 module _ (f : Form) (z : Scale) (d : ℤ) (u : ℕ) (w : inSpan z d u ≡ true) (i : hasImage f z u ≡ true) (ds : List ℤ) (os : List ℕ) (e : ℤ) where
   image-back : readText (imageOf f z (record { day = d; micro = u })) ds os e
-      ≡ datedIn z (outcome (listed z ds os e true (record { day = d; micro = u }) (gives (record { day = d; micro = u }))))
+      ≡ datedIn z (outcome (asked z ds os e true (record { day = d; micro = u }) (gives (record { day = d; micro = u }))))
   image-back =
       let x = dates z d u w in
-      let t = dateIn (dateOfDay d) in
+      let t = dateOfDay d .value in
       let g = stampOf t u in
       let under = placed z d u w .under in
       let h : u < 86401000000 = omega (arith, bound-most z) in
@@ -189,7 +189,7 @@ module _ (h : Handed) (f : Form) (ds : List ℤ) (os : List ℕ) (e : ℤ) (out 
       let j12 = imaging f z m out in
       let j10 : Judged (List ℕ) = given there 10 j12 in
       let j9 : Judged (List ℕ) = given known 9 j10 in
-      let p4 = passed (isFinite h) 4 (listed z ds os e (isInSpan h) m j12) x q in
+      let p4 = passed (isFinite h) 4 (asked z ds os e (isInSpan h) m j12) x q in
       let p5 = passed (not (isUtc z) || accepted ds os e) 5 (given (isInSpan h) 7 j9) x (p4 .1) in
       let p7 = passed (isInSpan h) 7 j9 x (p5 .1) in
       let p9 = passed known 9 j10 x (p7 .1) in
@@ -206,12 +206,12 @@ module _ (h : Handed) (f : Form) (ds : List ℤ) (os : List ℕ) (e : ℤ) (out 
 
   -- ---- what is written reads back as the same time under the same list
   pub read-back : IsF64 h → writeText h f ds os e out .number ≡ 0 →
-      let w = writeText h f ds os e out in readText (take (w .length) (w .bytes)) ds os e ≡ dated (scaleOf h) (answer (momentIn h))
+      let w = writeText h f ds os e out in readText (take (w .length) (w .lent)) ds os e ≡ dated (scaleOf h) (answer (momentIn h))
   unfolding writeText
   read-back d n = go (outcome (writing h f ds os e out)) refl n
     where
       go : (o : Outcome (List ℕ)) → outcome (writing h f ds os e out) ≡ o → written out o .number ≡ 0
-          → readText (take (written out o .length) (written out o .bytes)) ds os e ≡ dated (scaleOf h) (answer (momentIn h))
+          → readText (take (written out o .length) (written out o .lent)) ds os e ≡ dated (scaleOf h) (answer (momentIn h))
       go (refused n) q z = absurd (sound (writing h f ds os e out) refl (q ∙ ap refused z))
       go (answer x) q z =
           let k = made d x q in
@@ -219,5 +219,5 @@ module _ (h : Handed) (f : Form) (ds : List ℤ) (os : List ℕ) (e : ℤ) (out 
 
   -- "so nothing is written that reading would refuse"
   pub none-refused : IsF64 h → writeText h f ds os e out .number ≡ 0 →
-      let w = writeText h f ds os e out in readText (take (w .length) (w .bytes)) ds os e .number ≡ 0
+      let w = writeText h f ds os e out in readText (take (w .length) (w .lent)) ds os e .number ≡ 0
   none-refused d n = let k = read-back d n in λ i. k i .number

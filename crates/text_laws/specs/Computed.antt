@@ -8,8 +8,8 @@ use lib.IntN.{pos}
 use lib.ListN.{take, drop}
 use Rattle.scales.specs.Meaning.{Slip, Wrote, recordOf}
 use Rattle.scales.specs.declared.Scale.the-variants as S
-use Rattle.scales.specs.declared.Handed.{Handed}
-use Rattle.scales.specs.declared.Handed.the-variants as H
+use Rattle.handed.specs.declared.Handed.{Handed}
+use Rattle.handed.specs.declared.Handed.the-variants as H
 use Rattle.calendar.specs.Meaning.{leap, monthLength, lengthOf, firstDay, isDate, dayAfter, daysTo, walk, dayOfDate, dateOfDay}
 use Rattle.leap.specs.Meaning.{isStep, publishedDays, publishedOffsets, publishedLast}
 use Rattle.leap.specs.Published.{published}
@@ -42,17 +42,17 @@ blank = 0 ∷ 0 ∷ 0 ∷ 0 ∷ 0 ∷ 0 ∷ 0 ∷ 0 ∷ 0 ∷ 0 ∷ 0 ∷ 0 ∷ 
 abbrev pub leapSecond : Handed
 leapSecond = H.Record (recordOf S.Utc (pos 6209) 86400000000)
 
-abbrev pub writes : Handed → Form → Wrote
+abbrev pub writes : Handed → Form → Wrote ℕ
 writes h f = writeText h f publishedDays publishedOffsets publishedLast blank
 
-pub write-sixty : writes leapSecond F.PrefixedMicros ≡ record { number = 0; length = 31; bytes = sixty }
+pub write-sixty : writes leapSecond F.PrefixedMicros ≡ record { number = 0; length = 31; lent = sixty }
 unfolding writeText textOf prefixOf letter names dateOfDay daysTo dayAfter walk firstDay lengthOf monthLength leap isStep
 write-sixty = rw published
 
-pub sixty-back : let w = writes leapSecond F.PrefixedMicros in reads (take (w .length) (w .bytes)) ≡ answered S.Utc (pos 6209) 86400000000
+pub sixty-back : let w = writes leapSecond F.PrefixedMicros in reads (take (w .length) (w .lent)) ≡ answered S.Utc (pos 6209) 86400000000
 sixty-back = read-back leapSecond F.PrefixedMicros publishedDays publishedOffsets publishedLast blank (lit≤ tt) (λ i. write-sixty i .number)
 
-pub sixty-not-refused : let w = writes leapSecond F.PrefixedMicros in reads (take (w .length) (w .bytes)) .number ≡ 0
+pub sixty-not-refused : let w = writes leapSecond F.PrefixedMicros in reads (take (w .length) (w .lent)) .number ≡ 0
 sixty-not-refused = none-refused leapSecond F.PrefixedMicros publishedDays publishedOffsets publishedLast blank (lit≤ tt) (λ i. write-sixty i .number)
 
 -- under a list that ends on that very day it was read the same, and a list that extends it keeps the answer
@@ -63,7 +63,7 @@ read-early = rw published-6209
 pub sixty-again : reads sixty ≡ readText sixty publishedDays publishedOffsets (pos 6209)
 sixty-again = published-again .read sixty (λ q. let z : _≡_ {A = ℕ} 0 9 = (λ i. sym read-early i .number) ∙ q in omega arith)
 
-pub write-early : writeText leapSecond F.PrefixedMicros publishedDays publishedOffsets (pos 6209) blank ≡ record { number = 0; length = 31; bytes = sixty }
+pub write-early : writeText leapSecond F.PrefixedMicros publishedDays publishedOffsets (pos 6209) blank ≡ record { number = 0; length = 31; lent = sixty }
 unfolding writeText textOf prefixOf letter names dateOfDay daysTo dayAfter walk firstDay lengthOf monthLength leap isStep
 write-early = rw published-6209
 

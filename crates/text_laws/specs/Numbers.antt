@@ -4,7 +4,7 @@ use mathlib.Core.List.{List, [], _∷_}
 use Prim.Native.Nat.{ℕ}
 use lib.IntN.{ℤ}
 use Rattle.scales.specs.Meaning.{numbers}
-use Rattle.scales.specs.declared.Handed.{Handed}
+use Rattle.handed.specs.declared.Handed.{Handed}
 use Rattle.text_read.specs.Meaning.{reading}
 use Rattle.text_write.specs.Meaning.{writing}
 use Rattle.text_write.specs.declared.Form.{Form}

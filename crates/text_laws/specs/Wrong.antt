@@ -9,10 +9,10 @@ use lib.IntN.{pos, negsuc, natAbs}
 use Rattle.evidence.specs.ShutOut.{ShutOut, differ}
 use Rattle.scales.specs.Meaning.{codeOf, given, outcome, Slip, dated, Wrote, written, recordOf}
 use Rattle.scales.specs.declared.Scale.the-variants as S
-use Rattle.scales.specs.declared.Handed.{Handed}
-use Rattle.scales.specs.declared.Handed.the-variants as H
+use Rattle.handed.specs.declared.Handed.{Handed}
+use Rattle.handed.specs.declared.Handed.the-variants as H
 use Rattle.calendar.specs.Meaning.{leap, monthLength, lengthOf, firstDay, isDate, dayAfter, daysTo, walk, dayOfDate, dateOfDay}
-use Rattle.decimal.specs.Meaning.{scaleOf, dayOf, microOf}
+use Rattle.handed.specs.Meaning.{scaleOf, dayOf, microOf}
 use Rattle.leap.specs.Meaning.{accepted, publishedDays, publishedOffsets, publishedLast}
 use Rattle.leap.specs.Published.{published}
 use Rattle.text_read.specs.Meaning.{digitOf, twoOf, fourOf, names, letter, isNamed, seek, monthOf, hasMarks, microIn, stampIn, inLimits, prefixOf, hasPrefix, scaleIn, bodyIn, isPrefixRight, isBody, reading, readText}
@@ -91,7 +91,7 @@ day-zero = (refl, refl, differ (λ (t : Slip). natAbs (t .day)) (λ e. omega ari
 abbrev fives : List ℕ
 fives = 5 ∷ 5 ∷ 5 ∷ 5 ∷ 5 ∷ 5 ∷ 5 ∷ 5 ∷ 5 ∷ 5 ∷ 5 ∷ 5 ∷ 5 ∷ 5 ∷ 5 ∷ 5 ∷ 5 ∷ 5 ∷ 5 ∷ 5 ∷ 5 ∷ 5 ∷ 5 ∷ 5 ∷ []
 
-abbrev firstWritten : Wrote
+abbrev firstWritten : Wrote ℕ
 firstWritten = writeText (H.Record (recordOf S.Tai (negsuc 10226) 0)) F.Prefixed [] [] (pos 0) fives
 
 pub writes-nothing : ShutOut firstWritten (got 24 firstTai) (writesNothing fives firstWritten) (got 24 fives)
@@ -100,10 +100,10 @@ writes-nothing = (refl, refl, differ (bytesAt 0) (λ e. omega arith))
 
 pub made-up-length : ShutOut firstWritten (got 24 firstTai) (madeUp firstWritten) (got 26 firstTai)
 unfolding writeText textOf prefixOf letter names dateOfDay daysTo dayAfter walk firstDay lengthOf monthLength leap
-made-up-length = (refl, refl, differ (λ (w : Wrote). w .length) (λ e. omega arith))
+made-up-length = (refl, refl, differ (λ (w : Wrote ℕ). w .length) (λ e. omega arith))
 
 -- a TAI time handed to an unprefixed form and written as if it were UTC
-abbrev pub asUtc : Handed → Form → Wrote
+abbrev pub asUtc : Handed → Form → Wrote ℕ
 asUtc h f = writes (H.Record (recordOf S.Utc (dayOf h) (microOf h))) f
 
 written-utc : asUtc (H.Record (recordOf S.Tai (pos 0) 0)) F.Plain .number ≡ 0
@@ -115,7 +115,7 @@ unfolding writeText
 tai-as-utc = (refl, written-utc, λ q. let z : _≡_ {A = ℕ} 12 0 = q ∙ written-utc in omega arith)
 
 -- the form judged before the span
-abbrev pub formFirst : Handed → Form → Wrote
+abbrev pub formFirst : Handed → Form → Wrote ℕ
 formFirst h f =
     written blank (outcome (given (hasImage f (scaleOf h) (microOf h)) 12 (writing h f publishedDays publishedOffsets publishedLast blank)))
 

@@ -4,20 +4,20 @@ use mathlib.Core.Bool.{Bool, true, false, not}
 use mathlib.Core.List.{List}
 use Prim.Native.Nat.{ℕ}
 use lib.IntN.{ℤ, _+ℤ_}
-use Rattle.scales.specs.Meaning.{andThen, inSpan, Judged, given, gives, Outcome, refused, outcome, Moment, dated, numberOf, momentAt, timeScale, timeCount}
+use Rattle.axis.specs.Meaning.{Moment, since}
+use Rattle.scales.specs.Meaning.{andThen, inSpan, Judged, given, gives, Outcome, refused, outcome, dated, numberOf, momentAt, timeScale, timeCount}
 use Rattle.scales.specs.Order.{onward, then-is}
 use Rattle.scales.specs.declared.Scale.{Scale}
 use Rattle.scales.specs.declared.Scale.the-variants as S
 use Rattle.scales.specs.declared.Time.{Time}
 use Rattle.scales.specs.declared.Refusal.{Refusal}
-use Rattle.decimal.specs.Meaning.{since}
-use Rattle.decimal.specs.declared.Taken.{Taken}
-use Rattle.decimal.specs.declared.Taken.the-variants as K
+use Rattle.handed.specs.declared.Taken.{Taken}
+use Rattle.handed.specs.declared.Taken.the-variants as K
 use Rattle.leap.specs.Meaning.{seconds, accepted, taiOf, hasMicro, isExpiredDay}
-use Rattle.changes.specs.Meaning.{ofCount, settled, moving}
-use Rattle.text_read.specs.Meaning.{scaleIn, reading, readingIn, listed}
-use Rattle.text_read.specs.Stage.{takenScale, taking, ParsesText}
-use Rattle.text_read.specs.Judging.{list-passes}
+use Rattle.changes.specs.Meaning.{ofCount, settled, moving, asked}
+use Rattle.changes.specs.Asked.{takenScale, takenAsked, list-passes}
+use Rattle.text_read.specs.Meaning.{scaleIn, reading, readingIn}
+use Rattle.text_read.specs.Stage.{ParsesText}
 use Rattle.text_read.specs.declared.Parsed.{Parsed}
 use Rattle.text_read.specs.declared.Parsed.the-variants as P
 
@@ -27,7 +27,7 @@ module _ (to : Scale) (ds : List ℤ) (os : List ℕ) (e : ℤ) where
 
   -- of a time that was taken from a text
   abbrev pub timeIn : Taken → Judged Moment
-  timeIn t = andThen (taking t ds os e) (into (takenScale t))
+  timeIn t = andThen (takenAsked t ds os e) (into (takenScale t))
 
   module _ (w : accepted ds os e ≡ true) where
     pub in-outside : (z : Scale) → dated to (refused 7) ≡ dated to (outcome (timeIn (K.Outside z)))
@@ -45,7 +45,7 @@ module _ (to : Scale) (ds : List ℤ) (os : List ℕ) (e : ℤ) where
     again true k = refl
     again false k = refl
 
-    twice : (z : Scale) (m : Moment) → outcome (into z m) ≡ outcome (andThen (listed z ds os e (inSpan z (m .day) (m .micro)) m (gives m)) (into z))
+    twice : (z : Scale) (m : Moment) → outcome (into z m) ≡ outcome (andThen (asked z ds os e (inSpan z (m .day) (m .micro)) m (gives m)) (into z))
     twice S.Tai m = again (inSpan S.Tai (m .day) (m .micro)) (settled S.Tai to ds os e m (since (m .day) (m .micro)))
     twice S.Utc m =
         once (inSpan S.Utc (m .day) (m .micro)) (not (isExpiredDay e (m .day))) (hasMicro ds (m .day) (m .micro)) (settled S.Utc to ds os e m (taiOf ds os (m .day) (m .micro)))
@@ -67,6 +67,6 @@ module _ (to : Scale) (ds : List ℤ) (os : List ℕ) (e : ℤ) where
     in-parsed t q =
         let x = subst (ParsesText s) q p .is in
         ap (dated to)
-        (then-is (taking t ds os e) (into (takenScale t))
+        (then-is (takenAsked t ds os e) (into (takenScale t))
         ∙ ap₂ (λ (z : Scale) (o : Outcome Moment). onward (into z) o) (x .0) (x .1 ds os e)
         ∙ sym (then-is (reading s ds os e) (into (scaleIn s))))

@@ -1,7 +1,6 @@
 pub mod Meaning
 pub mod Stage
 pub mod Months
-pub mod Judging
 pub mod Parse
 pub mod Ways
 pub mod In

@@ -6,12 +6,13 @@ use Prim.Native.Nat.{ℕ, zero, suc, _+_, _-_, _*_}
 use lib.Dec.{eqb, leb, ltb}
 use lib.IntN.{ℤ}
 use lib.ListN.{length, getD, drop}
-use Rattle.scales.specs.Meaning.{andThen, inSpan, Judged, given, gives, Outcome, refused, answer, outcome, Slip, Moment, dated}
+use Rattle.axis.specs.Meaning.{Moment}
+use Rattle.scales.specs.Meaning.{andThen, inSpan, Judged, given, gives, Outcome, refused, answer, outcome, Slip, dated}
 use Rattle.scales.specs.declared.Scale.{Scale}
 use Rattle.scales.specs.declared.Scale.the-variants as S
 use Rattle.calendar.specs.Meaning.{isDate, dayOfDate}
 use Rattle.leap.specs.Meaning.{accepted, hasMicro, isExpiredDay}
-use Rattle.changes.specs.Meaning.{isUtc, moving}
+use Rattle.changes.specs.Meaning.{isUtc, moving, asked}
 use Rattle.text_read.specs.declared.Stamp.{Stamp}
 
 -- ---- the numbers that digits write; a byte that is no digit leads over every limit
@@ -117,28 +118,19 @@ unfoldable pub isBody : Scale → List ℕ → Bool
 isBody z s = hasMarks s && (inLimits z (stampIn s) && isDate (stampIn s .date))
 
 -- ---- the day and the microsecond of day that the fields stand for
-abbrev pub microOf : Stamp → ℕ
-microOf t = ((t .hour * 60 + t .minute) * 60 + t .second) * 1000000 + t .micro
+abbrev pub stampMicro : Stamp → ℕ
+stampMicro t = ((t .hour * 60 + t .minute) * 60 + t .second) * 1000000 + t .micro
 
-abbrev pub momentOf : Stamp → Moment
-momentOf t = record { day = dayOfDate (t .date) .day; micro = microOf t }
+abbrev pub stampMoment : Stamp → Moment
+stampMoment t = record { day = dayOfDate (t .date) .value; micro = stampMicro t }
 
 -- "a real date outside the span gets 7": one outside the calendar's has no day
-abbrev pub spans : Scale → Stamp → Bool
-spans z t = eqb (dayOfDate (t .date) .number) 0 && inSpan z (momentOf t .day) (momentOf t .micro)
-
--- ---- "Reading and writing UTC text both apply the leap list": what is judged of a time of scale z; `inside` says whether it lies in its span
-abbrev pub listed : {A : Type 0} → Scale → List ℤ → List ℕ → ℤ → Bool → Moment → Judged A → Judged A
-listed z ds os e inside m rest =
-    given (not (isUtc z) || accepted ds os e) 5
-    (given inside 7
-    (given (not (isUtc z) || not (isExpiredDay e (m .day))) 9
-    (given (not (isUtc z) || hasMicro ds (m .day) (m .micro)) 10
-    rest)))
+abbrev pub stampSpans : Scale → Stamp → Bool
+stampSpans z t = eqb (dayOfDate (t .date) .number) 0 && inSpan z (stampMoment t .day) (stampMoment t .micro)
 
 -- ---- reading
 abbrev pub readingBody : Scale → List ℕ → List ℤ → List ℕ → ℤ → Judged Moment
-readingBody z s ds os e = listed z ds os e (spans z (stampIn s)) (momentOf (stampIn s)) (gives (momentOf (stampIn s)))
+readingBody z s ds os e = asked z ds os e (stampSpans z (stampIn s)) (stampMoment (stampIn s)) (gives (stampMoment (stampIn s)))
 
 abbrev pub reading : List ℕ → List ℤ → List ℕ → ℤ → Judged Moment
 reading s ds os e =

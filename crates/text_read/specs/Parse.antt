@@ -8,22 +8,23 @@ use lib.Dec.{eqb, leb, ltb}
 use lib.IntN.{ℤ}
 use lib.ListN.{drop}
 use borrow.Author.Tests.{eqb-true, leb-true, ltb-true, ne-eqb}
-use Rattle.scales.specs.Meaning.{Judged, refused, answer, outcome, Moment, recordOf}
+use Rattle.axis.specs.Meaning.{Moment}
+use Rattle.scales.specs.Meaning.{Judged, refused, answer, outcome, recordOf}
 use Rattle.scales.specs.Place.{and-false, and-both}
 use Rattle.scales.specs.declared.Scale.{Scale}
 use Rattle.scales.specs.declared.Scale.the-variants as S
 use Rattle.scales.specs.declared.Refusal.the-variants as R
-use Rattle.scales.specs.declared.Handed.the-variants as H
+use Rattle.handed.specs.declared.Handed.the-variants as H
 use Rattle.calendar.specs.Meaning.{isDate, dayAfter, dayHanded, dayOfDate}
 use Rattle.calendar.specs.Days.{daysToDate}
 use Rattle.calendar.specs.declared.Date.{Date}
-use Rattle.decimal.specs.Meaning.{Took}
-use Rattle.decimal.specs.declared.Taken.{Taken}
-use Rattle.decimal.specs.declared.Taken.the-variants as K
+use Rattle.handed.specs.declared.Taken.{Taken}
+use Rattle.handed.specs.declared.Taken.the-variants as K
+use Rattle.handed.specs.Meaning.{Took}
 use Rattle.changes.specs.Meaning.{isUtc}
-use Rattle.text_read.specs.Meaning.{hasMarks, stampIn, inLimits, isBody, isPrefixed, isPlain, hasPrefix, prefixScale, scaleIn, bodyIn, isPrefixRight, microOf, reading}
+use Rattle.changes.specs.Asked.{took-is, took-scale}
+use Rattle.text_read.specs.Meaning.{hasMarks, stampIn, inLimits, isBody, isPrefixed, isPlain, hasPrefix, prefixScale, scaleIn, bodyIn, isPrefixRight, stampMicro, reading}
 use Rattle.text_read.specs.Stage.{Parses, bodyChain, ParsesBody, ParsesText}
-use Rattle.text_read.specs.Judging.{took-is, took-scale}
 use Rattle.text_read.specs.declared.Stamp.{Stamp}
 use Rattle.text_read.specs.declared.Parsed.{Parsed}
 use Rattle.text_read.specs.declared.Parsed.the-variants as P
@@ -114,9 +115,9 @@ module _ (z : Scale) (s : List ℕ) where
     pub body-outside : (dayOfDate date .number ≡ 3 → ⊥) → (dayOfDate date .number ≡ 0 → ⊥) → ParsesBody z s (P.Time (K.Outside z))
     body-outside q r = record { is = (refl, λ ds os e. sym (rw (is-body q, ne-eqb (dayOfDate date .number) 0 r))) }
 
-    pub body-at : (d : ℤ) → dayHanded (answer d) ≡ dayOfDate date → (t : Taken) → Took (H.Record (recordOf z d (microOf (stampIn s)))) t → ParsesBody z s (P.Time t)
+    pub body-at : (d : ℤ) → dayHanded (answer d) ≡ dayOfDate date → (t : Taken) → Took (H.Record (recordOf z d (stampMicro (stampIn s)))) t → ParsesBody z s (P.Time t)
     body-at d q t w =
-        let r = H.Record (recordOf z d (microOf (stampIn s))) in
+        let r = H.Record (recordOf z d (stampMicro (stampIn s))) in
         let n : dayOfDate date .number ≡ 0 = λ i. sym q i .number in
         record {
           is = (

@@ -4,34 +4,22 @@ use mathlib.Core.Bool.{Bool, true, false, not, _||_, _&&_, false≢true}
 use mathlib.Core.List.{List}
 use Prim.Native.Nat.{ℕ}
 use lib.IntN.{ℤ}
-use Rattle.scales.specs.Meaning.{Outcome, refused, answer, outcome, Moment, dated, numberOf, slip}
+use Rattle.axis.specs.Meaning.{Moment}
+use Rattle.scales.specs.Meaning.{Outcome, refused, answer, outcome, dated, numberOf, slip}
 use Rattle.scales.specs.declared.Scale.{Scale}
 use Rattle.scales.specs.declared.Scale.the-variants as S
 use Rattle.scales.specs.declared.Time.{Time}
 use Rattle.scales.specs.declared.Record.{Record}
 use Rattle.scales.specs.declared.Refusal.{Refusal}
 use Rattle.scales.specs.declared.Dated.the-variants as D
-use Rattle.decimal.specs.declared.Taken.{Taken}
+use Rattle.handed.specs.declared.Taken.{Taken}
 use Rattle.leap.specs.Meaning.{accepted}
-use Rattle.changes.specs.Meaning.{isUtc, usesList}
+use Rattle.changes.specs.Meaning.{isUtc, changeUsesList}
+use Rattle.changes.specs.Asked.{takenScale, timeUsesList, takenAsked, list-lacks, slip-refused, lacking}
 use Rattle.text_read.specs.Meaning.{datedIn, scaleIn, readText}
-use Rattle.text_read.specs.Stage.{takenScale, usesIn, taking, ParsesText}
-use Rattle.text_read.specs.Judging.{list-lacks, slip-refused}
+use Rattle.text_read.specs.Stage.{ParsesText}
 use Rattle.text_read.specs.declared.Parsed.{Parsed}
 use Rattle.text_read.specs.declared.Parsed.the-variants as P
-
--- a change to the same scale uses a list where the scale does
-pub uses-same : (z y : Scale) → y ≡ z → usesList z y ≡ true → isUtc z ≡ true
-uses-same z y p q = go (isUtc z) (ap (λ (x : Scale). isUtc z || isUtc x) (sym p) ∙ q)
-  where
-    go : (b : Bool) → (b || b) ≡ true → b ≡ true
-    go true e = refl
-    go false e = e
-
-pub lacking : (u a : Bool) → (u && not a) ≡ true → (u ≡ true) × (a ≡ false)
-lacking true true e = absurd (false≢true e)
-lacking true false e = (refl, refl)
-lacking false a e = absurd (false≢true e)
 
 -- ---- reading: an answer keeps its scale, a refusal gives TAI's empty record
 module _ (z : Scale) (o : Outcome Moment) where
@@ -50,11 +38,11 @@ module _ (s : List ℕ) (ds : List ℤ) (os : List ℕ) (e : ℤ) (r : Parsed) (
   unfolding readText
   read-refused f q = ap (datedIn (scaleIn s)) (subst (ParsesText s) q w .is ds os e)
 
-  pub read-parsed : (t : Taken) → r ≡ P.Time t → datedIn (takenScale t) (outcome (taking t ds os e)) ≡ readText s ds os e
+  pub read-parsed : (t : Taken) → r ≡ P.Time t → datedIn (takenScale t) (outcome (takenAsked t ds os e)) ≡ readText s ds os e
   unfolding readText
   read-parsed t q = let x = subst (ParsesText s) q w in ap₂ datedIn (x .is .0) (x .is .1 ds os e)
 
-  pub read-lacks : (t : Taken) → r ≡ P.Time t → (usesIn t && not (accepted ds os e)) ≡ true → dated S.Tai (refused 5) ≡ readText s ds os e
+  pub read-lacks : (t : Taken) → r ≡ P.Time t → (timeUsesList t && not (accepted ds os e)) ≡ true → dated S.Tai (refused 5) ≡ readText s ds os e
   read-lacks t q l =
-      let x = lacking (usesIn t) (accepted ds os e) l in
+      let x = lacking (timeUsesList t) (accepted ds os e) l in
       ap (datedIn (takenScale t)) (sym (list-lacks ds os e t (x .0) (x .1))) ∙ read-parsed t q

@@ -4,11 +4,11 @@ ghost use mathlib.Core.Bool.{true, _||_};
 ghost use Prim.Native.Nat.{_≤_, _<_};
 ghost use lib.Dec.{eqb};
 ghost use lib.ListN.{length};
-ghost use Rattle.text_read.specs.Meaning.{digitOf, twoOf, fourOf, sixOf, names, isNamed, monthOf, hasMarks, microIn, stampIn, inLimits, hasPrefix, prefixScale, microOf};
-use super::Stamp;
-use super::inner;
+ghost use Rattle.text_read.specs.Meaning.{digitOf, twoOf, fourOf, sixOf, names, isNamed, monthOf, hasMarks, microIn, stampIn, inLimits, hasPrefix, prefixScale, stampMicro};
 use calendar::Date;
 use scales::Scale;
+use super::Stamp;
+use super::inner;
 
 fn digit(b: u8) -> u64
     ensures { λ r. ⌜ r ≡ digitOf b ⌝ }
@@ -174,13 +174,13 @@ pub fn in_limits(z: Scale, t: Stamp) -> bool
     if m != 59 {
         return false;
     }
-    inner::is_utc(z)
+    changes::inner::is_utc(z)
 }
 
 // The microsecond of day.
 pub fn micro_of(t: Stamp) -> u64
     requires { ⌜ (t .hour < 100) × (t .minute < 100) × (t .second < 100) × (t .micro < 1000000) ⌝ }
-    ensures { λ r. ⌜ r ≡ microOf t ⌝ }
+    ensures { λ r. ⌜ r ≡ stampMicro t ⌝ }
 {
     ((t.hour * 60 + t.minute) * 60 + t.second) * 1_000_000 + t.micro
 }

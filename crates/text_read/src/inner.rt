@@ -6,18 +6,19 @@ ghost use lib.ListN.{length};
 ghost use Rattle.scales.specs.Meaning.{slip, outcome, dated};
 ghost use Rattle.leap.specs.Meaning.{accepted};
 ghost use Rattle.changes.specs.Meaning.{isUtc};
+ghost use Rattle.changes.specs.Asked.{timeUsesList, lacksList, takenScale, takenAsked};
 ghost use Rattle.text_read.specs.Meaning.{names, prefixOf, readingIn, datedIn};
 ghost use Rattle.text_read.specs.In.{timeIn};
-ghost use Rattle.text_read.specs.Stage.{usesIn, lacksList, takenScale, taking, ParsesBody, ParsesText};
-use super::Parsed;
-use super::columns;
+ghost use Rattle.text_read.specs.Stage.{ParsesBody, ParsesText};
 use calendar::DayAnswer;
-use decimal::Taken;
+use handed::Handed;
+use handed::Taken;
 use scales::Dated;
-use scales::Handed;
 use scales::Record;
 use scales::Refusal;
 use scales::Scale;
+use super::Parsed;
+use super::columns;
 
 // ---- the names, as both ways spell them
 
@@ -77,13 +78,6 @@ pub fn prefix(z: Scale) -> [u8; 4]
     }
 }
 
-pub fn is_utc(z: Scale) -> bool
-    ensures { λ r. ⌜ r ≡ isUtc z ⌝ }
-{
-    let utc = Scale::Utc.code();
-    z.code() == utc
-}
-
 // ---- what a text stands for
 
 // The text without its prefix, in a scale.
@@ -102,7 +96,7 @@ fn parse_body(z: Scale, s: &[u8]) -> Parsed
     match calendar::day_of(date) {
         DayAnswer::Day(day) => {
             let r = Record::new(z, day, columns::micro_of(t));
-            Parsed::Time(decimal::take(Handed::Record(r)))
+            Parsed::Time(handed::take(Handed::Record(r)))
         }
         DayAnswer::Refused(f) => {
             if f.number() == 3 {
@@ -130,49 +124,14 @@ pub(crate) fn parse(text: &[u8]) -> Parsed
     Parsed::Refused(Refusal::LengthIsNone)
 }
 
-// ---- what both ways judge of a time
-
-// Is a leap list used for this time?
-pub fn uses_list(t: Taken) -> bool
-    ensures { λ r. ⌜ r ≡ usesIn t ⌝ }
-{
-    match t {
-        Taken::NotFinite(_) => false,
-        Taken::Outside(z) => is_utc(z),
-        Taken::At(n) => is_utc(n.scale()),
-    }
-}
-
-// The time itself, after the refusals that its scale brings.
-pub fn judge(t: Taken, days: &[i64], offsets: &[u64], last: i64) -> Dated
-    requires { ⌜ (usesIn t ≡ true → accepted (now days) (now offsets) last ≡ true) ⌝ }
-    ensures { λ r. ⌜ slip r ≡ dated (takenScale t) (outcome (taking t (now (days .entry)) (now (offsets .entry)) last)) ⌝ }
-{
-    match t {
-        Taken::NotFinite(z) => Dated::Refused(Refusal::DecimalNotFinite, z),
-        Taken::Outside(z) => Dated::Refused(Refusal::OutsideSpan, z),
-        Taken::At(n) => changes::inner::change(n, n.scale(), days, offsets, last),
-    }
-}
-
-// Is a list used that is not accepted?
-pub fn lacks_list(t: Taken, days: &[i64], offsets: &[u64], last: i64) -> bool
-    ensures { λ r. ⌜ r ≡ lacksList t (now (days .entry)) (now (offsets .entry)) last ⌝ }
-{
-    if !uses_list(t) {
-        return false;
-    }
-    !leap::is_accepted(days, offsets, last)
-}
-
 // ---- reading
 
 // A refused reading gives the empty TAI record.
 pub fn read_time(t: Taken, days: &[i64], offsets: &[u64], last: i64) -> Dated
-    requires { ⌜ (usesIn t ≡ true → accepted (now days) (now offsets) last ≡ true) ⌝ }
-    ensures { λ r. ⌜ slip r ≡ datedIn (takenScale t) (outcome (taking t (now (days .entry)) (now (offsets .entry)) last)) ⌝ }
+    requires { ⌜ (timeUsesList t ≡ true → accepted (now days) (now offsets) last ≡ true) ⌝ }
+    ensures { λ r. ⌜ slip r ≡ datedIn (takenScale t) (outcome (takenAsked t (now (days .entry)) (now (offsets .entry)) last)) ⌝ }
 {
-    match judge(t, days, offsets, last) {
+    match changes::inner::judge(t, days, offsets, last) {
         Dated::At(r) => Dated::At(r),
         Dated::Refused(f, _) => Dated::Refused(f, Scale::Tai),
     }

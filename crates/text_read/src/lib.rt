@@ -3,7 +3,7 @@ ghost use mathlib.Core.Path.{_≡_};
 ghost use Rattle.scales.specs.Meaning.{slip};
 ghost use Rattle.text_read.specs.Meaning.{readText};
 use calendar::Date;
-use decimal::Taken;
+use handed::Taken;
 use scales::Dated;
 use scales::Refusal;
 use scales::Scale;
@@ -33,7 +33,8 @@ pub fn read(text: &[u8], days: &[i64], offsets: &[u64], last: i64) -> Dated
     match inner::parse(text) {
         Parsed::Refused(f) => Dated::Refused(f, Scale::Tai),
         Parsed::Time(t) => {
-            if inner::lacks_list(t, days, offsets, last) {
+            let used = changes::inner::time_uses_list(t);
+            if changes::inner::lacks_list(used, days, offsets, last) {
                 return Dated::Refused(Refusal::ListNotAccepted, Scale::Tai);
             }
             inner::read_time(t, days, offsets, last)

@@ -10,7 +10,7 @@ use borrow.Author.Tests.{le-leb, lt-leb, leb-true, leb-false}
 use Rattle.octets.specs.Meaning.{hasRoom, onto}
 use Rattle.octets.specs.Place.{onto-none, rest-room, rest-none, rest-front}
 use Rattle.scales.specs.Meaning.{wrote}
-use Rattle.scales.specs.Same.{refusals, some}
+use Rattle.scales.specs.Same.{refusals, no-zero}
 use Rattle.scales.specs.declared.Scale.{Scale}
 use Rattle.scales.specs.declared.Scale.the-variants as S
 use Rattle.scales.specs.declared.Refusal.{Refusal}
@@ -34,26 +34,26 @@ module _ (image out : List ℕ) where
   pub record Put (n : ℕ) (left : List ℕ) : Type 0 where
     pub room : hasRoom image out ≡ true
     pub size : n ≡ length image
-    pub bytes : left ≡ onto image out
+    pub lent : left ≡ onto image out
 
   pub put-bytes : (n : ℕ) (left : List ℕ) → wrote (W.Bytes n) left ≡ putting image out → Put n left
   put-bytes n left q = go (hasRoom image out) refl
     where
       go : (b : Bool) → hasRoom image out ≡ b → Put n left
-      go true e = let p = q ∙ sym (put-done e) in record { room = e; size = λ i. p i .length; bytes = λ i. p i .bytes }
+      go true e = let p = q ∙ sym (put-done e) in record { room = e; size = λ i. p i .length; lent = λ i. p i .lent }
       go false e = absurd (let p = q ∙ sym (put-none e) in let z : _≡_ {A = ℕ} 0 13 = λ i. p i .number in omega arith)
 
   pub record Kept (f : Refusal) (left : List ℕ) : Type 0 where
     pub room : hasRoom image out ≡ false
     pub why : f ≡ R.OutputShorter
-    pub bytes : left ≡ onto image out
+    pub lent : left ≡ onto image out
 
   pub put-refused : (f : Refusal) (left : List ℕ) → wrote (W.Refused f) left ≡ putting image out → Kept f left
   put-refused f left q = go (hasRoom image out) refl
     where
       go : (b : Bool) → hasRoom image out ≡ b → Kept f left
-      go true e = absurd (let p = q ∙ sym (put-done e) in some f (λ i. p i .number))
-      go false e = let p = q ∙ sym (put-none e) in record { room = e; why = refusals f R.OutputShorter (λ i. p i .number); bytes = λ i. p i .bytes }
+      go true e = absurd (let p = q ∙ sym (put-done e) in no-zero f (λ i. p i .number))
+      go false e = let p = q ∙ sym (put-none e) in record { room = e; why = refusals f R.OutputShorter (λ i. p i .number); lent = λ i. p i .lent }
 
 -- ---- a prefix of four bytes
 pub prefix-length : (z : Scale) → length (prefixOf z) ≡ 4
@@ -80,7 +80,7 @@ module _ (z : Scale) (body out : List ℕ) where
     prefix-none f q =
         let k = put-refused body (drop 4 out) f left q in
         let m : length out < 4 + length body = leb-false (4 + length body) (length out) (sym (rest-room 4 (length body) out h) ∙ k .room) in
-        rw (k .why, k .bytes, rest-none 4 body out h m) (none m)
+        rw (k .why, k .lent, rest-none 4 body out h m) (none m)
 
     -- the rest was filled, and then the prefix
     pub prefix-done : (n : ℕ) → wrote (W.Bytes n) left ≡ putting body (drop 4 out)
@@ -89,7 +89,7 @@ module _ (z : Scale) (body out : List ℕ) where
         let k = put-bytes body (drop 4 out) n left q in
         let m : 4 + length body ≤ length out = leb-true (4 + length body) (length out) (sym (rest-room 4 (length body) out h) ∙ k .room) in
         let l : n + 4 ≡ length (prefixOf z ++ body) = omega (arith, size, k .size) in
-        rw (l, k .bytes, rest-front 4 (prefixOf z) body out (prefix-length z) m)
+        rw (l, k .lent, rest-front 4 (prefixOf z) body out (prefix-length z) m)
         (put-done (prefixOf z ++ body) out (le-leb (length (prefixOf z ++ body)) (length out) (omega (arith, size))))
 
     pub rest-small : (n : ℕ) → wrote (W.Bytes n) left ≡ putting body (drop 4 out) → n ≡ length body

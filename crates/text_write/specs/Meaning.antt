@@ -6,15 +6,16 @@ use Prim.Native.Nat.{ℕ, _+_, _/_, _%_}
 use lib.Dec.{eqb, ltb}
 use lib.IntN.{ℤ}
 use lib.ListN.{take}
+use Rattle.axis.specs.Meaning.{Moment, dayMicros}
 use Rattle.octets.specs.Meaning.{hasRoom}
-use Rattle.scales.specs.Meaning.{Judged, given, gives, outcome, Moment, Wrote, written}
+use Rattle.scales.specs.Meaning.{Judged, given, gives, outcome, Wrote, written}
 use Rattle.scales.specs.declared.Scale.{Scale}
-use Rattle.scales.specs.declared.Handed.{Handed}
-use Rattle.calendar.specs.Meaning.{DateSlip, dateOfDay}
+use Rattle.handed.specs.declared.Handed.{Handed}
+use Rattle.calendar.specs.Meaning.{dateOfDay}
 use Rattle.calendar.specs.declared.Date.{Date}
-use Rattle.decimal.specs.Meaning.{dayMicros, scaleOf, isFinite, isInSpan}
-use Rattle.changes.specs.Meaning.{isUtc, momentIn}
-use Rattle.text_read.specs.Meaning.{letter, prefixOf, listed}
+use Rattle.handed.specs.Meaning.{scaleOf, isFinite, isInSpan}
+use Rattle.changes.specs.Meaning.{isUtc, momentIn, asked}
+use Rattle.text_read.specs.Meaning.{letter, prefixOf}
 use Rattle.text_read.specs.declared.Stamp.{Stamp}
 use Rattle.text_write.specs.declared.Form.{Form}
 use Rattle.text_write.specs.declared.Form.the-variants as F
@@ -66,11 +67,8 @@ bodyOf micros t = cond micros (textOf t) (take 20 (textOf t))
 abbrev pub fullText : Form → Scale → Stamp → List ℕ
 fullText f z t = cond (showsScale f) (prefixOf z ++ bodyOf (hasMicros f) t) (bodyOf (hasMicros f) t)
 
-abbrev pub dateIn : DateSlip → Date
-dateIn d = record { year = d .year; month = d .month; day = d .day }
-
 abbrev pub imageOf : Form → Scale → Moment → List ℕ
-imageOf f z m = fullText f z (stampOf (dateIn (dateOfDay (m .day))) (m .micro))
+imageOf f z m = fullText f z (stampOf (dateOfDay (m .day) .value) (m .micro))
 
 -- unprefixed forms are UTC; "A nonzero microsecond is not written to a form without one."
 abbrev pub hasImage : Form → Scale → ℕ → Bool
@@ -86,8 +84,8 @@ imaging f z m out =
 abbrev pub writing : Handed → Form → List ℤ → List ℕ → ℤ → List ℕ → Judged (List ℕ)
 writing h f ds os e out =
     given (isFinite h) 4
-    (listed (scaleOf h) ds os e (isInSpan h) (momentIn h)
+    (asked (scaleOf h) ds os e (isInSpan h) (momentIn h)
     (imaging f (scaleOf h) (momentIn h) out))
 
-unfoldable pub writeText : Handed → Form → List ℤ → List ℕ → ℤ → List ℕ → Wrote
+unfoldable pub writeText : Handed → Form → List ℤ → List ℕ → ℤ → List ℕ → Wrote ℕ
 writeText h f ds os e out = written out (outcome (writing h f ds os e out))

@@ -5,11 +5,11 @@ use mathlib.Core.List.{List}
 use Prim.Native.Nat.{ℕ, _≤_}
 use native.Mathlib.Omega.{arith}
 use lib.IntN.{ℤ}
-use Rattle.axis.specs.Meaning.{placeOfDay}
-use Rattle.scales.specs.Meaning.{inSpan, Judged, given, gives, Outcome, answer, outcome, Moment, wrote, written, slip, dated, momentAt, timeScale, timeCount}
+use Rattle.axis.specs.Meaning.{placeOfDay, Moment}
+use Rattle.scales.specs.Meaning.{inSpan, Judged, given, gives, Outcome, answer, outcome, wrote, written, slip, dated, momentAt, timeScale, timeCount}
 use Rattle.scales.specs.Order.{onward, then-is, no-answer}
 use Rattle.scales.specs.Place.{apart, placed}
-use Rattle.scales.specs.Same.{some}
+use Rattle.scales.specs.Same.{no-zero}
 use Rattle.scales.specs.declared.Scale.{Scale}
 use Rattle.scales.specs.declared.Record.{Record}
 use Rattle.scales.specs.declared.Refusal.{Refusal}
@@ -17,22 +17,20 @@ use Rattle.scales.specs.declared.Refusal.the-variants as R
 use Rattle.scales.specs.declared.Dated.{Dated}
 use Rattle.scales.specs.declared.Dated.the-variants as D
 use Rattle.scales.specs.declared.Written.the-variants as W
-use Rattle.scales.specs.declared.Handed.{Handed}
+use Rattle.handed.specs.declared.Handed.{Handed}
 use Rattle.calendar.specs.Meaning.{dateSlip, dateOfDay}
 use Rattle.calendar.specs.Days.{date-within}
 use Rattle.calendar.specs.Told as C
 use Rattle.calendar.specs.declared.Date.{Date}
 use Rattle.calendar.specs.declared.DateAnswer.the-variants as A
-use Rattle.decimal.specs.Meaning.{scaleOf, Took}
-use Rattle.decimal.specs.declared.Taken.{Taken}
-use Rattle.decimal.specs.declared.Taken.the-variants as K
+use Rattle.handed.specs.declared.Taken.{Taken}
+use Rattle.handed.specs.declared.Taken.the-variants as K
+use Rattle.handed.specs.Meaning.{scaleOf, Took}
 use Rattle.leap.specs.Meaning.{accepted, hasMicro, isExpiredDay}
 use Rattle.changes.specs.Meaning.{isUtc}
+use Rattle.changes.specs.Asked.{takenScale, timeUsesList, takenAsked, recordMoment, list-lacks, handedAsked, took-is, took-scale, asked-sound, slip-answer, slip-refused, lacking}
 use Rattle.text_write.specs.Meaning.{stampOf, hasImage, fullText, imaging, writeText}
-use Rattle.text_read.specs.Stage.{takenScale, usesIn, taking, recordMoment}
 use Rattle.text_write.specs.Stage.{putting, imaged, writtenOf}
-use Rattle.text_read.specs.Judging.{list-lacks, judging, took-is, took-scale, taking-sound, slip-answer, slip-refused}
-use Rattle.text_read.specs.Ways.{lacking}
 use Rattle.text_write.specs.declared.Form.{Form}
 
 -- ---- the image of a time in its span
@@ -47,7 +45,7 @@ module _ (f : Form) (z : Scale) (m : Moment) (out : List ℕ) where
         let p = placed z (m .day) (m .micro) w in
         let h : 29773 ≤ placeOfDay (m .day) = omega (arith, apart z .from, p .from) in
         let k : placeOfDay (m .day) ≤ 76524 = omega (arith, apart z .to, p .to) in
-        some r (λ i. (q ∙ sym (date-within (m .day) h k)) i .number)
+        no-zero r (λ i. (q ∙ sym (date-within (m .day) h k)) i .number)
 
   pub image-put : hasImage f z (m .micro) ≡ true → (t : Date) → dateSlip (A.Date t) ≡ dateOfDay (m .day) → putting (fullText f z (stampOf t (m .micro))) out ≡ imaged f z m out
   unfolding imaged putting
@@ -61,26 +59,26 @@ month-in d t q =
 
 -- ---- writing judges the time, and then its image
 pub write-is : (h : Handed) (f : Form) (ds : List ℤ) (os : List ℕ) (e : ℤ) (out : List ℕ)
-    → writeText h f ds os e out ≡ written out (onward (λ (m : Moment). imaging f (scaleOf h) m out) (outcome (judging ds os e h)))
+    → writeText h f ds os e out ≡ written out (onward (λ (m : Moment). imaging f (scaleOf h) m out) (outcome (handedAsked ds os e h)))
 unfolding writeText
-write-is h f ds os e out = ap (written out) (then-is (judging ds os e h) (λ (m : Moment). imaging f (scaleOf h) m out))
+write-is h f ds os e out = ap (written out) (then-is (handedAsked ds os e h) (λ (m : Moment). imaging f (scaleOf h) m out))
 
 module _ (t : Taken) (f : Form) (ds : List ℤ) (os : List ℕ) (e : ℤ) (out : List ℕ) where
   abbrev next : Moment → Judged (List ℕ)
   next m = imaging f (takenScale t) m out
 
-  written-is : writtenOf t f ds os e out ≡ written out (onward next (outcome (taking t ds os e)))
+  written-is : writtenOf t f ds os e out ≡ written out (onward next (outcome (takenAsked t ds os e)))
   unfolding writtenOf
-  written-is = ap (written out) (then-is (taking t ds os e) next)
+  written-is = ap (written out) (then-is (takenAsked t ds os e) next)
 
-  module _ (q : Dated) (w : slip q ≡ dated (takenScale t) (outcome (taking t ds os e))) where
+  module _ (q : Dated) (w : slip q ≡ dated (takenScale t) (outcome (takenAsked t ds os e))) where
     pub write-refused : (r : Refusal) (z : Scale) → q ≡ D.Refused r z → wrote (W.Refused r) out ≡ writtenOf t f ds os e out
     write-refused r z p =
-        let k = slip-refused (takenScale t) (outcome (taking t ds os e)) r z (ap slip (sym p) ∙ w) in
+        let k = slip-refused (takenScale t) (outcome (takenAsked t ds os e)) r z (ap slip (sym p) ∙ w) in
         sym (written-is ∙ ap (λ (o : Outcome Moment). written out (onward next o)) k)
 
-    told : (r : Record) → q ≡ D.At r → (r .scale ≡ takenScale t) × (outcome (taking t ds os e) ≡ answer (recordMoment r))
-    told r p = slip-answer (takenScale t) (outcome (taking t ds os e)) (taking-sound t ds os e) r (ap slip (sym p) ∙ w)
+    told : (r : Record) → q ≡ D.At r → (r .scale ≡ takenScale t) × (outcome (takenAsked t ds os e) ≡ answer (recordMoment r))
+    told r p = slip-answer (takenScale t) (outcome (takenAsked t ds os e)) (asked-sound t ds os e) r (ap slip (sym p) ∙ w)
 
     pub write-answer : (r : Record) → q ≡ D.At r → imaged f (r .scale) (recordMoment r) out ≡ writtenOf t f ds os e out
     unfolding imaged
@@ -105,7 +103,7 @@ module _ (t : Taken) (f : Form) (ds : List ℤ) (os : List ℕ) (e : ℤ) (out :
         outside true n g = no-answer g
         outside false n g = no-answer g
 
-        inside : (t : Taken) (n : Moment) → outcome (taking t ds os e) ≡ answer n → inSpan (takenScale t) (n .day) (n .micro) ≡ true
+        inside : (t : Taken) (n : Moment) → outcome (takenAsked t ds os e) ≡ answer n → inSpan (takenScale t) (n .day) (n .micro) ≡ true
         inside (K.NotFinite z) n g = absurd (no-answer g)
         inside (K.Outside z) n g = absurd (outside (not (isUtc z) || accepted ds os e) n g)
         inside (K.At s) n g =
@@ -113,9 +111,9 @@ module _ (t : Taken) (f : Form) (ds : List ℤ) (os : List ℕ) (e : ℤ) (out :
             let m = momentAt z (timeCount s) in
             counted z m n (not (isUtc z) || accepted ds os e) (inSpan z (m .day) (m .micro)) (not (isUtc z) || not (isExpiredDay e (m .day))) (not (isUtc z) || hasMicro ds (m .day) (m .micro)) refl g
 
-  pub write-lacks : (usesIn t && not (accepted ds os e)) ≡ true → wrote (W.Refused R.ListNotAccepted) out ≡ writtenOf t f ds os e out
+  pub write-lacks : (timeUsesList t && not (accepted ds os e)) ≡ true → wrote (W.Refused R.ListNotAccepted) out ≡ writtenOf t f ds os e out
   write-lacks l =
-      let x = lacking (usesIn t) (accepted ds os e) l in
+      let x = lacking (timeUsesList t) (accepted ds os e) l in
       sym (written-is ∙ ap (λ (o : Outcome Moment). written out (onward next o)) (list-lacks ds os e t (x .0) (x .1)))
 
   -- what was taken apart of a handed time

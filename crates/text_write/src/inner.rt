@@ -4,18 +4,18 @@ ghost use mathlib.Core.Bool.{true, _||_};
 ghost use Rattle.scales.specs.Meaning.{wrote, inSpan};
 ghost use Rattle.leap.specs.Meaning.{accepted};
 ghost use Rattle.changes.specs.Meaning.{isUtc};
-ghost use Rattle.text_read.specs.Stage.{usesIn, recordMoment};
+ghost use Rattle.changes.specs.Asked.{timeUsesList, recordMoment};
 ghost use Rattle.text_write.specs.Meaning.{showsScale, hasImage};
 ghost use Rattle.text_write.specs.Stage.{imaged, writtenOf};
-use super::Form;
-use super::image;
 use calendar::DateAnswer;
-use decimal::Taken;
+use handed::Taken;
 use scales::Dated;
 use scales::Record;
 use scales::Refusal;
 use scales::Scale;
 use scales::Written;
+use super::Form;
+use super::image;
 
 // Unprefixed forms are UTC.
 fn has_scale(form: Form, z: Scale) -> bool
@@ -24,7 +24,7 @@ fn has_scale(form: Form, z: Scale) -> bool
     if image::shows_scale(form) {
         return true;
     }
-    text_read::inner::is_utc(z)
+    changes::inner::is_utc(z)
 }
 
 // A nonzero microsecond is not written to a short form.
@@ -63,10 +63,10 @@ pub fn write_time(
     last: i64,
     out: &mut [u8],
 ) -> Written
-    requires { ⌜ (usesIn t ≡ true → accepted (now days) (now offsets) last ≡ true) ⌝ }
+    requires { ⌜ (timeUsesList t ≡ true → accepted (now days) (now offsets) last ≡ true) ⌝ }
     ensures { λ w. ⌜ wrote w (now (out .exit)) ≡ writtenOf t form (now (days .entry)) (now (offsets .entry)) last (now (out .entry)) ⌝ }
 {
-    match text_read::inner::judge(t, days, offsets, last) {
+    match changes::inner::judge(t, days, offsets, last) {
         Dated::At(r) => write_record(r, form, out),
         Dated::Refused(f, _) => Written::Refused(f),
     }

@@ -2,7 +2,7 @@
 ghost use mathlib.Core.Path.{_≡_};
 ghost use Rattle.scales.specs.Meaning.{wrote};
 ghost use Rattle.text_write.specs.Meaning.{writeText};
-use scales::Handed;
+use handed::Handed;
 use scales::Refusal;
 use scales::Written;
 
@@ -28,8 +28,9 @@ pub fn write(
 ) -> Written
     ensures { λ r. ⌜ wrote r (now (out .exit)) ≡ writeText h form (now (days .entry)) (now (offsets .entry)) last (now (out .entry)) ⌝ }
 {
-    let t = decimal::take(h);
-    if text_read::inner::lacks_list(t, days, offsets, last) {
+    let t = handed::take(h);
+    let used = changes::inner::time_uses_list(t);
+    if changes::inner::lacks_list(used, days, offsets, last) {
         return Written::Refused(Refusal::ListNotAccepted);
     }
     inner::write_time(t, form, days, offsets, last, out)

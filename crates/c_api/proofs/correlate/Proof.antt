@@ -1,4 +1,4 @@
--- `rack::correlate` meets its contract. Assumes nothing.
+-- `c_api::correlate` meets its contract. Assumes nothing.
 use mathlib.Core.Path.{sym, _∙_}
 use mir.Syntax.{w64}
 use mir.Val.{toZ, ofZ}

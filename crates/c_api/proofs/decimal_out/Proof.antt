@@ -1,8 +1,9 @@
--- `rack::decimal_out` meets its contract. Assumes nothing.
+-- `c_api::decimal_out` meets its contract. Assumes nothing.
 use lib.Ieee.{ofBits}
 use mathlib.Core.Path.{ap, sym, _∙_}
 use Prim.Native.Nat.{ℕ}
-use Rattle.decimal.specs.Meaning.{decimalSlip, plusZero}
+use Rattle.double.specs.Meaning.{plusZero}
+use Rattle.decimal.specs.Meaning.{decimalSlip}
 use Rattle.decimal.specs.declared.Decimal.{Decimal}
 use Rattle.c_api.specs.Meaning.{decimalOut}
 use Rattle.c_api.specs.declared.VrkDecimal.{VrkDecimal}

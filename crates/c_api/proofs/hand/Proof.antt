@@ -1,4 +1,4 @@
--- `rack::hand` meets its contract. Assumes nothing.
+-- `c_api::hand` meets its contract. Assumes nothing.
 use mathlib.Core.Path.{ap, sym, _∙_}
 use native.Mathlib.Omega.{arith}
 use lib.IntN.{ℤ}
@@ -6,7 +6,7 @@ use mir.Syntax.{w64}
 use mir.Facts.{toZ-ofZ}
 use Rattle.scales.specs.Meaning.{recordOf}
 use Rattle.scales.specs.declared.Record.{Record}
-use Rattle.scales.specs.declared.Handed.the-variants as H
+use Rattle.handed.specs.declared.Handed.the-variants as H
 use Rattle.c_api.specs.declared.Given.the-variants as G
 use Rattle.c_api.proofs.Ways.{hand-scale, hand-record, hand-decimal, hand-kind}
 use borrow.Author.Needs.{needs}

@@ -1,4 +1,4 @@
--- `rack::scale_named` meets its contract. Assumes nothing.
+-- `c_api::scale_named` meets its contract. Assumes nothing.
 use native.Mathlib.Omega.{arith}
 use Rattle.c_api.specs.Meaning.{namedBy}
 use Rattle.c_api.proofs.Ways.{named-is, named-no}

@@ -1,4 +1,4 @@
--- `rack::time_out` meets its contract. Assumes nothing.
+-- `c_api::time_out` meets its contract. Assumes nothing.
 use mathlib.Core.Path.{ap, ap₂, sym, _∙_}
 use Prim.Native.Nat.{ℕ}
 use lib.IntN.{ℤ, pos}

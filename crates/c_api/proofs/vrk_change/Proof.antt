@@ -1,4 +1,4 @@
--- `rack::vrk_change` meets its contract. Assumes nothing.
+-- `c_api::vrk_change` meets its contract. Assumes nothing.
 use mathlib.Core.Path.{ap, sym, _∙_}
 use Prim.Native.Nat.{ℕ}
 use lib.IntN.{ℤ, pos}

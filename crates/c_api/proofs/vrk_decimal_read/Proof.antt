@@ -1,4 +1,4 @@
--- `rack::vrk_decimal_read` meets its contract. Assumes nothing.
+-- `c_api::vrk_decimal_read` meets its contract. Assumes nothing.
 use mathlib.Core.Path.{ap, sym, _∙_}
 use Rattle.c_api.specs.Meaning.{timeOut}
 use Rattle.c_api.proofs.Ways.{read-known, read-unknown}

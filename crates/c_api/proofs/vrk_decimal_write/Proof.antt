@@ -1,4 +1,4 @@
--- `rack::vrk_decimal_write` meets its contract. Assumes nothing.
+-- `c_api::vrk_decimal_write` meets its contract. Assumes nothing.
 use lib.Ieee.{ofBits}
 use mathlib.Core.Path.{subst, sym, _∙_}
 use Rattle.c_api.specs.Meaning.{DecimalWrote}

@@ -1,4 +1,4 @@
--- `rack::vrk_list_accepted` meets its contract. Assumes nothing.
+-- `c_api::vrk_list_accepted` meets its contract. Assumes nothing.
 use mathlib.Core.Path.{ap, sym, _∙_}
 use mathlib.Core.Bool.{Bool, cond}
 use lib.IntN.{ℤ}

@@ -1,8 +1,8 @@
--- `rack::vrk_sbt_tick` meets its contract. Assumes nothing.
+-- `c_api::vrk_sbt_tick` meets its contract. Assumes nothing.
 use mathlib.Core.Path.{ap, sym, _∙_}
 use Rattle.sbt.specs.Meaning.{tickOf}
 use Rattle.sbt.specs.declared.Correlation.{Correlation}
-use Rattle.c_api.specs.Meaning.{tickOut}
+use Rattle.c_api.specs.Meaning.{countOut}
 use Rattle.c_api.proofs.Ways.{tick-known, tick-unknown}
 use borrow.Author.Needs.{needs}
 use Rattle.c_api.proofs.vrk_sbt_tick.Statement.{statement}
@@ -16,7 +16,7 @@ returns c =
     let b = k .before .before in
     let a = b .before .args in
     c .tick-out .ensures
-    ∙ ap tickOut (t .tick-of .ensures ∙ ap (λ (x : Correlation). tickOf x (k .h .given .0 .0)) (r .correlate .ensures))
+    ∙ ap countOut (t .tick-of .ensures ∙ ap (λ (x : Correlation). tickOf x (k .h .given .0 .0)) (r .correlate .ensures))
     ∙ tick-known (a .time) (a .correlation) (k .h .given .0 .0) (sym (b .hand .ensures) ∙ k .h .given .1)
 
 returns-2 : tie.Need-returns-2

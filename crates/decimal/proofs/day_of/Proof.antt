@@ -13,7 +13,7 @@ returns : tie.Need-returns
 returns c = subst (λ (z : ℤ). DayOf z (c .quotient .result)) (place-before (c .before .before .args .n) (c .before .if1 .taken)) (c .quotient .ensures)
 
 quotient-requires-2 : tie.Need-quotient-requires-2
-quotient-requires-2 c κs = (omega arith, λ e. absurd (false≢true e))
+quotient-requires-2 c κs = ((omega arith, λ e. absurd (false≢true e)), (omega arith, omega arith))
 
 returns-2 : tie.Need-returns-2
 returns-2 c = subst (λ (z : ℤ). DayOf z (c .quotient2 .result)) (place-after (c .before .before .args .n) (c .before .if1 .left)) (c .quotient2 .ensures)

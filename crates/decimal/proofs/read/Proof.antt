@@ -6,10 +6,12 @@ use Rattle.scales.specs.Meaning.{dated, refused, slip, recordAt, timeScale, tim
 use Rattle.scales.specs.declared.Scale.{Scale}
 use Rattle.scales.specs.declared.Record.{Record}
 use Rattle.scales.specs.declared.Time.{Time}
-use Rattle.scales.specs.declared.Handed.the-variants as H
+use Rattle.handed.specs.declared.Handed.the-variants as H
 use Rattle.scales.specs.declared.Dated.the-variants as D
-use Rattle.decimal.specs.Meaning.{finite, exactOf, spans, readOf}
-use Rattle.decimal.specs.Told.{told-nothing, told-outside, Told, told-at, told-record}
+use Rattle.double.specs.Meaning.{finite, exactOf}
+use Rattle.decimal.specs.Meaning.{readOf}
+use Rattle.handed.specs.Told.{told-nothing, told-outside, Told, told-at, told-record}
+use Rattle.handed.specs.Meaning.{spans}
 use borrow.Author.Needs.{needs}
 use Rattle.decimal.proofs.read.Statement.{statement}
 use Rattle.decimal.proofs.read.Tie as tie

@@ -1,5 +1,5 @@
 -- `decimal::write` meets its contract. Assumes nothing.
-use Rattle.decimal.specs.Told.{told-nothing, told-outside, told-at}
+use Rattle.handed.specs.Told.{told-nothing, told-outside, told-at}
 use Rattle.decimal.proofs.Image.{wrote-nothing, wrote-outside, count-small, wrote-at}
 use borrow.Author.Needs.{needs}
 use Rattle.decimal.proofs.write.Statement.{statement}

@@ -3,9 +3,8 @@ use mathlib.Core.Path.{_≡_, ap, sym, _∙_}
 use Prim.Native.Nat.{ℕ}
 use native.Mathlib.Omega.{arith}
 use Rattle.axis.specs.Meaning.{microsAt}
-use Rattle.scales.specs.Meaning.{refused, answer, outcome, numberOf}
+use Rattle.scales.specs.Meaning.{refused, answer, outcome, numberOf, valued}
 use Rattle.scales.specs.declared.Scale.the-variants as S
-use Rattle.layout_fields.specs.Meaning.{valued}
 use Rattle.clock.specs.Places.{coverOf}
 use Rattle.clock.specs.Stage.{covering, landed}
 use Rattle.clock.specs.declared.inner.Ends.{Ends}

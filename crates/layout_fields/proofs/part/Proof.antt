@@ -1,4 +1,4 @@
--- `fields::part` meets its contract. Assumes nothing.
+-- `layout_fields::part` meets its contract. Assumes nothing.
 use denote.Ref.{now}
 use Prim.Native.Nat.{ℕ}
 use Rattle.octets.specs.Field.{bytes-all}

@@ -1,4 +1,4 @@
--- `fields::place` meets its contract. Assumes nothing.
+-- `layout_fields::place` meets its contract. Assumes nothing.
 use Rattle.octets.specs.Meaning.{field}
 use borrow.Author.Needs.{needs}
 use Rattle.layout_fields.proofs.place.Statement.{statement}

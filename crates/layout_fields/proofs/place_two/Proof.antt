@@ -1,4 +1,4 @@
--- `fields::place_two` meets its contract. Assumes nothing.
+-- `layout_fields::place_two` meets its contract. Assumes nothing.
 use denote.Ref.{now}
 use Rattle.layout_fields.proofs.Two.{two-none, two-laid}
 use borrow.Author.Needs.{needs}

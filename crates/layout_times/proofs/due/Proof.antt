@@ -1,9 +1,8 @@
--- `layouts::due` meets its contract. Assumes nothing.
+-- `layout_times::due` meets its contract. Assumes nothing.
 use mathlib.Core.Path.{_≡_, sym, ap, _∙_}
 use Prim.Native.Nat.{ℕ}
-use Rattle.scales.specs.Meaning.{codeOf, timeScale}
-use Rattle.decimal.specs.Told.{Told, told-at}
-use Rattle.layout_fields.specs.Meaning.{some, slipOf}
+use Rattle.scales.specs.Meaning.{codeOf, timeScale, some, valueSlip}
+use Rattle.handed.specs.Told.{Told, told-at}
 use Rattle.layout_times.specs.Due.{due-nothing, due-outside, due-other, due-at}
 use borrow.Author.Needs.{needs}
 use Rattle.layout_times.proofs.due.Statement.{statement}
@@ -22,7 +21,7 @@ returns c =
     let i = c .before .before in
     let k = i .before .before .before .before in
     let a = k .before .before .before .args in
-    ap (λ (n : ℕ). slipOf 0 (some n)) (c .count .ensures)
+    ap (λ (n : ℕ). valueSlip 0 (some n)) (c .count .ensures)
     ∙ due-at (a .scale) (a .h) (k .t .given .0 .0) (told k) (sym (codes i .0) ∙ c .before .if1 .taken ∙ codes i .1)
 
 returns-2 : tie.Need-returns-2

@@ -1,4 +1,4 @@
--- `layouts::fraction_at` meets its contract. Assumes nothing.
+-- `layout_times::fraction_at` meets its contract. Assumes nothing.
 use mathlib.Core.Path.{sym}
 use Rattle.layout_times.specs.Meaning.{rounding}
 use Rattle.layout_times.specs.Fraction.{last-is}

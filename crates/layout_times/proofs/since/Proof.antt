@@ -1,4 +1,4 @@
--- `layouts::since` meets its contract. Assumes nothing.
+-- `layout_times::since` meets its contract. Assumes nothing.
 use mathlib.Core.Path.{sym, ap, _∙_}
 use Prim.Native.Nat.{_%_}
 use lib.IntN.{ℤ}

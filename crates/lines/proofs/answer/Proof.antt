@@ -10,10 +10,10 @@ use Rattle.scales.specs.declared.Scale.{Scale}
 use Rattle.scales.specs.declared.Record.{Record}
 use Rattle.scales.specs.declared.Dated.the-variants as D
 use Rattle.scales.specs.declared.Scale.the-variants as S
-use Rattle.text_read.specs.Stage.{recordMoment}
+use Rattle.changes.specs.Asked.{recordMoment}
 use Rattle.text_write.specs.Meaning.{imageOf}
 use Rattle.text_write.specs.declared.Form.the-variants as F
-use Rattle.lines.specs.Meaning.{dating}
+use Rattle.lines.specs.Meaning.{lineDating}
 use Rattle.lines.specs.Stage.{Put}
 use Rattle.lines.specs.Dates.{line-answer, line-refused, line-inside}
 use Rattle.lines.specs.Told.{refused-is, answer-is}
@@ -23,15 +23,15 @@ use Rattle.lines.proofs.answer.Tie as tie
 
 -- what the callee said, of the last day itself
 said : (c : tie.After-read-in) → let x = c .before .before .before .before .args in
-    slip (c .read-in .result) ≡ dated S.Tai (outcome (dating (now (x .days)) (now (x .offsets)) (x .last) (now (x .line))))
+    slip (c .read-in .result) ≡ dated S.Tai (outcome (lineDating (now (x .days)) (now (x .offsets)) (x .last) (now (x .line))))
 said c =
     let s = c .before .before .before .before in
     let x = s .args in
-    c .read-in .ensures ∙ ap (λ (z : ℤ). dated S.Tai (outcome (dating (now (x .days)) (now (x .offsets)) z (now (x .line))))) (toZ-ofZ (s .fits .last))
+    c .read-in .ensures ∙ ap (λ (z : ℤ). dated S.Tai (outcome (lineDating (now (x .days)) (now (x .offsets)) z (now (x .line))))) (toZ-ofZ (s .fits .last))
 
 -- an answer: a TAI record, and the moment that the line stands for
 told : (c : tie.After-read-in) (t : Record) → c .read-in .result ≡ D.At t → let x = c .before .before .before .before .args in
-    (t .scale ≡ S.Tai) × (outcome (dating (now (x .days)) (now (x .offsets)) (x .last) (now (x .line))) ≡ answer (recordMoment t))
+    (t .scale ≡ S.Tai) × (outcome (lineDating (now (x .days)) (now (x .offsets)) (x .last) (now (x .line))) ≡ answer (recordMoment t))
 told c t q =
     let x = c .before .before .before .before .args in
     line-answer (now (x .days)) (now (x .offsets)) (x .last) (now (x .line)) t (ap slip (sym q) ∙ said c)

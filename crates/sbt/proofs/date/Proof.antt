@@ -1,4 +1,4 @@
--- `correlation::date` meets its contract. Assumes nothing.
+-- `sbt::date` meets its contract. Assumes nothing.
 use mathlib.Core.Path.{_≡_, sym, ap, _∙_}
 use Prim.Native.Nat.{ℕ, _*_}
 use native.Mathlib.Omega.{arith}

@@ -1,4 +1,4 @@
--- `correlation::ends_of` meets its contract. Assumes nothing.
+-- `sbt::ends_of` meets its contract. Assumes nothing.
 use mathlib.Core.Path.{ap₂}
 use Prim.Native.Nat.{ℕ}
 use borrow.Author.Needs.{needs}

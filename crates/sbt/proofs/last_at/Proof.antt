@@ -1,4 +1,4 @@
--- `correlation::last_at` meets its contract. Assumes nothing.
+-- `sbt::last_at` meets its contract. Assumes nothing.
 use Rattle.sbt.proofs.Reckoned.{before-is, after-is}
 use borrow.Author.Needs.{needs}
 use Rattle.sbt.proofs.last_at.Statement.{statement}

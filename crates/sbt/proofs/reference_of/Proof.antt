@@ -1,4 +1,4 @@
--- `correlation::reference_of` meets its contract. Assumes nothing.
+-- `sbt::reference_of` meets its contract. Assumes nothing.
 use mathlib.Core.Path.{ap, _∙_}
 use lib.IntN.{ℤ}
 use mir.Syntax.{w64}

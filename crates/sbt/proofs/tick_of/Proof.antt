@@ -1,14 +1,13 @@
--- `correlation::tick_of` meets its contract. Assumes nothing.
+-- `sbt::tick_of` meets its contract. Assumes nothing.
 use mathlib.Core.Path.{_≡_, ap, sym, _∙_}
 use Prim.Native.Nat.{ℕ}
 use native.Mathlib.Omega.{arith}
 use Rattle.axis.specs.Meaning.{microsAt}
-use Rattle.scales.specs.Meaning.{refused, answer, outcome, numberOf}
+use Rattle.scales.specs.Meaning.{refused, answer, outcome, numberOf, valued}
 use Rattle.clock.specs.Places.{coverOf}
 use Rattle.clock.specs.Stage.{covering, landed}
 use Rattle.clock.specs.declared.inner.Ends.{Ends}
 use Rattle.clock.specs.declared.inner.Place.the-variants as P
-use Rattle.sbt.specs.Meaning.{ticked}
 use Rattle.sbt.specs.Places.{placeOf, endsAt, tickFrom}
 use Rattle.sbt.specs.Found.{window-of, tick-unaccepted, tick-not, near, few, tick-is}
 use borrow.Author.Needs.{needs}
@@ -39,7 +38,7 @@ returns : tie.Need-returns
 returns c =
     let b = c .before .before .before in
     let a = b .before .args in
-    ap (λ (n : ℕ). ticked (refused n)) (c .unaccepted .ensures)
+    ap (λ (n : ℕ). valued 0 (refused n)) (c .unaccepted .ensures)
     ∙ tick-unaccepted (a .c) (a .h) (sym (b .reference-of .ensures) ∙ c .before .enum-told .given .1)
 
 ends-of-requires : tie.Need-ends-of-requires
@@ -62,7 +61,7 @@ returns-2 c =
     let w = c .before .before .before in
     let k = w .before .before .before .before in
     let a = entry k .args in
-    ap (λ (n : ℕ). ticked (answer n)) (c .tick-from .ensures ∙ ap (tickFrom (a .c .tick .0)) (c .before .last-at .ensures))
+    ap (λ (n : ℕ). valued 0 (answer n)) (c .tick-from .ensures ∙ ap (tickFrom (a .c .tick .0)) (c .before .last-at .ensures))
     ∙ tick-is (a .c) (place k) (known-r k) (a .h) (w .w .given .0 .0) (found w)
 
 returns-3 : tie.Need-returns-3

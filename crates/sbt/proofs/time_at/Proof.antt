@@ -1,4 +1,4 @@
--- `correlation::time_at` meets its contract. Assumes nothing.
+-- `sbt::time_at` meets its contract. Assumes nothing.
 use native.Mathlib.Omega.{arith}
 use Rattle.sbt.proofs.Reckoned.{back-le, back-is, ahead-le, ahead-is}
 use borrow.Author.Needs.{needs}

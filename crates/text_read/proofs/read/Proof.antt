@@ -1,14 +1,14 @@
 -- `text_read::read` meets its contract: one law for each way out. Assumes nothing.
-use mathlib.Core.Path.{sym, ap, _∙_}
+use mathlib.Core.Path.{sym, ap, ap₂, _∙_}
 use denote.Ref.{now}
-use mathlib.Core.Bool.{not, _&&_}
+use mathlib.Core.Bool.{Bool, not, _&&_}
 use mir.Facts.{toZ-ofZ}
 use lib.IntN.{ℤ}
 use Rattle.leap.specs.Meaning.{accepted}
 use Rattle.scales.specs.Meaning.{outcome}
 use Rattle.scales.specs.Place.{not-lacking}
+use Rattle.changes.specs.Asked.{timeUsesList, takenScale, takenAsked}
 use Rattle.text_read.specs.Meaning.{datedIn}
-use Rattle.text_read.specs.Stage.{usesIn, takenScale, taking}
 use Rattle.text_read.specs.Ways.{read-refused, read-parsed, read-lacks}
 use mir.Val.{toZ, ofZ}
 use mir.Syntax.{w64}
@@ -19,19 +19,23 @@ use Rattle.text_read.proofs.read.Tie as tie
 returns : tie.Need-returns
 returns c =
     let l = c .before in
-    let g = l .before .before .t .given in
-    let p = l .before .before .before .before in
+    let u = l .before in
+    let g = u .before .before .t .given in
+    let p = u .before .before .before .before in
     let s = p .before .before .before in
     let x = s .args in
     read-lacks (now (x .text)) (now (x .days)) (now (x .offsets)) (x .last) (p .parse .result) (p .parse .ensures) (g .0 .0) (g .1)
-    (sym (ap (λ (z : ℤ). usesIn (g .0 .0) && not (accepted (now (x .days)) (now (x .offsets)) z)) (toZ-ofZ (s .fits .last))) ∙ sym (l .lacks-list .ensures) ∙ c .if1 .taken)
+    (sym (ap₂ (λ (y : Bool) (z : ℤ). y && not (accepted (now (x .days)) (now (x .offsets)) z)) (u .time-uses-list .ensures) (toZ-ofZ (s .fits .last)))
+    ∙ sym (l .lacks-list .ensures) ∙ c .if1 .taken)
 
 read-time-requires : tie.Need-read-time-requires
 read-time-requires c κs =
     let l = c .before in
-    let g = l .before .before .t .given in
-    let x = l .before .before .before .before .before .before .before .args in
-    not-lacking (usesIn (g .0 .0)) (accepted (now (x .days)) (now (x .offsets)) (toZ w64 (ofZ w64 (x .last)))) (sym (l .lacks-list .ensures) ∙ c .if1 .left)
+    let u = l .before in
+    let x = u .before .before .before .before .before .before .before .args in
+    λ h.
+    not-lacking (u .time-uses-list .result) (accepted (now (x .days)) (now (x .offsets)) (toZ w64 (ofZ w64 (x .last)))) (sym (l .lacks-list .ensures) ∙ c .if1 .left)
+    (u .time-uses-list .ensures ∙ h)
 
 returns-2 : tie.Need-returns-2
 returns-2 c =
@@ -42,13 +46,13 @@ returns-2 c =
 
 returns-3 : tie.Need-returns-3
 returns-3 c =
-    let l = c .before .before in
-    let g = l .before .before .t .given in
-    let p = l .before .before .before .before in
+    let u = c .before .before .before in
+    let g = u .before .before .t .given in
+    let p = u .before .before .before .before in
     let s = p .before .before .before in
     let x = s .args in
     c .read-time .ensures
-    ∙ ap (λ (z : ℤ). datedIn (takenScale (g .0 .0)) (outcome (taking (g .0 .0) (now (x .days)) (now (x .offsets)) z))) (toZ-ofZ (s .fits .last))
+    ∙ ap (λ (z : ℤ). datedIn (takenScale (g .0 .0)) (outcome (takenAsked (g .0 .0) (now (x .days)) (now (x .offsets)) z))) (toZ-ofZ (s .fits .last))
     ∙ read-parsed (now (x .text)) (now (x .days)) (now (x .offsets)) (x .last) (p .parse .result) (p .parse .ensures) (g .0 .0) (g .1)
 
 pub read-spec : {M : Type 1} → statement M
@@ -58,6 +62,7 @@ read-spec =
     (λ c κs. search needs)
     (λ c. search needs)
     (λ c. search needs)
+    (λ c κs. search needs)
     (λ c κs. search needs)
     returns
     read-time-requires

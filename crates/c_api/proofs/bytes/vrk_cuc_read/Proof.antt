@@ -1,4 +1,4 @@
--- `rack::bytes::vrk_cuc_read` meets its contract. Assumes nothing.
+-- `c_api::bytes::vrk_cuc_read` meets its contract. Assumes nothing.
 use mathlib.Core.Path.{ap, _∙_}
 use Rattle.c_api.specs.Meaning.{timeOut}
 use borrow.Author.Needs.{needs}

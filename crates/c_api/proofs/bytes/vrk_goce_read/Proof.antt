@@ -1,9 +1,9 @@
--- `rack::bytes::vrk_goce_read` meets its contract. Assumes nothing.
+-- `c_api::bytes::vrk_goce_read` meets its contract. Assumes nothing.
 use mathlib.Core.Path.{ap, _∙_}
-use Rattle.c_api.specs.Bytes.{countOut}
 use borrow.Author.Needs.{needs}
 use Rattle.c_api.proofs.bytes.vrk_goce_read.Statement.{statement}
 use Rattle.c_api.proofs.bytes.vrk_goce_read.Tie as tie
+use Rattle.c_api.specs.Meaning.{countOut}
 
 returns : tie.Need-returns
 returns c = c .count-out .ensures ∙ ap countOut (c .before .read .ensures)

@@ -1,4 +1,4 @@
--- `rack::bytes::vrk_proteus_read` meets its contract. Assumes nothing.
+-- `c_api::bytes::vrk_proteus_read` meets its contract. Assumes nothing.
 use mathlib.Core.Path.{_≡_, ap, _∙_}
 use mathlib.Core.Bool.{Bool}
 use Prim.Native.Nat.{ℕ}

@@ -1,4 +1,4 @@
--- `rack::bytes::vrk_proteus_write` meets its contract. Assumes nothing.
+-- `c_api::bytes::vrk_proteus_write` meets its contract. Assumes nothing.
 use mathlib.Core.Path.{_∙_}
 use borrow.Author.Tests.{le-leb, lt-leb}
 use denote.Ref.{now}

@@ -1,4 +1,4 @@
--- `rack::bytes::vrk_sbt_write` meets its contract. Assumes nothing.
+-- `c_api::bytes::vrk_sbt_write` meets its contract. Assumes nothing.
 use mathlib.Core.Path.{_∙_}
 use borrow.Author.Needs.{needs}
 use Rattle.c_api.proofs.bytes.vrk_sbt_write.Statement.{statement}

@@ -1,11 +1,11 @@
--- `rack::bytes::write_as` meets its contract. Assumes nothing.
+-- `c_api::bytes::write_as` meets its contract. Assumes nothing.
 use mathlib.Core.Path.{_≡_, sym, _∙_}
 use mathlib.Core.List.{List}
 use mathlib.Core.Logic.{⊎-elim}
 use Prim.Native.Nat.{ℕ}
 use denote.Ref.{now}
 use Rattle.scales.specs.Meaning.{wrote}
-use Rattle.scales.specs.declared.Handed.{Handed}
+use Rattle.handed.specs.declared.Handed.{Handed}
 use Rattle.scales.specs.declared.Written.{Written}
 use Rattle.layout_times.specs.Cuc as Cuc
 use Rattle.layout_times.specs.Cryosat as Cryosat

@@ -1,4 +1,4 @@
--- `rack::bytes::written_out` meets its contract. Assumes nothing.
+-- `c_api::bytes::written_out` meets its contract. Assumes nothing.
 use mathlib.Core.Path.{ap, sym, _∙_}
 use mathlib.Core.List.{List}
 use Prim.Native.Nat.{ℕ}
@@ -14,7 +14,7 @@ returns c = λ (out : List ℕ). sym (ap (λ (x : Written). wrote x out) (c .bef
 returns-2 : tie.Need-returns-2
 returns-2 c =
     λ (out : List ℕ).
-    ap {B = Wrote} (λ (n : ℕ). record { number = n; length = 0; bytes = out }) (c .number .ensures)
+    ap {B = Wrote ℕ} (λ (n : ℕ). record { number = n; length = 0; lent = out }) (c .number .ensures)
     ∙ sym (ap (λ (x : Written). wrote x out) (c .before .before .w2 .given .1))
 
 pub written-out-spec : {M : Type 1} → statement M

@@ -1,12 +1,12 @@
--- `rack::counts::vrk_goce_count` meets its contract. Assumes nothing.
+-- `c_api::counts::vrk_goce_count` meets its contract. Assumes nothing.
 use mathlib.Core.Path.{ap, sym, _∙_}
 use Rattle.goce.specs.Meaning.{obtOf}
 use Rattle.goce.specs.declared.Correlation.{Correlation}
-use Rattle.c_api.specs.Bytes.{countOut}
 use Rattle.c_api.proofs.Ways.{count-known, count-unknown}
 use borrow.Author.Needs.{needs}
 use Rattle.c_api.proofs.counts.vrk_goce_count.Statement.{statement}
 use Rattle.c_api.proofs.counts.vrk_goce_count.Tie as tie
+use Rattle.c_api.specs.Meaning.{countOut}
 
 returns : tie.Need-returns
 returns c =

@@ -1,4 +1,4 @@
--- `rack::counts::vrk_goce_date` meets its contract. Assumes nothing.
+-- `c_api::counts::vrk_goce_date` meets its contract. Assumes nothing.
 use mathlib.Core.Path.{ap, ap₂, _∙_}
 use lib.IntN.{ℤ}
 use mir.Facts.{toZ-ofZ}

@@ -1,4 +1,4 @@
--- `rack::parts::vrk_cuc_fields_write` meets its contract. Assumes nothing.
+-- `c_api::parts::vrk_cuc_fields_write` meets its contract. Assumes nothing.
 use mathlib.Core.Path.{_∙_}
 use native.Mathlib.Omega.{arith}
 use borrow.Author.Tests.{le-ltb, lt-ltb}

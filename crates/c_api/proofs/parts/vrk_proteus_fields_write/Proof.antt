@@ -1,4 +1,4 @@
--- `rack::parts::vrk_proteus_fields_write` meets its contract. Assumes nothing.
+-- `c_api::parts::vrk_proteus_fields_write` meets its contract. Assumes nothing.
 use mathlib.Core.Path.{_∙_}
 use mathlib.Core.Logic.{⊎-elim}
 use native.Mathlib.Omega.{arith}

@@ -1,8 +1,7 @@
--- `rack::parts::vrk_siral_fields_read` meets its contract. Assumes nothing.
+-- `c_api::parts::vrk_siral_fields_read` meets its contract. Assumes nothing.
 use mathlib.Core.Path.{ap, _∙_}
 use Prim.Native.Nat.{ℕ}
-use Rattle.scales.specs.Meaning.{refused}
-use Rattle.layout_fields.specs.Meaning.{valued}
+use Rattle.scales.specs.Meaning.{refused, valued}
 use Rattle.layout_fields.specs.Siral.{empty, slip}
 use Rattle.c_api.specs.Parts.{siralFields}
 use Rattle.c_api.proofs.Layouts.{told}

@@ -1,4 +1,4 @@
--- `rack::texts::form_named` meets its contract. Assumes nothing.
+-- `c_api::texts::form_named` meets its contract. Assumes nothing.
 use mathlib.Core.Path.{_≡_, sym, ap}
 use Prim.Native.Nat.{ℕ}
 use borrow.Author.Tests.{ne-eqb}

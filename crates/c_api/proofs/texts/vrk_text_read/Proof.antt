@@ -1,4 +1,4 @@
--- `rack::texts::vrk_text_read` meets its contract. Assumes nothing.
+-- `c_api::texts::vrk_text_read` meets its contract. Assumes nothing.
 use mathlib.Core.Path.{ap, _∙_}
 use lib.IntN.{ℤ}
 use denote.Ref.{now}

@@ -1,4 +1,4 @@
--- `rack::texts::vrk_text_write` meets its contract. Assumes nothing.
+-- `c_api::texts::vrk_text_write` meets its contract. Assumes nothing.
 use mathlib.Core.Path.{sym, ap₂, _∙_}
 use lib.IntN.{ℤ}
 use denote.Ref.{now}

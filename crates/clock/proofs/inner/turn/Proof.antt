@@ -3,7 +3,7 @@ use mathlib.Core.Path.{_≡_, sym, subst, _∙_}
 use mathlib.Core.Bool.{true}
 use Rattle.scales.specs.Meaning.{inSpan}
 use Rattle.scales.specs.declared.Record.{Record}
-use Rattle.decimal.specs.Told.{Told, told-nothing, told-outside, told-at, told-record}
+use Rattle.handed.specs.Told.{Told, told-nothing, told-outside, told-at, told-record}
 use Rattle.clock.specs.Places.{coverOf}
 use Rattle.clock.specs.Turning.{turn-4, turn-7, turn-at}
 use borrow.Author.Needs.{needs}

@@ -1,5 +1,5 @@
 -- `clock::inner::unaccepted` meets its contract. Assumes nothing.
-use Rattle.decimal.specs.Told.{told-nothing, told-outside, told-at}
+use Rattle.handed.specs.Told.{told-nothing, told-outside, told-at}
 use borrow.Author.Needs.{needs}
 use Rattle.clock.proofs.inner.unaccepted.Statement.{statement}
 use Rattle.clock.proofs.inner.unaccepted.Tie as tie

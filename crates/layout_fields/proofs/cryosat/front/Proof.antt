@@ -1,4 +1,4 @@
--- `fields::cryosat::front` meets its contract. Assumes nothing.
+-- `layout_fields::cryosat::front` meets its contract. Assumes nothing.
 use denote.Ref.{now}
 use mathlib.Core.Path.{_≡_, sym, ap₂, _∙_}
 use borrow.Author.Tests.{not-true, not-false}

@@ -1,4 +1,4 @@
--- `fields::cryosat::in_limits` meets its contract. Assumes nothing.
+-- `layout_fields::cryosat::in_limits` meets its contract. Assumes nothing.
 use borrow.Author.Tests.{lt-ltb, le-ltb}
 use Rattle.layout_fields.proofs.cryosat.in_limits.Statement.{statement}
 use Rattle.layout_fields.proofs.cryosat.in_limits.Tie as tie

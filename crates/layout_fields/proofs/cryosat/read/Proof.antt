@@ -1,4 +1,4 @@
--- `fields::cryosat::read` meets its contract. Assumes nothing.
+-- `layout_fields::cryosat::read` meets its contract. Assumes nothing.
 use denote.Ref.{now}
 use mathlib.Core.Path.{ap, _∙_}
 use lib.ListN.{length}

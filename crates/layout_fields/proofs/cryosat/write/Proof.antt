@@ -1,4 +1,4 @@
--- `fields::cryosat::write` meets its contract. Assumes nothing.
+-- `layout_fields::cryosat::write` meets its contract. Assumes nothing.
 use denote.Ref.{now}
 use mathlib.Core.Path.{refl, sym, _∙_}
 use native.Mathlib.Omega.{arith}

@@ -1,4 +1,4 @@
--- `fields::cuc::read` meets its contract. Assumes nothing.
+-- `layout_fields::cuc::read` meets its contract. Assumes nothing.
 use denote.Ref.{now}
 use borrow.Author.Tests.{eq-eqb, ne-eqb}
 use Rattle.scales.specs.Order.{here, last, next}

@@ -1,4 +1,4 @@
--- `fields::cuc::write` meets its contract. Assumes nothing.
+-- `layout_fields::cuc::write` meets its contract. Assumes nothing.
 use Rattle.layout_fields.specs.Cuc.{write}
 use borrow.Author.Needs.{needs}
 use Rattle.layout_fields.proofs.cuc.write.Statement.{statement}

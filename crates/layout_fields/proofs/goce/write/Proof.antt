@@ -1,4 +1,4 @@
--- `fields::goce::write` meets its contract. Assumes nothing.
+-- `layout_fields::goce::write` meets its contract. Assumes nothing.
 use denote.Ref.{now}
 use mathlib.Core.Path.{_∙_}
 use Prim.Native.Nat.{_^_}

@@ -1,4 +1,4 @@
--- `fields::obet::read` meets its contract. Assumes nothing.
+-- `layout_fields::obet::read` meets its contract. Assumes nothing.
 use denote.Ref.{now}
 use mathlib.Core.Path.{sym, _∙_}
 use borrow.Author.Tests.{eq-eqb, ne-eqb}

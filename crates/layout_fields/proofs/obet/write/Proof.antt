@@ -1,4 +1,4 @@
--- `fields::obet::write` meets its contract. Assumes nothing.
+-- `layout_fields::obet::write` meets its contract. Assumes nothing.
 use denote.Ref.{now}
 use mathlib.Core.Path.{_∙_}
 use mathlib.Core.List.{_++_}

@@ -1,4 +1,4 @@
--- `fields::proteus::head` meets its contract. Assumes nothing.
+-- `layout_fields::proteus::head` meets its contract. Assumes nothing.
 use mathlib.Core.Path.{sym, ap}
 use Rattle.layout_fields.specs.Proteus.{headOf}
 use borrow.Author.Needs.{needs}

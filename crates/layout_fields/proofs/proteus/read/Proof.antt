@@ -1,4 +1,4 @@
--- `fields::proteus::read` meets its contract. Assumes nothing.
+-- `layout_fields::proteus::read` meets its contract. Assumes nothing.
 use denote.Ref.{now}
 use mathlib.Core.Path.{sym, ap, _∙_}
 use native.Mathlib.Omega.{arith}

@@ -1,4 +1,4 @@
--- `fields::proteus::write` meets its contract. Assumes nothing.
+-- `layout_fields::proteus::write` meets its contract. Assumes nothing.
 use denote.Ref.{now}
 use native.Mathlib.Omega.{arith}
 use borrow.Author.Tests.{lt-ltb, le-ltb, le-leb, lt-leb}

@@ -1,9 +1,10 @@
--- `fields::sbt::read` meets its contract. Assumes nothing.
+-- `layout_fields::sbt::read` meets its contract. Assumes nothing.
 use denote.Ref.{now}
 use borrow.Author.Tests.{eq-eqb, ne-eqb}
 use Rattle.scales.specs.Order.{here, last, next}
 use Rattle.scales.specs.declared.Refusal.the-variants as R
-use Rattle.layout_fields.specs.Sbt.{tickOf, reading, empty, read}
+use Rattle.layout_fields.specs.Sbt.{reading, read}
+use Rattle.layout_fields.specs.Meaning.{part}
 use Rattle.layout_fields.proofs.Ways.{refuses, answers}
 use borrow.Author.Needs.{needs}
 use Rattle.layout_fields.proofs.sbt.read.Statement.{statement}
@@ -11,13 +12,13 @@ use Rattle.layout_fields.proofs.sbt.read.Tie as tie
 
 returns : tie.Need-returns
 unfolding read
-returns c = refuses empty (reading (now (c .before .before .args .b))) R.LengthIsNone (here (ne-eqb _ 4 (c .if1 .taken)))
+returns c = refuses 0 (reading (now (c .before .before .args .b))) R.LengthIsNone (here (ne-eqb _ 4 (c .if1 .taken)))
 
 returns-2 : tie.Need-returns-2
 unfolding read
 returns-2 c =
     let s = now (c .before .before .before .args .b) in
-    rw (c .part .ensures .0) (answers empty (reading s) (tickOf s) (next (eq-eqb _ 4 (c .before .if1 .left)) last))
+    rw (c .part .ensures .0) (answers 0 (reading s) (part s 0 4) (next (eq-eqb _ 4 (c .before .if1 .left)) last))
 
 pub read-spec : {M : Type 1} → statement M
 read-spec = tie.close (tie.spec returns (λ c κs. search needs) (λ c. search needs) returns-2)

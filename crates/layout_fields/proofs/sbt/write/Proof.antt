@@ -1,4 +1,4 @@
--- `fields::sbt::write` meets its contract. Assumes nothing.
+-- `layout_fields::sbt::write` meets its contract. Assumes nothing.
 use Rattle.layout_fields.specs.Sbt.{write}
 use borrow.Author.Needs.{needs}
 use Rattle.layout_fields.proofs.sbt.write.Statement.{statement}

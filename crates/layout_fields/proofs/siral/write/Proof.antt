@@ -1,4 +1,4 @@
--- `fields::siral::write` meets its contract. Assumes nothing.
+-- `layout_fields::siral::write` meets its contract. Assumes nothing.
 use denote.Ref.{now}
 use mathlib.Core.Path.{sym, _∙_}
 use native.Mathlib.Omega.{arith}

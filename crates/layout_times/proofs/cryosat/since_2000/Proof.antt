@@ -1,7 +1,7 @@
--- `layouts::cryosat::since_2000` meets its contract. Assumes nothing.
+-- `layout_times::cryosat::since_2000` meets its contract. Assumes nothing.
 use mathlib.Core.Path.{sym, ap, _∙_}
 use Rattle.scales.specs.declared.Scale.the-variants as S
-use Rattle.layout_fields.specs.Meaning.{countSlip}
+use Rattle.scales.specs.Meaning.{countSlip}
 use Rattle.layout_times.specs.Due.{HeldIn, held-in}
 use Rattle.layout_times.proofs.Ways.{cryosat-no, cryosat-early, cryosat-at}
 use borrow.Author.Needs.{needs}

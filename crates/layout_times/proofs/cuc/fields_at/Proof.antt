@@ -1,4 +1,4 @@
--- `layouts::cuc::fields_at` meets its contract. Assumes nothing.
+-- `layout_times::cuc::fields_at` meets its contract. Assumes nothing.
 use mathlib.Core.Path.{ap}
 use Prim.Native.Nat.{ℕ, _/_}
 use Rattle.layout_fields.specs.declared.cuc.Fields.{Fields}

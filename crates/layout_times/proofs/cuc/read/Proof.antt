@@ -1,4 +1,4 @@
--- `layouts::cuc::read` meets its contract. Assumes nothing.
+-- `layout_times::cuc::read` meets its contract. Assumes nothing.
 use denote.Ref.{now}
 use mathlib.Core.Path.{refl, sym, ap, _∙_}
 use Prim.Native.Nat.{ℕ, _+_, _*_}

@@ -1,12 +1,11 @@
--- `layouts::cuc::write` meets its contract. Assumes nothing.
+-- `layout_times::cuc::write` meets its contract. Assumes nothing.
 use denote.Ref.{now}
 use mathlib.Core.Path.{_≡_, refl, sym, ap, _∙_}
 use mathlib.Core.Bool.{true}
 use Prim.Native.Nat.{ℕ}
-use Rattle.scales.specs.Meaning.{outcome}
+use Rattle.scales.specs.Meaning.{outcome, some, valued, valueSlip, countSlip}
 use Rattle.scales.specs.declared.Scale.the-variants as S
-use Rattle.decimal.specs.Meaning.{dayOf, microOf}
-use Rattle.layout_fields.specs.Meaning.{some, valued, slipOf, countSlip}
+use Rattle.handed.specs.Meaning.{dayOf, microOf}
 use Rattle.layout_fields.specs.Cuc.{write as fieldsWrite}
 use Rattle.layout_fields.specs.declared.cuc.Fields.{Fields}
 use Rattle.layout_times.specs.Chain.{write-no, write-at}
@@ -18,7 +17,7 @@ use Rattle.layout_times.proofs.cuc.write.Statement.{statement}
 use Rattle.layout_times.proofs.cuc.write.Tie as tie
 
 -- the count that was taken
-taken : (c : tie.After-n) → slipOf 0 (some (c .n .given .0 .0)) ≡ valued 0 (outcome (dueIn S.Gps (c .before .before .before .before .args .h)))
+taken : (c : tie.After-n) → valueSlip 0 (some (c .n .given .0 .0)) ≡ valued 0 (outcome (dueIn S.Gps (c .before .before .before .before .args .h)))
 taken c = sym (ap countSlip (c .n .given .1)) ∙ c .before .before .due .ensures
 
 known : (c : tie.After-n) → HeldIn S.Gps (c .before .before .before .before .args .h) (c .n .given .0 .0)

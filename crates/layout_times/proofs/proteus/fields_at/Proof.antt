@@ -1,4 +1,4 @@
--- `layouts::proteus::fields_at` meets its contract. Assumes nothing.
+-- `layout_times::proteus::fields_at` meets its contract. Assumes nothing.
 use mathlib.Core.Path.{ap}
 use Prim.Native.Nat.{ℕ, _/_, _%_}
 use Rattle.layout_fields.specs.declared.proteus.Fields.{Fields}

@@ -1,25 +1,24 @@
--- `layouts::proteus::read` meets its contract. Assumes nothing.
+-- `layout_times::proteus::read` meets its contract. Assumes nothing.
 use denote.Ref.{now}
 use mathlib.Core.Path.{_≡_, sym, ap, _∙_}
 use Prim.Native.Nat.{ℕ, _+_, _*_}
-use Rattle.scales.specs.Meaning.{outcome, slip, spanned}
+use Rattle.scales.specs.Meaning.{outcome, slip, spanned, some, valued, valueSlip}
 use Rattle.scales.specs.declared.Scale.the-variants as S
-use Rattle.layout_fields.specs.Meaning.{some, valued, slipOf}
 use Rattle.layout_fields.specs.Proteus.{reading, empty, slip as fieldsSlip, read as fieldsRead}
 use Rattle.layout_times.specs.Meaning.{momentFrom}
-use Rattle.layout_times.specs.Proteus.{epoch, momentOf}
+use Rattle.layout_times.specs.Proteus.{epoch, fieldsMoment}
 use Rattle.layout_times.specs.Stamps.{stamp-at, stamp-no, stamp-refused}
 use borrow.Author.Needs.{needs}
 use Rattle.layout_times.proofs.proteus.read.Statement.{statement}
 use Rattle.layout_times.proofs.proteus.read.Tie as tie
 
 -- the fields that were read, and their time
-known : (c : tie.After-f) → slipOf empty (some (c .f .given .0 .0)) ≡ valued empty (outcome (reading (now (c .before .before .before .before .args .b))))
+known : (c : tie.After-f) → valueSlip empty (some (c .f .given .0 .0)) ≡ valued empty (outcome (reading (now (c .before .before .before .before .args .b))))
 unfolding fieldsRead
 known c = sym (ap fieldsSlip (c .f .given .1)) ∙ c .before .before .read .ensures
 
 dated : (c : tie.After-since) → let f = c .before .before .before .before .before .f .given .0 .0 in
-    slip (c .since .result) ≡ spanned S.Utc (momentOf f .day) (momentOf f .micro)
+    slip (c .since .result) ≡ spanned S.Utc (fieldsMoment f .day) (fieldsMoment f .micro)
 dated c =
     let f = c .before .before .before .before .before .f .given .0 .0 in
     c .since .ensures

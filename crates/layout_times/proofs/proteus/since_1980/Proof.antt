@@ -1,7 +1,7 @@
--- `layouts::proteus::since_1980` meets its contract. Assumes nothing.
+-- `layout_times::proteus::since_1980` meets its contract. Assumes nothing.
 use mathlib.Core.Path.{sym, ap, _∙_}
 use Rattle.scales.specs.declared.Scale.the-variants as S
-use Rattle.layout_fields.specs.Meaning.{countSlip}
+use Rattle.scales.specs.Meaning.{countSlip}
 use Rattle.layout_times.specs.Due.{HeldIn, held-in}
 use Rattle.layout_times.proofs.Ways.{proteus-no, proteus-early, proteus-late, proteus-sixty, proteus-at}
 use borrow.Author.Needs.{needs}

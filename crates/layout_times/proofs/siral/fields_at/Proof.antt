@@ -1,4 +1,4 @@
--- `layouts::siral::fields_at` meets its contract. Assumes nothing.
+-- `layout_times::siral::fields_at` meets its contract. Assumes nothing.
 use mathlib.Core.Path.{ap}
 use Rattle.layout_fields.specs.declared.cryosat.Fields as Cryosat
 use Rattle.layout_fields.specs.declared.siral.Fields.{Fields}

@@ -1,4 +1,4 @@
--- `layouts::siral::read` meets its contract. Assumes nothing.
+-- `layout_times::siral::read` meets its contract. Assumes nothing.
 use denote.Ref.{now}
 use mathlib.Core.Path.{refl, sym, ap, _∙_}
 use Rattle.scales.specs.declared.Scale.the-variants as S

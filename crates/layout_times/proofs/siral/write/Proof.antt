@@ -1,9 +1,8 @@
--- `layouts::siral::write` meets its contract. Assumes nothing.
+-- `layout_times::siral::write` meets its contract. Assumes nothing.
 use denote.Ref.{now}
 use mathlib.Core.Path.{_≡_, refl, sym, ap, _∙_}
 use Prim.Native.Nat.{ℕ}
-use Rattle.scales.specs.Meaning.{outcome}
-use Rattle.layout_fields.specs.Meaning.{some, valued, slipOf, countSlip}
+use Rattle.scales.specs.Meaning.{outcome, some, valued, valueSlip, countSlip}
 use Rattle.layout_fields.specs.Cryosat.{inLimits}
 use Rattle.layout_fields.specs.Siral.{imageOf, write as fieldsWrite}
 use Rattle.layout_fields.specs.declared.siral.Fields.{Fields}
@@ -16,7 +15,7 @@ use Rattle.layout_times.proofs.siral.write.Statement.{statement}
 use Rattle.layout_times.proofs.siral.write.Tie as tie
 
 -- the microseconds that were taken
-known : (c : tie.After-n) → slipOf 0 (some (c .n .given .0 .0)) ≡ valued 0 (outcome (since2000 (c .before .before .before .before .args .h)))
+known : (c : tie.After-n) → valueSlip 0 (some (c .n .given .0 .0)) ≡ valued 0 (outcome (since2000 (c .before .before .before .before .args .h)))
 known c = sym (ap countSlip (c .n .given .1)) ∙ c .before .before .since-2000 .ensures
 
 fields-at-requires : tie.Need-fields-at-requires

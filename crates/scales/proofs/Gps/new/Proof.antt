@@ -3,15 +3,15 @@ use mathlib.Core.Path.{_≡_, ap, sym, _∙_}
 use lib.IntN.{ℤ}
 use mir.Facts.{toZ-ofZ}
 use borrow.Author.Needs.{needs}
-use Rattle.scales.specs.Place.{counted}
+use Rattle.scales.specs.Place.{fitOf}
 use Rattle.scales.specs.Counts.{count-at, count-out}
 use Rattle.scales.specs.declared.Scale.the-variants as S
 use Rattle.scales.proofs.Gps.new.Statement.{statement}
 use Rattle.scales.proofs.Gps.new.Tie as tie
 
 -- the callee read the day from its bits
-seen : (c : tie.After-count-of) → let a = c .before .args in c .count-of .result ≡ counted S.Gps (a .day) (a .micro)
-seen c = c .count-of .ensures ∙ ap (λ (d : ℤ). counted S.Gps d (c .before .args .micro)) (toZ-ofZ (c .before .fits .day))
+seen : (c : tie.After-count-of) → let a = c .before .args in c .count-of .result ≡ fitOf S.Gps (a .day) (a .micro)
+seen c = c .count-of .ensures ∙ ap (λ (d : ℤ). fitOf S.Gps d (c .before .args .micro)) (toZ-ofZ (c .before .fits .day))
 
 returns : tie.Need-returns
 returns c = let b = c .before .before .before in let a = b .before .args in

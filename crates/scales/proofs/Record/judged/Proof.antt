@@ -4,22 +4,22 @@ use lib.IntN.{ℤ}
 use mir.Syntax.{w64}
 use mir.Facts.{toZ-ofZ}
 use borrow.Author.Needs.{needs}
-use Rattle.scales.specs.Place.{counted, spanned-in}
-use Rattle.scales.specs.Counts.{counted-at, count-out}
+use Rattle.scales.specs.Place.{fitOf, spanned-in}
+use Rattle.scales.specs.Counts.{fit-at, count-out}
 use Rattle.scales.proofs.Record.judged.Statement.{statement}
 use Rattle.scales.proofs.Record.judged.Tie as tie
 
 -- the callee read the day from its bits
-seen : (c : tie.After-count-of) → let r = c .before .before .args .self in c .count-of .result ≡ counted (r .scale) (r .day) (r .micro)
+seen : (c : tie.After-count-of) → let r = c .before .before .args .self in c .count-of .result ≡ fitOf (r .scale) (r .day) (r .micro)
 seen c =
     let r = c .before .before .args .self in
     c .count-of .ensures
-    ∙ ap (λ (d : ℤ). counted (r .scale) d (r .micro)) (toZ-ofZ {w = w64} {z = r .day} (record { sfits = c .before .struct-told .given .1 .0 .1 }))
+    ∙ ap (λ (d : ℤ). fitOf (r .scale) d (r .micro)) (toZ-ofZ {w = w64} {z = r .day} (record { sfits = c .before .struct-told .given .1 .0 .1 }))
 
 returns : tie.Need-returns
 returns c = let b = c .before .before in let r = b .before .before .args .self in
     sym (spanned-in (r .scale) (r .day) (r .micro)
-    (counted-at (r .scale) (r .day) (r .micro) (c .enum-told .given .0 .0) (sym (seen b) ∙ c .enum-told .given .1) .0))
+    (fit-at (r .scale) (r .day) (r .micro) (c .enum-told .given .0 .0) (sym (seen b) ∙ c .enum-told .given .1) .0))
 
 returns-2 : tie.Need-returns-2
 returns-2 c = let b = c .before .before in let r = b .before .before .args .self in

@@ -5,7 +5,7 @@ use mir.Syntax.{w64}
 use mir.Facts.{toZ-ofZ}
 use borrow.Author.Needs.{needs}
 use Rattle.scales.specs.Meaning.{slipTimed}
-use Rattle.scales.specs.Place.{counted}
+use Rattle.scales.specs.Place.{fitOf}
 use Rattle.scales.specs.Counts.{count-at, count-out, timed-count}
 use Rattle.scales.specs.declared.Time.{Time}
 use Rattle.scales.specs.declared.Timed.the-variants as TD
@@ -13,11 +13,11 @@ use Rattle.scales.proofs.Record.to_time.Statement.{statement}
 use Rattle.scales.proofs.Record.to_time.Tie as tie
 
 -- the callee read the day from its bits
-seen : (c : tie.After-count-of) → let r = c .before .before .args .self in c .count-of .result ≡ counted (r .scale) (r .day) (r .micro)
+seen : (c : tie.After-count-of) → let r = c .before .before .args .self in c .count-of .result ≡ fitOf (r .scale) (r .day) (r .micro)
 seen c =
     let r = c .before .before .args .self in
     c .count-of .ensures
-    ∙ ap (λ (d : ℤ). counted (r .scale) d (r .micro)) (toZ-ofZ {w = w64} {z = r .day} (record { sfits = c .before .struct-told .given .1 .0 .1 }))
+    ∙ ap (λ (d : ℤ). fitOf (r .scale) d (r .micro)) (toZ-ofZ {w = w64} {z = r .day} (record { sfits = c .before .struct-told .given .1 .0 .1 }))
 
 returns : tie.Need-returns
 returns c = let k = c .before .before in let b = k .before .before in let r = b .before .before .args .self in

@@ -11,12 +11,12 @@ use lib.IntN.{ℤ}
 use Prim.Native.Nat.{ℕ}
 use Rattle.scales.specs.Meaning.{recordOf}
 use Rattle.scales.specs.declared.Record.{Record}
-use Rattle.scales.specs.declared.Handed.the-variants as H
+use Rattle.handed.specs.declared.Handed.the-variants as H
 use Rattle.calendar.specs.Meaning.{daySlip, dayOfDate}
 use Rattle.calendar.specs.declared.DayAnswer.{DayAnswer}
-use Rattle.scales.specs.Same.{some}
-use Rattle.decimal.specs.Meaning.{Took}
-use Rattle.text_read.specs.Meaning.{hasMarks, stampIn, inLimits, microOf}
+use Rattle.scales.specs.Same.{no-zero}
+use Rattle.handed.specs.Meaning.{Took}
+use Rattle.text_read.specs.Meaning.{hasMarks, stampIn, inLimits, stampMicro}
 use Rattle.text_read.specs.Parse.{limited, body-marks, body-limits, body-date, body-outside, body-at}
 use Rattle.text_read.specs.declared.Stamp.{Stamp}
 use borrow.Author.Needs.{needs}
@@ -74,7 +74,7 @@ returns-4 c =
     let x = d .before .before .before .before .before .before .before .before .args in
     let g = c .before .before .before .before .day .given in
     let q = ap daySlip (sym (g .1)) ∙ k .day in
-    let u = c .before .before .micro-of .ensures ∙ ap microOf (k .stamp) in
+    let u = c .before .before .micro-of .ensures ∙ ap stampMicro (k .stamp) in
     body-at (x .z) (now (x .s)) (k .marks) (k .limits) (g .0 .0) q _
     (subst (λ (r : Record). Took (H.Record r) (c .take .result))
     (c .before .new .ensures ∙ ap₂ (λ (a : ℤ) (n : ℕ). recordOf (x .z) a n) (toZ-ofZ (record { sfits = c .before .before .before .known-told .given .0 .1 })) u)
@@ -89,7 +89,7 @@ returns-5 c =
     let q = ap daySlip (sym (f .f .given .1)) ∙ k .day in
     let n = c .before .number .ensures in
     body-outside (x .z) (now (x .s)) (k .marks) (k .limits)
-    (λ e. c .if3 .left (n ∙ (λ i. q i .number) ∙ e)) (λ e. some (f .f .given .0 .0) ((λ i. q i .number) ∙ e))
+    (λ e. c .if3 .left (n ∙ (λ i. q i .number) ∙ e)) (λ e. no-zero (f .f .given .0 .0) ((λ i. q i .number) ∙ e))
 
 pub parse-body-spec : {M : Type 1} → statement M
 parse-body-spec =

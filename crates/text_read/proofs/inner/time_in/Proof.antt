@@ -5,7 +5,7 @@ use denote.Ref.{now}
 use lib.IntN.{ℤ}
 use mir.Facts.{toZ-ofZ}
 use Rattle.scales.specs.Meaning.{outcome, dated, timeScale, timeCount}
-use Rattle.decimal.specs.declared.Taken.{Taken}
+use Rattle.handed.specs.declared.Taken.{Taken}
 use Rattle.leap.specs.Meaning.{accepted}
 use Rattle.changes.specs.Meaning.{ofCount, moving}
 use Rattle.text_read.specs.In.{timeIn, in-outside, in-at}

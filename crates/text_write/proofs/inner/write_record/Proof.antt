@@ -5,8 +5,8 @@ use denote.Ref.{now}
 use mir.Facts.{toZ-ofZ}
 use borrow.Author.Tests.{not-true, not-false}
 use Rattle.calendar.specs.Meaning.{dateSlip, dateOfDay}
+use Rattle.changes.specs.Asked.{recordMoment}
 use Rattle.text_write.specs.Meaning.{fullText}
-use Rattle.text_read.specs.Stage.{recordMoment}
 use Rattle.text_write.specs.Stage.{putting}
 use Rattle.text_write.specs.Writes.{image-lacks, image-put, has-date, month-in}
 use Rattle.text_read.specs.declared.Stamp.{Stamp}

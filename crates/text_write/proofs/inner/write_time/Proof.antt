@@ -6,7 +6,7 @@ use mir.Facts.{toZ-ofZ}
 use lib.IntN.{ℤ}
 use Rattle.leap.specs.Meaning.{accepted}
 use Rattle.scales.specs.Meaning.{outcome, slip, dated}
-use Rattle.text_read.specs.Stage.{takenScale, taking}
+use Rattle.changes.specs.Asked.{takenScale, takenAsked}
 use Rattle.text_write.specs.Writes.{write-refused, write-answer, write-inside}
 use borrow.Author.Needs.{needs}
 use Rattle.text_write.proofs.inner.write_time.Statement.{statement}
@@ -14,11 +14,11 @@ use Rattle.text_write.proofs.inner.write_time.Tie as tie
 
 -- what the callee said, of the last day itself
 said : (c : tie.After-judge) → let x = c .before .before .before .args in
-    slip (c .judge .result) ≡ dated (takenScale (x .t)) (outcome (taking (x .t) (now (x .days)) (now (x .offsets)) (x .last)))
+    slip (c .judge .result) ≡ dated (takenScale (x .t)) (outcome (takenAsked (x .t) (now (x .days)) (now (x .offsets)) (x .last)))
 said c =
     let s = c .before .before .before in
     let x = s .args in
-    c .judge .ensures ∙ ap (λ (z : ℤ). dated (takenScale (x .t)) (outcome (taking (x .t) (now (x .days)) (now (x .offsets)) z))) (toZ-ofZ (s .fits .last))
+    c .judge .ensures ∙ ap (λ (z : ℤ). dated (takenScale (x .t)) (outcome (takenAsked (x .t) (now (x .days)) (now (x .offsets)) z))) (toZ-ofZ (s .fits .last))
 
 judge-requires : tie.Need-judge-requires
 judge-requires c κs = let s = c .before .before in let x = s .args in λ h. subst (λ (z : ℤ). accepted (now (x .days)) (now (x .offsets)) z ≡ true) (sym (toZ-ofZ (s .fits .last))) (s .pre h)

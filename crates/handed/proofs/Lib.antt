@@ -1,0 +1,4 @@
+pub mod Product
+pub mod Value
+pub mod Fields
+pub mod Ways

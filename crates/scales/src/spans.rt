@@ -1,0 +1,85 @@
+// The one test of a span, and counts made and taken apart, for all three scales.
+ghost use mathlib.Core.Path.{_≡_};
+ghost use Rattle.scales.specs.Meaning.{recordAt, timeAt};
+ghost use Rattle.scales.specs.Place.{spanFrom, spanOf, fitOf};
+use crate::Gps;
+use crate::Record;
+use crate::Scale;
+use crate::Tai;
+use crate::Time;
+use crate::Utc;
+
+pub enum Fit {
+    At(u64),
+    Outside,
+}
+
+// A span on the axis: the places of its first and last day, and the microseconds of a day.
+pub struct Span {
+    pub first: u64,
+    pub last: u64,
+    pub bound: u64,
+}
+
+fn span_from(first: i64, last: i64, bound: u64) -> Span
+    ensures { λ r. ⌜ r ≡ spanFrom first last bound ⌝ }
+{
+    Span {
+        first: axis::place_of_day(first),
+        last: axis::place_of_day(last),
+        bound,
+    }
+}
+
+fn span_of(scale: Scale) -> Span
+    ensures { λ r. ⌜ r ≡ spanOf scale ⌝ }
+{
+    match scale {
+        Scale::Tai => span_from(Tai::FIRST_DAY, Tai::LAST_DAY, Tai::BOUND),
+        Scale::Utc => span_from(Utc::FIRST_DAY, Utc::LAST_DAY, Utc::BOUND),
+        Scale::Gps => span_from(Gps::FIRST_DAY, Gps::LAST_DAY, Gps::BOUND),
+    }
+}
+
+// The count of a day and a microsecond of a scale, if they lie in its span.
+pub fn count_of(scale: Scale, day: i64, micro: u64) -> Fit
+    ensures { λ r. ⌜ r ≡ fitOf scale day micro ⌝ }
+{
+    let span = span_of(scale);
+    let bound = span.bound;
+    let d = axis::place_of_day(day);
+    if d < span.first {
+        return Fit::Outside;
+    }
+    if span.last < d {
+        return Fit::Outside;
+    }
+    if bound <= micro {
+        return Fit::Outside;
+    }
+    Fit::At(d * bound + micro)
+}
+
+// The record of a count. This function and `Record::new` are the only ones that build a record.
+pub fn record_at(scale: Scale, count: u64) -> Record
+    ensures { λ r. ⌜ r ≡ recordAt scale count ⌝ }
+{
+    let bound = span_of(scale).bound;
+    let day = axis::day_at((count / bound) as u32);
+    Record {
+        scale,
+        day,
+        micro: count % bound,
+    }
+}
+
+// The time of a count.
+pub fn time_at(scale: Scale, count: u64) -> Time
+    ensures { λ r. ⌜ r ≡ timeAt scale count ⌝ }
+{
+    match scale {
+        Scale::Tai => Time::Tai(Tai(count)),
+        Scale::Utc => Time::Utc(Utc(count)),
+        Scale::Gps => Time::Gps(Gps(count)),
+    }
+}
