@@ -10,7 +10,8 @@ use Rattle.handed.specs.declared.Handed.{Handed}
 use Rattle.ground_laws.proofs.Desks.{keeps}
 use Rattle.calendar.specs.Meaning.{leap, monthLength, lengthOf, firstDay, isDate, dayAfter, daysTo, walk, dayOfDate, dateOfDay}
 use Rattle.double.specs.Meaning.{plusZero}
-use Rattle.text_read.specs.Meaning.{digitOf, twoOf, fourOf, names, letter, isNamed, seek, monthOf, hasMarks, microIn, stampIn, inLimits, prefixOf, hasPrefix, scaleIn, bodyIn, isPrefixRight, isBody, readText}
+use Rattle.text_fields.specs.Meaning.{names, letter, prefixOf}
+use Rattle.text_read.specs.Meaning.{digitOf, twoOf, fourOf, isNamed, seek, monthOf, hasMarks, microIn, stampIn, inLimits, hasPrefix, scaleIn, bodyIn, isPrefixRight, isBody, readText}
 use Rattle.text_write.specs.Meaning.{textOf, writing}
 use Rattle.text_laws.specs.Computed.{reads}
 use Rattle.text_laws.specs.Wrong.{capitals, ownScale, beforeGps}

@@ -8,7 +8,7 @@ use lib.Dec.{ltb}
 use lib.IntN.{ℤ, pos}
 use borrow.Author.Tests.{ltb-true}
 use Rattle.axis.specs.Meaning.{Moment}
-use Rattle.scales.specs.Meaning.{inSpan, Judged, given, gives, Outcome, refused, answer, outcome, dated, numberOf, slip, momentAt, timeScale, timeCount}
+use Rattle.scales.specs.Meaning.{inSpan, Judged, given, gives, Outcome, refused, answer, outcome, dated, numberOf, slip, momentAt, timeScale, timeCount, recordMoment}
 use Rattle.scales.specs.Order.{no-answer, numbered}
 use Rattle.scales.specs.Same.{no-zero}
 use Rattle.scales.specs.Place.{and-both}
@@ -18,19 +18,13 @@ use Rattle.scales.specs.declared.Time.{Time}
 use Rattle.scales.specs.declared.Record.{Record}
 use Rattle.scales.specs.declared.Refusal.{Refusal}
 use Rattle.scales.specs.declared.Dated.the-variants as D
-use Rattle.handed.specs.Meaning.{scaleOf, isFinite, isInSpan, Took}
+use Rattle.handed.specs.Meaning.{scaleOf, isFinite, isInSpan, Took, momentIn}
 use Rattle.handed.specs.Told.{told-nothing, told-outside, told-at, told-scale, told-moment}
 use Rattle.handed.specs.declared.Handed.{Handed}
 use Rattle.handed.specs.declared.Taken.{Taken}
 use Rattle.handed.specs.declared.Taken.the-variants as K
 use Rattle.leap.specs.Meaning.{accepted}
-use Rattle.changes.specs.Meaning.{isUtc, changeUsesList, momentIn, ofCount, moving, asked}
-
--- ---- a time that was taken
-abbrev pub takenScale : Taken → Scale
-takenScale (K.NotFinite z) = z
-takenScale (K.Outside z) = z
-takenScale (K.At t) = timeScale t
+use Rattle.changes.specs.Meaning.{isUtc, changeUsesList, ofCount, moving, asked}
 
 abbrev pub timeUsesList : Taken → Bool
 timeUsesList (K.NotFinite z) = false
@@ -52,9 +46,6 @@ abbrev pub takenAsked : Taken → List ℤ → List ℕ → ℤ → Judged Momen
 takenAsked (K.NotFinite z) ds os e = given false 4 (gives nowhere)
 takenAsked (K.Outside z) ds os e = asked z ds os e false nowhere (gives nowhere)
 takenAsked (K.At t) ds os e = momentAsked (timeScale t) ds os e (momentAt (timeScale t) (timeCount t))
-
-abbrev pub recordMoment : Record → Moment
-recordMoment r = record { day = r .day; micro = r .micro }
 
 -- a change to the same scale uses a list where the scale does
 pub uses-same : (z y : Scale) → y ≡ z → changeUsesList z y ≡ true → isUtc z ≡ true
@@ -113,11 +104,6 @@ module _ (ds : List ℤ) (os : List ℕ) (e : ℤ) where
       let x = told-at h (K.At t) w t refl in
       moment-is (timeScale t) (scaleOf h) (momentAt (timeScale t) (timeCount t)) (momentIn h) (told-scale h t x) (told-moment h t x)
       ∙ sym (rw (x .finite, x .inside, x .kept))
-
-pub took-scale : (h : Handed) (t : Taken) → Took h t → takenScale t ≡ scaleOf h
-took-scale h (K.NotFinite z) w = told-nothing h (K.NotFinite z) w z refl .1
-took-scale h (K.Outside z) w = told-outside h (K.Outside z) w z refl .2
-took-scale h (K.At t) w = told-scale h t (told-at h (K.At t) w t refl)
 
 -- ---- what an answer tells: none of a chain's numbers is 0
 pub sound : {A : Type 0} (j : Judged A) → numbered j ≡ true → outcome j ≡ refused 0 → ⊥

@@ -16,10 +16,10 @@ use Rattle.scales.specs.declared.DatedTai.the-variants as DT
 use Rattle.scales.specs.declared.Time.{Time}
 use Rattle.handed.specs.declared.Handed.{Handed}
 use Rattle.handed.specs.Told.{Told, told-scale, told-moment}
-use Rattle.handed.specs.Meaning.{scaleOf, isFinite, isInSpan}
+use Rattle.handed.specs.Meaning.{scaleOf, isFinite, isInSpan, momentIn}
 use Rattle.leap.specs.Meaning.{accepted}
 use Rattle.leap.specs.Walk.{or-true}
-use Rattle.changes.specs.Meaning.{fromScale, toScale, isUtc, changeUsesList, settled, moving, ofCount, momentIn, changeOf}
+use Rattle.changes.specs.Meaning.{fromScale, toScale, isUtc, changeUsesList, settled, moving, ofCount, changeOf}
 use Rattle.changes.specs.Ways.{Left, way-on, way-out}
 
 -- ---- the list is used where UTC stands on either side

@@ -5,11 +5,11 @@ use mathlib.Core.List.{List}
 use Prim.Native.Nat.{ℕ}
 use lib.IntN.{ℤ, _+ℤ_, _-ℤ_}
 use Rattle.axis.specs.Meaning.{Moment, since, momentOf}
-use Rattle.scales.specs.Meaning.{andThen, sameScale, inSpan, Judged, given, gives, outcome, Slip, dated, momentAt}
+use Rattle.scales.specs.Meaning.{andThen, sameScale, inSpan, Judged, given, gives, outcome, Slip, dated, momentAt, resulting}
 use Rattle.scales.specs.declared.Scale.{Scale}
 use Rattle.scales.specs.declared.Scale.the-variants as S
 use Rattle.handed.specs.declared.Handed.{Handed}
-use Rattle.handed.specs.Meaning.{scaleOf, isFinite, isInSpan, dayOf, microOf}
+use Rattle.handed.specs.Meaning.{scaleOf, isFinite, isInSpan, dayOf, microOf, momentIn}
 use Rattle.leap.specs.Meaning.{seconds, accepted, taiOf, hasMicro, isExpiredDay, isExpiredTai, utcOf}
 
 -- ---- a time to its TAI count; `spans` says whether the time lies in its span
@@ -31,22 +31,16 @@ fromUtc ds os e spans m =
     (given (hasMicro ds (m .day) (m .micro)) 10
     (gives (taiOf ds os (m .day) (m .micro)))))
 
--- ---- a TAI count, "whose span is not tested on the way", to a time
-abbrev pub within : Scale → Moment → Judged Moment
-within s m =
-    given (inSpan s (m .day) (m .micro)) 11
-    (gives m)
-
 abbrev pub toTai : ℤ → Judged Moment
-toTai c = within S.Tai (momentOf c)
+toTai c = resulting S.Tai (momentOf c)
 
 abbrev pub toGps : ℤ → Judged Moment
-toGps c = within S.Gps (momentOf (c -ℤ seconds 19))
+toGps c = resulting S.Gps (momentOf (c -ℤ seconds 19))
 
 abbrev pub toUtc : List ℤ → List ℕ → ℤ → ℤ → Judged Moment
 toUtc ds os e c =
     given (not (isExpiredTai ds os e c)) 9
-    (within S.Utc (utcOf ds os c))
+    (resulting S.Utc (utcOf ds os c))
 
 -- ---- the six changes, of a count of each scale
 abbrev pub ofCount : {A : Type 0} → Scale → ℕ → (Bool → Moment → A) → A
@@ -116,9 +110,6 @@ settled s to ds os e m c = cond (sameScale s to) (gives m) (toScale to ds os e c
 
 abbrev pub moving : Scale → Scale → List ℤ → List ℕ → ℤ → Bool → Moment → Judged Moment
 moving s to ds os e spans m = andThen (fromScale s ds os e spans m) (settled s to ds os e m)
-
-abbrev pub momentIn : Handed → Moment
-momentIn h = record { day = dayOf h; micro = microOf h }
 
 abbrev pub changing : Handed → Scale → List ℤ → List ℕ → ℤ → Judged Moment
 changing h to ds os e =

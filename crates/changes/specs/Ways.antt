@@ -11,7 +11,7 @@ use borrow.Author.Tests.{le-leb, lt-leb, lt-ltb, le-ltb}
 use Rattle.axis.specs.Meaning.{placeOfDay, dayAt, microsAt, Moment, dayMicros, since, momentOf}
 use Rattle.axis.specs.Diff.{sub-inj-same}
 use Rattle.axis.specs.Axis.{since-at, day-next, micros-le, micros-add, micros-minus, moment-at}
-use Rattle.scales.specs.Meaning.{andThen, bound, inSpan, Judged, given, Outcome, refused, answer, outcome, Slip, dated, numberOf, momentAt}
+use Rattle.scales.specs.Meaning.{andThen, bound, inSpan, Judged, given, Outcome, refused, answer, outcome, Slip, dated, numberOf, momentAt, resulting}
 use Rattle.scales.specs.Order.{onward, then-is, no-answer}
 use Rattle.scales.specs.Place.{firstAt, span-early, span-late, span-in}
 use Rattle.scales.specs.Same.{refusals}
@@ -27,7 +27,7 @@ use Rattle.leap.specs.Places.{tai-at}
 use Rattle.leap.specs.Steps.{steps}
 use Rattle.leap.specs.Back.{forth, none-before}
 use Rattle.leap.specs.Whole.{taiAt, expired-at, offset-small, before-known}
-use Rattle.changes.specs.Meaning.{fromTai, fromGps, fromUtc, within, toTai, toGps, toUtc, ofCount, withList, fromScale, toScale}
+use Rattle.changes.specs.Meaning.{fromTai, fromGps, fromUtc, toTai, toGps, toUtc, ofCount, withList, fromScale, toScale}
 
 -- ---- a TAI count on the way: its span is not tested, and it is well on the axis
 pub record OnTheWay (c : ℕ) : Type 0 where
@@ -200,15 +200,15 @@ module _ (ds : List ℤ) (os : List ℕ) (e : ℤ) (v : accepted ds os e ≡ tru
       ∙ micros-le limit c
 
 module _ (s : Scale) (m : Moment) where
-  within-out : inSpan s (m .day) (m .micro) ≡ false → refused 11 ≡ outcome (within s m)
+  within-out : inSpan s (m .day) (m .micro) ≡ false → refused 11 ≡ outcome (resulting s m)
   within-out e = sym (rw e)
 
-  within-in : inSpan s (m .day) (m .micro) ≡ true → answer m ≡ outcome (within s m)
+  within-in : inSpan s (m .day) (m .micro) ≡ true → answer m ≡ outcome (resulting s m)
   within-in e = sym (rw e)
 
 module _ (c : ℕ) (w : OnTheWay c) where
-  at-tai : outcome (toTai (microsAt c)) ≡ outcome (within S.Tai (momentAt S.Tai c))
-  at-tai = ap (λ (m : Moment). outcome (within S.Tai m)) (moment-at c)
+  at-tai : outcome (toTai (microsAt c)) ≡ outcome (resulting S.Tai (momentAt S.Tai c))
+  at-tai = ap (λ (m : Moment). outcome (resulting S.Tai m)) (moment-at c)
 
   pub tai-late : 76524 < c / dayMicros → dated S.Tai (refused 11) ≡ dated S.Tai (outcome (toTai (microsAt c)))
   tai-late h = ap (dated S.Tai) (within-out S.Tai (momentAt S.Tai c) (span-late S.Tai (c / dayMicros) (c % dayMicros) h) ∙ sym at-tai)
@@ -221,10 +221,10 @@ module _ (c : ℕ) (w : OnTheWay c) where
   abbrev less : ℕ
   less = c - 19000000
 
-  at-gps : outcome (toGps (microsAt c)) ≡ outcome (within S.Gps (momentAt S.Gps less))
+  at-gps : outcome (toGps (microsAt c)) ≡ outcome (resulting S.Gps (momentAt S.Gps less))
   at-gps =
-      ap (λ (z : ℤ). outcome (within S.Gps (momentOf z))) (micros-minus c 19000000 (omega (arith, w .from)))
-      ∙ ap (λ (m : Moment). outcome (within S.Gps m)) (moment-at less)
+      ap (λ (z : ℤ). outcome (resulting S.Gps (momentOf z))) (micros-minus c 19000000 (omega (arith, w .from)))
+      ∙ ap (λ (m : Moment). outcome (resulting S.Gps m)) (moment-at less)
 
   gps-out : inSpan S.Gps (dayAt (less / dayMicros)) (less % dayMicros) ≡ false → dated S.Gps (refused 11) ≡ dated S.Gps (outcome (toGps (microsAt c)))
   gps-out e = ap (dated S.Gps) (within-out S.Gps (momentAt S.Gps less) e ∙ sym at-gps)
@@ -249,8 +249,8 @@ module _ (c : ℕ) (w : OnTheWay c) where
     pub utc-early : c < limit ds os e v c → c < 29773 * dayMicros + 10000000 → Given (dated S.Utc (refused 11))
     utc-early h k =
         let b = none-before (steps ds os e v .grown) c (omega (arith, w .from)) k in
-        let q : outcome (toUtc ds os e (microsAt c)) ≡ outcome (within S.Utc (record { day = dayAt (b .place); micro = b .micro })) =
-        rw (expires ds os e v c, lt-leb (limit ds os e v c) c h) (ap (λ (m : Moment). outcome (within S.Utc m)) (b .is)) in
+        let q : outcome (toUtc ds os e (microsAt c)) ≡ outcome (resulting S.Utc (record { day = dayAt (b .place); micro = b .micro })) =
+        rw (expires ds os e v c, lt-leb (limit ds os e v c) c h) (ap (λ (m : Moment). outcome (resulting S.Utc m)) (b .is)) in
         ap (dated S.Utc)
         (within-out S.Utc (record { day = dayAt (b .place); micro = b .micro }) (span-early S.Utc (b .place) (b .micro) (b .early)) ∙ sym q)
 
@@ -261,7 +261,7 @@ module _ (c : ℕ) (w : OnTheWay c) where
         let a = r .real in
         let j = before-known ds os e v c r h in
         let m : Moment = record { day = dayAt (r .place); micro = r .micro } in
-        let q : outcome (toUtc ds os e (microsAt c)) ≡ outcome (within S.Utc m) =
-        rw (expires ds os e v c, lt-leb (limit ds os e v c) c h) (ap (λ (x : Moment). outcome (within S.Utc x)) (r .is)) in
+        let q : outcome (toUtc ds os e (microsAt c)) ≡ outcome (resulting S.Utc m) =
+        rw (expires ds os e v c, lt-leb (limit ds os e v c) c h) (ap (λ (x : Moment). outcome (resulting S.Utc x)) (r .is)) in
         ap (dated S.Utc)
         (ap answer (i ∙ r .is) ∙ within-in S.Utc m (span-in S.Utc (r .place) (r .micro) (a .from) (omega (arith, l .to)) (a .under)) ∙ sym q)

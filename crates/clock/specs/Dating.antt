@@ -6,9 +6,9 @@ use Prim.Native.Nat.{ℕ}
 use native.Mathlib.Omega.{arith}
 use lib.IntN.{ℤ}
 use Rattle.axis.specs.Meaning.{microsAt, Moment}
-use Rattle.scales.specs.Meaning.{dated, refused, outcome}
+use Rattle.scales.specs.Meaning.{dated, refused, outcome, resulting}
 use Rattle.scales.specs.declared.Scale.{Scale}
-use Rattle.clock.specs.Meaning.{Clock, elapsed, time, inWindow, Cover, cover, resulting, dating}
+use Rattle.clock.specs.Meaning.{Clock, elapsed, time, inWindow, Cover, cover, dating}
 use Rattle.clock.specs.Places.{timeAt, endsAt, coverOf, withinAt, windowAt, countFrom, within-place, elapsed-place, Based, time-place, cover-place, window-place}
 use Rattle.clock.specs.Stage.{placeIn, judging, resultAt, plain-is, moment-place, no-place, in-day, instant-found}
 use Rattle.clock.specs.declared.inner.Ends.{Ends}

@@ -6,7 +6,7 @@ use lib.Dec.{ltb}
 use lib.IntN.{ℤ, pos, negℤ, subℕ, _+ℤ_, _*ℤ_}
 use lib.Signed.{leZ}
 use Rattle.axis.specs.Meaning.{floorZ, modZ, Moment, dayMicros, since, momentOf}
-use Rattle.scales.specs.Meaning.{inSpan, Judged, given, gives, sameScale}
+use Rattle.scales.specs.Meaning.{inSpan, Judged, given, gives, sameScale, resulting}
 use Rattle.scales.specs.declared.Scale.{Scale}
 use Rattle.scales.specs.declared.Scale.the-variants as S
 use Rattle.handed.specs.declared.Handed.{Handed}
@@ -76,12 +76,6 @@ covers c z = within (cover c) z
 
 abbrev pub inForce : Clock → ℤ → ℤ → Bool
 inForce c k z = inWindow c k && covers c z
-
--- ---- the date of count t, received at microsecond u of day d, where the correlation is accepted or not
-abbrev pub resulting : Scale → Moment → Judged Moment
-resulting s m =
-    given (inSpan s (m .day) (m .micro)) 11
-    (gives m)
 
 abbrev pub dating : Bool → Clock → ℕ → ℤ → ℕ → Judged Moment
 dating accepted c t d u =

@@ -10,13 +10,13 @@ use Rattle.axis.specs.Meaning.{placeOfDay, dayAt, microsAt, floorZ, modZ, Momen
 use Rattle.axis.specs.Axis.{day-place, micros-day, micros-left}
 use Rattle.axis.specs.Diff.{sub-mul}
 use Rattle.axis.specs.Shift.{number-add}
-use Rattle.scales.specs.Meaning.{inSpan, Judged, given, gives, Outcome, refused, answer, outcome, Slip, dated, momentAt, numberOf}
+use Rattle.scales.specs.Meaning.{inSpan, Judged, given, gives, Outcome, refused, answer, outcome, Slip, dated, momentAt, numberOf, resulting}
 use Rattle.scales.specs.Place.{apart, placed, and-both}
 use Rattle.scales.specs.declared.Scale.{Scale}
 use Rattle.scales.specs.declared.Scale.the-variants as S
 use Rattle.handed.specs.declared.Handed.{Handed}
 use Rattle.handed.specs.Meaning.{isFinite, isInSpan}
-use Rattle.clock.specs.Meaning.{instant, momentAfter, plain, receivable, Cover, within, resulting, instantOf, hasImage}
+use Rattle.clock.specs.Meaning.{instant, momentAfter, plain, receivable, Cover, within, instantOf, hasImage}
 use Rattle.clock.specs.declared.inner.Place.{Place}
 use Rattle.clock.specs.declared.inner.Place.the-variants as P
 use Rattle.clock.specs.declared.inner.Turned.{Turned}

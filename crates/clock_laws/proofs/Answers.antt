@@ -7,13 +7,13 @@ use lib.IntN.{ℤ, pos, negℤ}
 use lib.Signed.{leZ}
 use borrow.Author.Tests.{le-leb}
 use Rattle.axis.specs.Meaning.{Moment, since}
-use Rattle.scales.specs.Meaning.{inSpan, answer, outcome, given, gives}
+use Rattle.scales.specs.Meaning.{inSpan, answer, outcome, given, gives, resulting}
 use Rattle.scales.specs.Place.{and-both}
 use Rattle.scales.specs.declared.Scale.{Scale}
 use Rattle.handed.specs.declared.Handed.{Handed}
 use Rattle.scales.specs.Order.{passed}
 use Rattle.handed.specs.Meaning.{isFinite, isInSpan}
-use Rattle.clock.specs.Meaning.{Clock, instant, momentAfter, receivable, elapsed, time, inWindow, covers, inForce, resulting, dating, lastCount, countAt, instantOf, hasImage, turning}
+use Rattle.clock.specs.Meaning.{Clock, instant, momentAfter, receivable, elapsed, time, inWindow, covers, inForce, dating, lastCount, countAt, instantOf, hasImage, turning}
 use Rattle.clock.specs.Signs.{le-trans}
 use Rattle.clock.specs.Stage.{moment-is}
 use Rattle.clock.specs.Window.{Runs}

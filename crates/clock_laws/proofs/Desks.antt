@@ -4,11 +4,11 @@ use mathlib.Core.Bool.{Bool, true, cond}
 use Prim.Native.Nat.{ℕ, suc, _*_, _/_}
 use lib.IntN.{ℤ, pos, negsuc, subℕ, _-ℤ_}
 use Rattle.axis.specs.Meaning.{floorZ, modZ}
-use Rattle.scales.specs.Meaning.{sameScale, Slip, dated, given, gives, Outcome, outcome}
+use Rattle.scales.specs.Meaning.{sameScale, Slip, dated, given, gives, Outcome, outcome, resulting}
 use Rattle.scales.specs.declared.Scale.{Scale}
 use Rattle.handed.specs.declared.Handed.{Handed}
 use Rattle.handed.specs.Meaning.{scaleOf, isFinite, isInSpan, microOf}
-use Rattle.clock.specs.Meaning.{Clock, instant, momentAfter, plain, receivable, time, inWindow, covers, inForce, resulting, lastCount, countAt, instantOf, hasImage}
+use Rattle.clock.specs.Meaning.{Clock, instant, momentAfter, plain, receivable, time, inWindow, covers, inForce, lastCount, countAt, instantOf, hasImage}
 use Rattle.clock_laws.proofs.Wider.{widened}
 
 -- ---- dates: a desk with another rule of force, another elapsed count, or another time of it

@@ -46,6 +46,9 @@ abbrev pub microOf : Handed → ℕ
 microOf (H.Record r) = r .micro
 microOf (H.Decimal x s) = nearestMoment x .micro
 
+abbrev pub momentIn : Handed → Moment
+momentIn h = record { day = dayOf h; micro = microOf h }
+
 -- ---- taken apart: not finite, outside its span, or a typed count
 unfoldable pub takenOf : Handed → Taken
 takenOf h =
@@ -54,6 +57,12 @@ takenOf h =
     (K.At (timeAt (scaleOf h) (countOf (scaleOf h) (dayOf h) (microOf h))))
     (K.Outside (scaleOf h)))
     (K.NotFinite (scaleOf h))
+
+-- the scale that a handed time has, whatever it is taken for
+abbrev pub takenScale : Taken → Scale
+takenScale (K.NotFinite z) = z
+takenScale (K.Outside z) = z
+takenScale (K.At t) = timeScale t
 
 -- a count that was taken lies in its span, rounded or not; of the other two there is nothing to say
 abbrev pub Kept : Taken → Type 0

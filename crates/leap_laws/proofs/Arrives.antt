@@ -9,7 +9,7 @@ use borrow.Author.Tests.{lt-leb, leb-false}
 use Rattle.axis.specs.Meaning.{placeOfDay, dayAt, microsAt, Moment, dayMicros, momentOf}
 use Rattle.axis.specs.Diff.{Way, way, below, above}
 use Rattle.axis.specs.Axis.{micros-minus, moment-at}
-use Rattle.scales.specs.Meaning.{inSpan, given, answer, outcome}
+use Rattle.scales.specs.Meaning.{inSpan, given, answer, outcome, resulting}
 use Rattle.scales.specs.declared.Scale.{Scale}
 use Rattle.scales.specs.declared.Scale.the-variants as S
 use Rattle.scales.specs.Place.{span-early, day-part, micro-part}
@@ -18,7 +18,7 @@ use Rattle.leap.specs.Meaning.{accepted, isExpiredTai, utcOf}
 use Rattle.leap.specs.Steps.{Steps, steps}
 use Rattle.leap.specs.Back.{back, forth, none-before}
 use Rattle.leap.specs.Whole.{taiAt, offset-small, known-before, before-known}
-use Rattle.changes.specs.Meaning.{toScale, within}
+use Rattle.changes.specs.Meaning.{toScale}
 use Rattle.changes.specs.Ways.{OnTheWay, expires}
 use Rattle.leap_laws.proofs.Stands.{moment, onTai, Known, Stands, spans, inside, one}
 
@@ -26,8 +26,8 @@ use Rattle.leap_laws.proofs.Stands.{moment, onTai, Known, Stands, spans
 moment-back : (a u : ℕ) → u < dayMicros → momentOf (microsAt (a * dayMicros + u)) ≡ moment a u
 moment-back a u h = moment-at (a * dayMicros + u) ∙ λ i. record { day = dayAt (day-part dayMicros a u h i); micro = micro-part dayMicros a u h i }
 
-gives-in : (s : Scale) (m n : Moment) → m ≡ n → inSpan s (n .day) (n .micro) ≡ true → outcome (within s m) ≡ answer n
-gives-in s m n e h = ap (λ (x : Moment). outcome (within s x)) e ∙ rw h
+gives-in : (s : Scale) (m n : Moment) → m ≡ n → inSpan s (n .day) (n .micro) ≡ true → outcome (resulting s m) ≡ answer n
+gives-in s m n e h = ap (λ (x : Moment). outcome (resulting s x)) e ∙ rw h
 
 module _ (ds : List ℤ) (os : List ℕ) (e : ℤ) (w : accepted ds os e ≡ true) where
   list : Steps ds os e
@@ -44,7 +44,7 @@ module _ (ds : List ℤ) (os : List ℕ) (e : ℤ) (w : accepted ds os e ≡ tru
   arrives S.Tai a u k = gives-in S.Tai (momentOf (microsAt (a * dayMicros + u))) (moment a u) (moment-back a u (k .under)) (inside k)
   arrives S.Gps a u k =
       let q : a * dayMicros + u + 19000000 - 19000000 ≡ a * dayMicros + u = omega arith in
-      ap (λ (z : ℤ). outcome (within S.Gps (momentOf z))) (micros-minus (a * dayMicros + u + 19000000) 19000000 (omega arith) ∙ ap microsAt q)
+      ap (λ (z : ℤ). outcome (resulting S.Gps (momentOf z))) (micros-minus (a * dayMicros + u + 19000000) 19000000 (omega arith) ∙ ap microsAt q)
       ∙ gives-in S.Gps (momentOf (microsAt (a * dayMicros + u))) (moment a u) (moment-back a u (k .under)) (inside k)
   arrives S.Utc a u k =
       let c = taiAt ds os a u in
@@ -60,7 +60,7 @@ module _ (ds : List ℤ) (os : List ℕ) (e : ℤ) (w : accepted ds os e ≡ tru
     pub tai : onTai s ds os place micro ≡ c
 
   -- in a scale whose days are those of its count g
-  plain-found : (s : Scale) (g c : ℕ) (m : Moment) → outcome (within s (momentOf (microsAt g))) ≡ answer m → Known s ds e (g / dayMicros) (g % dayMicros) →
+  plain-found : (s : Scale) (g c : ℕ) (m : Moment) → outcome (resulting s (momentOf (microsAt g))) ≡ answer m → Known s ds e (g / dayMicros) (g % dayMicros) →
       onTai s ds os (g / dayMicros) (g % dayMicros) ≡ c → Found s c m
   plain-found s g c m h k e =
       let t = one (inSpan s (momentOf (microsAt g) .day) (momentOf (microsAt g) .micro)) 11 (momentOf (microsAt g)) m h in
@@ -77,7 +77,7 @@ module _ (ds : List ℤ) (os : List ℕ) (e : ℤ) (w : accepted ds os e ≡ tru
   found S.Tai c v m h = plain-found S.Tai c c m h (omega arith) (omega arith)
   found S.Gps c v m h =
       let f : 19000000 ≤ c = omega (arith, v .from) in
-      plain-found S.Gps (c - 19000000) c m (ap (λ (z : ℤ). outcome (within S.Gps (momentOf z))) (sym (micros-minus c 19000000 f)) ∙ h) (omega arith) (omega arith)
+      plain-found S.Gps (c - 19000000) c m (ap (λ (z : ℤ). outcome (resulting S.Gps (momentOf z))) (sym (micros-minus c 19000000 f)) ∙ h) (omega arith) (omega arith)
   found S.Utc c v m h = go (isExpiredTai ds os e (microsAt c)) refl (way c (29773 * dayMicros + 10 * 1000000)) h
     where
       U : Moment
@@ -87,7 +87,7 @@ module _ (ds : List ℤ) (os : List ℕ) (e : ℤ) (w : accepted ds os e ≡ tru
       no x = absurd (false≢true x)
 
       go : (b : Bool) → isExpiredTai ds os e (microsAt c) ≡ b → Way c (29773 * dayMicros + 10 * 1000000)
-          → outcome (given (not b) 9 (within S.Utc U)) ≡ answer m → Found S.Utc c m
+          → outcome (given (not b) 9 (resulting S.Utc U)) ≡ answer m → Found S.Utc c m
       go true p y h = absurd (no-answer h)
       go false p (below y) h =
           let t = one (inSpan S.Utc (U .day) (U .micro)) 11 U m h in

@@ -11,12 +11,12 @@ use Rattle.scales.specs.Meaning.{inSpan, Judged, given, gives, Outcome, refused
 use Rattle.scales.specs.Order.{onward, then-is, no-answer}
 use Rattle.scales.specs.declared.Scale.{Scale}
 use Rattle.scales.specs.declared.Scale.the-variants as S
-use Rattle.handed.specs.Meaning.{scaleOf, isFinite, isInSpan}
+use Rattle.handed.specs.Meaning.{scaleOf, isFinite, isInSpan, momentIn}
 use Rattle.handed.specs.declared.Handed.{Handed}
 use Rattle.handed.specs.declared.Handed.the-variants as H
 use Rattle.leap.specs.Meaning.{accepted, isStep, publishedDays, publishedOffsets, publishedLast}
 use Rattle.leap.specs.Published.{published}
-use Rattle.changes.specs.Meaning.{changeUsesList, moving, momentIn, changing, changeOf, asked}
+use Rattle.changes.specs.Meaning.{changeUsesList, moving, changing, changeOf, asked}
 use Rattle.changes.specs.Asked.{handedAsked, list-passes, sound}
 use Rattle.leap_laws.proofs.Promises.{Fresh, fresh}
 use Rattle.leap_laws.proofs.Computed.{published-6209, extended}

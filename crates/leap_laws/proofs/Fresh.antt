@@ -11,7 +11,7 @@ use borrow.Author.Tests.{lt-leb, le-leb, lt-ltb, le-ltb, leb-true, leb-false}
 use Rattle.axis.specs.Meaning.{placeOfDay, dayAt, microsAt, Moment, dayMicros, since}
 use Rattle.axis.specs.Diff.{Way, way, below, above, le-not}
 use Rattle.axis.specs.Axis.{day-to, day-le, since-at, day-next, micros-add}
-use Rattle.scales.specs.Meaning.{andThen, sameScale, Judged, given, gives, Outcome, refused, answer, outcome}
+use Rattle.scales.specs.Meaning.{andThen, sameScale, Judged, given, gives, Outcome, refused, answer, outcome, resulting}
 use Rattle.scales.specs.Order.{onward, then-is, no-answer}
 use Rattle.scales.specs.Place.{and-both}
 use Rattle.scales.specs.declared.Scale.{Scale}
@@ -25,7 +25,7 @@ use Rattle.leap.specs.Steps.{Steps, steps, parts, usable}
 use Rattle.leap.specs.Force.{offset-mono}
 use Rattle.leap.specs.Back.{said-nothing}
 use Rattle.leap.specs.Whole.{expired-at, taiAt, offset-small}
-use Rattle.changes.specs.Meaning.{fromScale, toScale, settled, moving, within}
+use Rattle.changes.specs.Meaning.{fromScale, toScale, settled, moving}
 use Rattle.changes.specs.Ways.{expires}
 use Rattle.leap_laws.proofs.Stands.{moment, onTai}
 
@@ -163,7 +163,7 @@ module _ (ds : List ℤ) (os : List ℕ) (e : ℤ) (w : accepted ds os e ≡ tru
             lt-leb (taiAt ds os x 0) c l,
             lt-leb (taiAt (ds ++ cs) (os ++ ps) (placeOfDay f + 1) 0) c (omega (arith, limits)),
           )
-          (ap (λ (m : Moment). outcome (within S.Utc m)) (same-utc c l))
+          (ap (λ (m : Moment). outcome (resulting S.Utc m)) (same-utc c l))
 
   settled-kept : (s to : Scale) (m : Moment) (c : ℕ) → (outcome (settled s to ds os e m (microsAt c)) ≡ refused 9 → ⊥)
       → outcome (settled s to (ds ++ cs) (os ++ ps) f m (microsAt c)) ≡ outcome (settled s to ds os e m (microsAt c))

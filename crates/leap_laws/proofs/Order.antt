@@ -9,8 +9,8 @@ use Rattle.scales.specs.Meaning.{numbers, order, standsIn}
 use Rattle.scales.specs.declared.Scale.{Scale}
 use Rattle.scales.specs.declared.Scale.the-variants as S
 use Rattle.handed.specs.declared.Handed.{Handed}
-use Rattle.handed.specs.Meaning.{scaleOf, isInSpan}
-use Rattle.changes.specs.Meaning.{withList, taiInGps, gpsInTai, utcInTai, utcInGps, taiInUtc, gpsInUtc, moving, momentIn, changing}
+use Rattle.handed.specs.Meaning.{scaleOf, isInSpan, momentIn}
+use Rattle.changes.specs.Meaning.{withList, taiInGps, gpsInTai, utcInTai, utcInGps, taiInUtc, gpsInUtc, moving, changing}
 
 module _ (ds : List ℤ) (os : List ℕ) (e : ℤ) (n : ℕ) where
   pub tai-gps : numbers (taiInGps n) ≡ 7 ∷ 11 ∷ []

@@ -15,9 +15,9 @@ use Rattle.scales.specs.declared.Scale.{Scale}
 use Rattle.scales.specs.declared.Scale.the-variants as S
 use Rattle.handed.specs.declared.Handed.{Handed}
 use Rattle.handed.specs.Told.{loose}
-use Rattle.handed.specs.Meaning.{scaleOf, isFinite, isInSpan, dayOf, microOf}
+use Rattle.handed.specs.Meaning.{scaleOf, isFinite, isInSpan, dayOf, microOf, momentIn}
 use Rattle.leap.specs.Meaning.{accepted, Extends, allLater, publishedDays, publishedOffsets, publishedLast}
-use Rattle.changes.specs.Meaning.{withList, changeUsesList, moving, momentIn, utcToTai, utcToGps, taiToUtc, gpsToUtc, changeOf}
+use Rattle.changes.specs.Meaning.{withList, changeUsesList, moving, utcToTai, utcToGps, taiToUtc, gpsToUtc, changeOf}
 use Rattle.changes.specs.Ways.{list-in}
 use Rattle.changes.specs.General.{seven}
 use Rattle.leap_laws.proofs.Stands.{moment}

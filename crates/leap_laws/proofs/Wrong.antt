@@ -9,13 +9,13 @@ use lib.IntN.{ℤ, pos, negsuc, _+ℤ_, _-ℤ_}
 use lib.ListN.{getD, take}
 use Rattle.evidence.specs.ShutOut.{ShutOut, differ}
 use Rattle.axis.specs.Meaning.{placeOfDay, Moment, since, momentOf}
-use Rattle.scales.specs.Meaning.{andThen, Judged, given, gives, outcome, Slip, dated, recordOf}
+use Rattle.scales.specs.Meaning.{andThen, Judged, given, gives, outcome, Slip, dated, recordOf, resulting}
 use Rattle.scales.specs.declared.Scale.{Scale}
 use Rattle.scales.specs.declared.Scale.the-variants as S
 use Rattle.handed.specs.declared.Handed.the-variants as H
 use Rattle.calendar.specs.Meaning.{leap, monthLength, lengthOf, firstDay, dayAfter, daysTo, walk, isFirst, allFirsts}
 use Rattle.leap.specs.Meaning.{seconds, areSteps, begins, risesFrom, rises, countsFrom, countsUp, endsIn, noneLater, accepted, through, offsetOn, taiOf, isStep, hasMicro, isExpiredDay, publishedDays, publishedOffsets, publishedLast}
-use Rattle.changes.specs.Meaning.{fromTai, fromUtc, within, toTai, toGps, toUtc, ofCount, moving, taiToGps, gpsToTai, utcToTai, utcToGps, taiToUtc, gpsToUtc, changeOf}
+use Rattle.changes.specs.Meaning.{fromTai, fromUtc, toTai, toGps, toUtc, ofCount, moving, taiToGps, gpsToTai, utcToTai, utcToGps, taiToUtc, gpsToUtc, changeOf}
 use Rattle.ground_laws.proofs.Desks.{answered, empty, byNumber, byMicro, refusesAll, dayZero}
 
 -- ---- is_accepted
@@ -152,7 +152,7 @@ wrong-utc =
 -- ---- to UTC
 -- the offset of the TAI day used for the UTC day
 abbrev byTaiDay : ℤ → Judged Moment
-byTaiDay c = within S.Utc (momentOf (c -ℤ seconds (offsetOn publishedDays publishedOffsets (momentOf c .day))))
+byTaiDay c = resulting S.Utc (momentOf (c -ℤ seconds (offsetOn publishedDays publishedOffsets (momentOf c .day))))
 
 -- expiry not judged
 abbrev unexpired : ℤ → Judged Moment
@@ -169,11 +169,11 @@ lessGps spans m =
     (gives (since (m .day) (m .micro) -ℤ seconds 19))
 
 abbrev plusGps : ℤ → Judged Moment
-plusGps c = within S.Gps (momentOf (c +ℤ seconds 19))
+plusGps c = resulting S.Gps (momentOf (c +ℤ seconds 19))
 
 -- 18 s, GPS minus UTC today
 abbrev eighteen : ℤ → Judged Moment
-eighteen c = within S.Gps (momentOf (c -ℤ seconds 18))
+eighteen c = resulting S.Gps (momentOf (c -ℤ seconds 18))
 
 pub record WrongRest : Type 0 where
   pub tai-day :

@@ -5,14 +5,14 @@ use mathlib.Core.List.{List}
 use Prim.Native.Nat.{ℕ}
 use lib.IntN.{ℤ}
 use Rattle.axis.specs.Meaning.{Moment}
-use Rattle.scales.specs.Meaning.{inSpan, Outcome, refused, answer, outcome, dated, numberOf, slip}
+use Rattle.scales.specs.Meaning.{inSpan, Outcome, refused, answer, outcome, dated, numberOf, slip, recordMoment}
 use Rattle.scales.specs.Order.{onward, then-is, ends, no-answer}
 use Rattle.scales.specs.declared.Scale.{Scale}
 use Rattle.scales.specs.declared.Scale.the-variants as S
 use Rattle.scales.specs.declared.Record.{Record}
 use Rattle.scales.specs.declared.Refusal.{Refusal}
 use Rattle.scales.specs.declared.Dated.the-variants as D
-use Rattle.changes.specs.Asked.{recordMoment, sound, slip-answer, slip-refused}
+use Rattle.changes.specs.Asked.{sound, slip-answer, slip-refused}
 use Rattle.text_read.specs.Meaning.{scaleIn, reading}
 use Rattle.text_read.specs.In.{into}
 use Rattle.lines.specs.Meaning.{lineDating}

@@ -86,12 +86,12 @@ module _ (ds : List ℤ) (os : List ℕ) (e : ℤ) where
   roomFor room [] = []
   roomFor room (l ∷ ls) = cond (ltb room 32) [] (l ∷ roomFor (room - length (answerTo ds os e l)) ls)
 
-  abbrev pub datedIn : List ℕ → ℕ → List (List ℕ)
-  datedIn input room = roomFor room (wholeIn input)
+  abbrev pub linesDated : List ℕ → ℕ → List (List ℕ)
+  linesDated input room = roomFor room (wholeIn input)
 
   abbrev pub doneUnder : List ℕ → List ℕ → Done
   doneUnder input out =
-      let ls = datedIn input (length out) in
+      let ls = linesDated input (length out) in
       let a = answers ds os e ls in
       record { consumed = bytesIn ls; written = length a; bytes = onto a out }
 

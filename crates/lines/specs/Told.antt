@@ -17,7 +17,7 @@ use Rattle.scales.specs.declared.Scale.{Scale}
 use Rattle.scales.specs.declared.Scale.the-variants as S
 use Rattle.scales.specs.declared.Written.{Written}
 use Rattle.scales.specs.declared.Written.the-variants as W
-use Rattle.text_read.specs.Meaning.{prefixOf}
+use Rattle.text_fields.specs.Meaning.{prefixOf}
 use Rattle.text_write.specs.Meaning.{textOf, imageOf}
 use Rattle.text_write.specs.Stage.{imaged}
 use Rattle.text_write.specs.declared.Form.the-variants as F

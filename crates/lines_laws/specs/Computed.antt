@@ -14,7 +14,8 @@ use Rattle.scales.specs.Meaning.{Outcome, refused, answer, outcome}
 use Rattle.calendar.specs.Meaning.{leap, monthLength, lengthOf, firstDay, isDate, dayAfter, daysTo, walk, dayOfDate, dateOfDay}
 use Rattle.leap.specs.Meaning.{through, isStep, publishedDays, publishedOffsets, publishedLast}
 use Rattle.leap.specs.Published.{published}
-use Rattle.text_read.specs.Meaning.{digitOf, twoOf, fourOf, sixOf, names, letter, isNamed, seek, monthOf, hasMarks, microIn, stampIn, inLimits, prefixOf, hasPrefix, scaleIn, bodyIn, isPrefixRight, isBody}
+use Rattle.text_fields.specs.Meaning.{names, letter, prefixOf}
+use Rattle.text_read.specs.Meaning.{digitOf, twoOf, fourOf, sixOf, isNamed, seek, monthOf, hasMarks, microIn, stampIn, inLimits, hasPrefix, scaleIn, bodyIn, isPrefixRight, isBody}
 use Rattle.text_write.specs.Meaning.{textOf}
 use Rattle.text_laws.specs.Computed.{sixty}
 use Rattle.lines_laws.specs.Run.{kept-is}

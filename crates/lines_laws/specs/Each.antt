@@ -10,7 +10,7 @@ use borrow.Author.Tests.{ne-eqb, not-true}
 use Rattle.axis.specs.Meaning.{Moment}
 use Rattle.scales.specs.Meaning.{Outcome, refused, answer}
 use Rattle.scales.specs.Place.{and-both}
-use Rattle.text_read.specs.Meaning.{names, letter, prefixOf}
+use Rattle.text_fields.specs.Meaning.{names, letter, prefixOf}
 use Rattle.text_write.specs.Meaning.{textOf}
 use Rattle.lines.specs.Meaning.{linesOf, digit, refusedText, told, answerTo, answers, desk, onBegun, wholeIn}
 use Rattle.lines_laws.specs.Lines.{Begun, begun-lines, before-first}

@@ -10,17 +10,17 @@ use lib.ListN.{length, take, drop, length-append}
 use lib.Seq.{take-all, length-take-le}
 use borrow.Author.Tests.{ne-eqb, leb-true, leb-false}
 use Rattle.leap.specs.Meaning.{publishedDays, publishedOffsets, publishedLast}
-use Rattle.lines.specs.Meaning.{linesOf, refusedText, answerTo, answers, desk, wholeIn, bytesIn, datedIn}
+use Rattle.lines.specs.Meaning.{linesOf, refusedText, answerTo, answers, desk, wholeIn, bytesIn, linesDated}
 use Rattle.lines_laws.specs.Lines.{whole-lines, whole-rest, answers-join, noRoom, room-is, Begun, before, begun-lines, begun-front, begun-ends, before-one, before-first}
 
 abbrev pub printed : List (List ℕ) → List ℕ
 printed ls = answers publishedDays publishedOffsets publishedLast ls
 
 -- ---- a block, whatever follows it: what was dated are whole lines, and what was written are their answers
-pub block : (s t : List ℕ) (room : ℕ) → let ls = datedIn publishedDays publishedOffsets publishedLast s room in desk (s ++ t) ≡ printed ls ++ desk (drop (bytesIn ls) s ++ t)
+pub block : (s t : List ℕ) (room : ℕ) → let ls = linesDated publishedDays publishedOffsets publishedLast s room in desk (s ++ t) ≡ printed ls ++ desk (drop (bytesIn ls) s ++ t)
 unfolding desk
 block s t room =
-    let ls = datedIn publishedDays publishedOffsets publishedLast s room in
+    let ls = linesDated publishedDays publishedOffsets publishedLast s room in
     ap printed (whole-lines ls s (noRoom publishedDays publishedOffsets publishedLast room (wholeIn s)) (room-is publishedDays publishedOffsets publishedLast room (wholeIn s)) t)
     ∙ answers-join publishedDays publishedOffsets publishedLast ls (linesOf (drop (bytesIn ls) s ++ t))
 

@@ -232,6 +232,9 @@ slipTimed (TD.Refused f s) = timeSlip s (no f)
 abbrev pub recordOf : Scale → ℤ → ℕ → Record
 recordOf s d u = record { scale = s; day = d; micro = u }
 
+abbrev pub recordMoment : Record → Moment
+recordMoment r = record { day = r .day; micro = r .micro }
+
 abbrev pub recordAt : Scale → ℕ → Record
 recordAt s n = recordOf s (momentAt s n .day) (momentAt s n .micro)
 
@@ -243,3 +246,9 @@ spanning s d u =
 
 unfoldable pub spanned : Scale → ℤ → ℕ → Slip
 spanned s d u = dated s (outcome (spanning s d u))
+
+-- a result is held to its span at the end: 11
+abbrev pub resulting : Scale → Moment → Judged Moment
+resulting s m =
+    given (inSpan s (m .day) (m .micro)) 11
+    (gives m)

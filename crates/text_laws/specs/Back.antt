@@ -30,13 +30,14 @@ use Rattle.calendar.specs.Told.{counted}
 use Rattle.calendar.specs.declared.Date.{Date}
 use Rattle.calendar_laws.specs.Undo.{day-of-date}
 use Rattle.handed.proofs.Ways.{kept-decimal}
-use Rattle.handed.specs.Meaning.{scaleOf, isFinite, isInSpan, dayOf, microOf}
+use Rattle.handed.specs.Meaning.{scaleOf, isFinite, isInSpan, dayOf, microOf, momentIn}
 use Rattle.leap.specs.Meaning.{accepted, isExpiredDay, hasMicro}
-use Rattle.changes.specs.Meaning.{isUtc, momentIn, asked}
+use Rattle.changes.specs.Meaning.{isUtc, asked}
 use Rattle.changes.specs.Asked.{sound}
 use Rattle.text_read.specs.Meaning as R
-use Rattle.text_read.specs.Meaning.{inLimits, isBody, hasMarks, stampIn, scaleIn, bodyIn, isPrefixed, isPlain, isPrefixRight, hasPrefix, prefixOf, stampMoment, stampSpans, datedIn, readText}
-use Rattle.text_read.specs.declared.Stamp.{Stamp}
+use Rattle.text_read.specs.Meaning.{inLimits, isBody, hasMarks, stampIn, scaleIn, bodyIn, isPrefixed, isPlain, isPrefixRight, hasPrefix, stampMoment, stampSpans, datedIn, readText}
+use Rattle.text_fields.specs.declared.Stamp.{Stamp}
+use Rattle.text_fields.specs.Meaning.{prefixOf}
 use Rattle.text_write.specs.Meaning.{stampOf, textOf, hasMicros, showsScale, fullText, imageOf, hasImage, imaging, writing, writeText}
 use Rattle.text_write.specs.declared.Form.{Form}
 use Rattle.text_write.specs.declared.Form.the-variants as F

@@ -13,8 +13,9 @@ use Rattle.handed.specs.declared.Handed.the-variants as H
 use Rattle.calendar.specs.Meaning.{leap, monthLength, lengthOf, firstDay, isDate, dayAfter, daysTo, walk, dayOfDate, dateOfDay}
 use Rattle.leap.specs.Meaning.{isStep, publishedDays, publishedOffsets, publishedLast}
 use Rattle.leap.specs.Published.{published}
+use Rattle.text_fields.specs.Meaning.{names, letter, prefixOf}
 use Rattle.leap_laws.proofs.Computed.{published-6209}
-use Rattle.text_read.specs.Meaning.{digitOf, twoOf, fourOf, sixOf, names, letter, isNamed, seek, monthOf, hasMarks, microIn, stampIn, inLimits, prefixOf, hasPrefix, scaleIn, bodyIn, isPrefixRight, isBody, readText}
+use Rattle.text_read.specs.Meaning.{digitOf, twoOf, fourOf, sixOf, isNamed, seek, monthOf, hasMarks, microIn, stampIn, inLimits, hasPrefix, scaleIn, bodyIn, isPrefixRight, isBody, readText}
 use Rattle.text_write.specs.Meaning.{textOf, writeText}
 use Rattle.text_write.specs.declared.Form.{Form}
 use Rattle.text_write.specs.declared.Form.the-variants as F

@@ -9,8 +9,9 @@ use lib.Dec.{eqb}
 use lib.ListN.{take}
 use borrow.Author.Tests.{le-leb, lt-ltb, eqb-true}
 use Rattle.scales.specs.Place.{and-both}
-use Rattle.text_read.specs.Meaning.{digitOf, twoOf, fourOf, sixOf, names, letter, isNamed, seek, monthOf, microIn, stampIn}
-use Rattle.text_read.specs.declared.Stamp.{Stamp}
+use Rattle.text_read.specs.Meaning.{digitOf, twoOf, fourOf, sixOf, isNamed, seek, monthOf, microIn, stampIn}
+use Rattle.text_fields.specs.declared.Stamp.{Stamp}
+use Rattle.text_fields.specs.Meaning.{names, letter}
 use Rattle.text_write.specs.Meaning.{tens, units, textOf}
 
 digit-back : (d : ℕ) → d < 10 → digitOf (48 + d) ≡ d

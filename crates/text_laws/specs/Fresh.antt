@@ -15,9 +15,9 @@ use Rattle.scales.specs.declared.Scale.the-variants as S
 use Rattle.handed.specs.declared.Handed.{Handed}
 use Rattle.handed.specs.declared.Handed.the-variants as H
 use Rattle.calendar.specs.Meaning.{dayOfDate}
-use Rattle.handed.specs.Meaning.{scaleOf, isFinite, isInSpan}
+use Rattle.handed.specs.Meaning.{scaleOf, isFinite, isInSpan, momentIn}
 use Rattle.leap.specs.Meaning.{accepted, Extends, publishedDays, publishedOffsets, publishedLast}
-use Rattle.changes.specs.Meaning.{changeUsesList, moving, momentIn, changing, changeOf, asked}
+use Rattle.changes.specs.Meaning.{changeUsesList, moving, changing, changeOf, asked}
 use Rattle.leap_laws.proofs.Promises.{Fresh, fresh}
 use Rattle.leap_laws.proofs.Asked.{handed-again, asked-again}
 use Rattle.leap.specs.Published.{published}

@@ -15,7 +15,8 @@ use Rattle.calendar.specs.Meaning.{leap, monthLength, lengthOf, firstDay, isDat
 use Rattle.handed.specs.Meaning.{scaleOf, dayOf, microOf}
 use Rattle.leap.specs.Meaning.{accepted, publishedDays, publishedOffsets, publishedLast}
 use Rattle.leap.specs.Published.{published}
-use Rattle.text_read.specs.Meaning.{digitOf, twoOf, fourOf, names, letter, isNamed, seek, monthOf, hasMarks, microIn, stampIn, inLimits, prefixOf, hasPrefix, scaleIn, bodyIn, isPrefixRight, isBody, reading, readText}
+use Rattle.text_fields.specs.Meaning.{names, letter, prefixOf}
+use Rattle.text_read.specs.Meaning.{digitOf, twoOf, fourOf, isNamed, seek, monthOf, hasMarks, microIn, stampIn, inLimits, hasPrefix, scaleIn, bodyIn, isPrefixRight, isBody, reading, readText}
 use Rattle.text_write.specs.Meaning.{textOf, hasImage, writing, writeText}
 use Rattle.text_write.specs.declared.Form.{Form}
 use Rattle.text_write.specs.declared.Form.the-variants as F

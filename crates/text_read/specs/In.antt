@@ -13,9 +13,10 @@ use Rattle.scales.specs.declared.Time.{Time}
 use Rattle.scales.specs.declared.Refusal.{Refusal}
 use Rattle.handed.specs.declared.Taken.{Taken}
 use Rattle.handed.specs.declared.Taken.the-variants as K
+use Rattle.handed.specs.Meaning.{takenScale}
 use Rattle.leap.specs.Meaning.{seconds, accepted, taiOf, hasMicro, isExpiredDay}
 use Rattle.changes.specs.Meaning.{ofCount, settled, moving, asked}
-use Rattle.changes.specs.Asked.{takenScale, takenAsked, list-passes}
+use Rattle.changes.specs.Asked.{takenAsked, list-passes}
 use Rattle.text_read.specs.Meaning.{scaleIn, reading, readingIn}
 use Rattle.text_read.specs.Stage.{ParsesText}
 use Rattle.text_read.specs.declared.Parsed.{Parsed}

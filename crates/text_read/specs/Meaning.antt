@@ -13,7 +13,8 @@ use Rattle.scales.specs.declared.Scale.the-variants as S
 use Rattle.calendar.specs.Meaning.{isDate, dayOfDate}
 use Rattle.leap.specs.Meaning.{accepted, hasMicro, isExpiredDay}
 use Rattle.changes.specs.Meaning.{isUtc, moving, asked}
-use Rattle.text_read.specs.declared.Stamp.{Stamp}
+use Rattle.text_fields.specs.declared.Stamp.{Stamp}
+use Rattle.text_fields.specs.Meaning.{letter, prefixOf}
 
 -- ---- the numbers that digits write; a byte that is no digit leads over every limit
 unfoldable pub digitOf : ℕ → ℕ
@@ -27,16 +28,6 @@ fourOf a b c d = cond (ltb (twoOf a b) 100 && ltb (twoOf c d) 100) (twoOf a b * 
 
 unfoldable pub sixOf : ℕ → ℕ → ℕ → ℕ → ℕ → ℕ → ℕ
 sixOf a b c d e f = cond (ltb (fourOf a b c d) 10000 && ltb (twoOf e f) 100) (fourOf a b c d * 100 + twoOf e f) 1000000
-
--- ---- "months are English, three capitals": JANFEBMARAPRMAYJUNJULAUGSEPOCTNOVDEC
-unfoldable pub names : List ℕ
-names =
-    74 ∷ 65 ∷ 78 ∷ 70 ∷ 69 ∷ 66 ∷ 77 ∷ 65 ∷ 82 ∷ 65 ∷ 80 ∷ 82 ∷ 77 ∷ 65 ∷ 89 ∷ 74 ∷ 85 ∷ 78 ∷ 74 ∷ 85 ∷ 76 ∷ 65 ∷ 85 ∷ 71 ∷ 83 ∷ 69 ∷ 80
-    ∷ 79 ∷ 67 ∷ 84 ∷ 78 ∷ 79 ∷ 86 ∷ 68 ∷ 69 ∷ 67 ∷ []
-
--- letter j (0 to 2) of the name of month m (1 to 12)
-unfoldable pub letter : ℕ → ℕ → ℕ
-letter m j = getD names ((m - 1) * 3 + j) 0
 
 unfoldable pub isNamed : ℕ → ℕ → ℕ → ℕ → Bool
 isNamed m a b c = eqb a (letter m 0) && (eqb b (letter m 1) && eqb c (letter m 2))
@@ -81,12 +72,6 @@ inLimits z t =
     && (leb (t .minute) 59
     && (ltb (t .micro) 1000000
     && (leb (t .second) 59 || (eqb (t .second) 60 && (eqb (t .hour) 23 && (eqb (t .minute) 59 && isUtc z))))))
-
--- ---- "with RRR= before either (24, 31). RRR is UTC, TAI or GPS"
-unfoldable pub prefixOf : Scale → List ℕ
-prefixOf S.Tai = 84 ∷ 65 ∷ 73 ∷ 61 ∷ []
-prefixOf S.Utc = 85 ∷ 84 ∷ 67 ∷ 61 ∷ []
-prefixOf S.Gps = 71 ∷ 80 ∷ 83 ∷ 61 ∷ []
 
 unfoldable pub hasPrefix : Scale → List ℕ → Bool
 hasPrefix z s =

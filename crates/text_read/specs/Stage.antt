@@ -11,9 +11,10 @@ use Rattle.scales.specs.declared.Time.{Time}
 use Rattle.scales.specs.declared.Record.{Record}
 use Rattle.handed.specs.declared.Taken.{Taken}
 use Rattle.handed.specs.declared.Taken.the-variants as K
+use Rattle.handed.specs.Meaning.{takenScale}
 use Rattle.leap.specs.Meaning.{accepted}
 use Rattle.changes.specs.Meaning.{isUtc, asked}
-use Rattle.changes.specs.Asked.{takenScale, takenAsked}
+use Rattle.changes.specs.Asked.{takenAsked}
 use Rattle.text_read.specs.Meaning.{isBody, readingBody, reading, scaleIn}
 use Rattle.text_read.specs.declared.Parsed.{Parsed}
 use Rattle.text_read.specs.declared.Parsed.the-variants as P

@@ -13,9 +13,10 @@ use Rattle.scales.specs.declared.Record.{Record}
 use Rattle.scales.specs.declared.Refusal.{Refusal}
 use Rattle.scales.specs.declared.Dated.the-variants as D
 use Rattle.handed.specs.declared.Taken.{Taken}
+use Rattle.handed.specs.Meaning.{takenScale}
 use Rattle.leap.specs.Meaning.{accepted}
 use Rattle.changes.specs.Meaning.{isUtc, changeUsesList}
-use Rattle.changes.specs.Asked.{takenScale, timeUsesList, takenAsked, list-lacks, slip-refused, lacking}
+use Rattle.changes.specs.Asked.{timeUsesList, takenAsked, list-lacks, slip-refused, lacking}
 use Rattle.text_read.specs.Meaning.{datedIn, scaleIn, readText}
 use Rattle.text_read.specs.Stage.{ParsesText}
 use Rattle.text_read.specs.declared.Parsed.{Parsed}

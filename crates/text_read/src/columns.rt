@@ -4,11 +4,11 @@ ghost use mathlib.Core.Bool.{true, _||_};
 ghost use Prim.Native.Nat.{_≤_, _<_};
 ghost use lib.Dec.{eqb};
 ghost use lib.ListN.{length};
-ghost use Rattle.text_read.specs.Meaning.{digitOf, twoOf, fourOf, sixOf, names, isNamed, monthOf, hasMarks, microIn, stampIn, inLimits, hasPrefix, prefixScale, stampMicro};
+ghost use Rattle.text_fields.specs.Meaning.{names};
+ghost use Rattle.text_read.specs.Meaning.{digitOf, twoOf, fourOf, sixOf, isNamed, monthOf, hasMarks, microIn, stampIn, inLimits, hasPrefix, prefixScale, stampMicro};
 use calendar::Date;
 use scales::Scale;
-use super::Stamp;
-use super::inner;
+use text_fields::Stamp;
 
 fn digit(b: u8) -> u64
     ensures { λ r. ⌜ r ≡ digitOf b ⌝ }
@@ -83,7 +83,7 @@ fn is_named(t: &[u8; 36], m: usize, a: u8, b: u8, c: u8) -> bool
 fn month_of(a: u8, b: u8, c: u8) -> u64
     ensures { λ r. ⌜ r ≡ monthOf a b c ⌝ }
 {
-    let t = inner::month_names();
+    let t = text_fields::inner::month_names();
     let mut m: usize = 1;
     while m <= 12 {
         if is_named(&t, m, a, b, c) {
@@ -189,7 +189,7 @@ pub fn has_prefix(z: Scale, s: &[u8]) -> bool
     requires { ⌜ 4 ≤ length (now s) ⌝ }
     ensures { λ r. ⌜ r ≡ hasPrefix z (now (s .entry)) ⌝ }
 {
-    let p = inner::prefix(z);
+    let p = text_fields::inner::prefix(z);
     if s[0] != p[0] {
         return false;
     }

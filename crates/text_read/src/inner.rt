@@ -4,10 +4,12 @@ ghost use mathlib.Core.Bool.{true};
 ghost use Prim.Native.Nat.{_≤_};
 ghost use lib.ListN.{length};
 ghost use Rattle.scales.specs.Meaning.{slip, outcome, dated};
+ghost use Rattle.handed.specs.Meaning.{takenScale};
 ghost use Rattle.leap.specs.Meaning.{accepted};
 ghost use Rattle.changes.specs.Meaning.{isUtc};
-ghost use Rattle.changes.specs.Asked.{timeUsesList, lacksList, takenScale, takenAsked};
-ghost use Rattle.text_read.specs.Meaning.{names, prefixOf, readingIn, datedIn};
+ghost use Rattle.changes.specs.Asked.{timeUsesList, lacksList, takenAsked};
+ghost use Rattle.text_fields.specs.Meaning.{names, prefixOf};
+ghost use Rattle.text_read.specs.Meaning.{readingIn, datedIn};
 ghost use Rattle.text_read.specs.In.{timeIn};
 ghost use Rattle.text_read.specs.Stage.{ParsesBody, ParsesText};
 use calendar::DayAnswer;
@@ -19,64 +21,6 @@ use scales::Refusal;
 use scales::Scale;
 use super::Parsed;
 use super::columns;
-
-// ---- the names, as both ways spell them
-
-const NAMES: [u8; 36] = [
-    b'J',
-    b'A',
-    b'N',
-    b'F',
-    b'E',
-    b'B',
-    b'M',
-    b'A',
-    b'R',
-    b'A',
-    b'P',
-    b'R',
-    b'M',
-    b'A',
-    b'Y',
-    b'J',
-    b'U',
-    b'N',
-    b'J',
-    b'U',
-    b'L',
-    b'A',
-    b'U',
-    b'G',
-    b'S',
-    b'E',
-    b'P',
-    b'O',
-    b'C',
-    b'T',
-    b'N',
-    b'O',
-    b'V',
-    b'D',
-    b'E',
-    b'C',
-];
-
-// Taken once in a call and lent: a constant array is made anew at each use.
-pub fn month_names() -> [u8; 36]
-    ensures { λ r. ⌜ r ≡ names ⌝ }
-{
-    NAMES
-}
-
-pub fn prefix(z: Scale) -> [u8; 4]
-    ensures { λ r. ⌜ r ≡ prefixOf z ⌝ }
-{
-    match z {
-        Scale::Tai => [b'T', b'A', b'I', b'='],
-        Scale::Utc => [b'U', b'T', b'C', b'='],
-        Scale::Gps => [b'G', b'P', b'S', b'='],
-    }
-}
 
 // ---- what a text stands for
 

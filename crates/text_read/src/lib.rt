@@ -2,7 +2,6 @@
 ghost use mathlib.Core.Path.{_≡_};
 ghost use Rattle.scales.specs.Meaning.{slip};
 ghost use Rattle.text_read.specs.Meaning.{readText};
-use calendar::Date;
 use handed::Taken;
 use scales::Dated;
 use scales::Refusal;
@@ -10,15 +9,6 @@ use scales::Scale;
 
 mod columns;
 pub mod inner;
-
-// The fields of a text; its microsecond is that of the second.
-pub struct Stamp {
-    pub date: Date,
-    pub hour: u64,
-    pub minute: u64,
-    pub second: u64,
-    pub micro: u64,
-}
 
 // A text that is refused for what stands in it alone, or the time that it stands for.
 pub enum Parsed {

@@ -16,10 +16,10 @@ use Rattle.scales.specs.declared.Scale.the-variants as S
 use Rattle.scales.specs.declared.Refusal.{Refusal}
 use Rattle.scales.specs.declared.Refusal.the-variants as R
 use Rattle.scales.specs.declared.Written.the-variants as W
-use Rattle.text_read.specs.Meaning.{prefixOf, names, letter}
 use Rattle.text_write.specs.Meaning.{tens, units, textOf, bodyOf}
 use Rattle.text_write.specs.Stage.{putting}
-use Rattle.text_read.specs.declared.Stamp.{Stamp}
+use Rattle.text_fields.specs.declared.Stamp.{Stamp}
+use Rattle.text_fields.specs.Meaning.{prefixOf, names, letter}
 
 module _ (image out : List ℕ) where
   pub put-done : hasRoom image out ≡ true → wrote (W.Bytes (length image)) (onto image out) ≡ putting image out

@@ -13,10 +13,10 @@ use Rattle.scales.specs.declared.Scale.{Scale}
 use Rattle.handed.specs.declared.Handed.{Handed}
 use Rattle.calendar.specs.Meaning.{dateOfDay}
 use Rattle.calendar.specs.declared.Date.{Date}
-use Rattle.handed.specs.Meaning.{scaleOf, isFinite, isInSpan}
-use Rattle.changes.specs.Meaning.{isUtc, momentIn, asked}
-use Rattle.text_read.specs.Meaning.{letter, prefixOf}
-use Rattle.text_read.specs.declared.Stamp.{Stamp}
+use Rattle.handed.specs.Meaning.{scaleOf, isFinite, isInSpan, momentIn}
+use Rattle.changes.specs.Meaning.{isUtc, asked}
+use Rattle.text_fields.specs.declared.Stamp.{Stamp}
+use Rattle.text_fields.specs.Meaning.{letter, prefixOf}
 use Rattle.text_write.specs.declared.Form.{Form}
 use Rattle.text_write.specs.declared.Form.the-variants as F
 

@@ -7,7 +7,8 @@ use Rattle.octets.specs.Meaning.{hasRoom}
 use Rattle.scales.specs.Meaning.{andThen, given, gives, outcome, Wrote, written}
 use Rattle.scales.specs.declared.Scale.{Scale}
 use Rattle.handed.specs.declared.Taken.{Taken}
-use Rattle.changes.specs.Asked.{takenScale, takenAsked}
+use Rattle.handed.specs.Meaning.{takenScale}
+use Rattle.changes.specs.Asked.{takenAsked}
 use Rattle.text_write.specs.Meaning.{imaging}
 use Rattle.text_write.specs.declared.Form.{Form}
 

@@ -6,7 +6,7 @@ use Prim.Native.Nat.{ℕ, _≤_}
 use native.Mathlib.Omega.{arith}
 use lib.IntN.{ℤ}
 use Rattle.axis.specs.Meaning.{placeOfDay, Moment}
-use Rattle.scales.specs.Meaning.{inSpan, Judged, given, gives, Outcome, answer, outcome, wrote, written, slip, dated, momentAt, timeScale, timeCount}
+use Rattle.scales.specs.Meaning.{inSpan, Judged, given, gives, Outcome, answer, outcome, wrote, written, slip, dated, momentAt, timeScale, timeCount, recordMoment}
 use Rattle.scales.specs.Order.{onward, then-is, no-answer}
 use Rattle.scales.specs.Place.{apart, placed}
 use Rattle.scales.specs.Same.{no-zero}
@@ -25,10 +25,11 @@ use Rattle.calendar.specs.declared.Date.{Date}
 use Rattle.calendar.specs.declared.DateAnswer.the-variants as A
 use Rattle.handed.specs.declared.Taken.{Taken}
 use Rattle.handed.specs.declared.Taken.the-variants as K
-use Rattle.handed.specs.Meaning.{scaleOf, Took}
+use Rattle.handed.specs.Meaning.{scaleOf, Took, takenScale}
+use Rattle.handed.specs.Told.{took-scale}
 use Rattle.leap.specs.Meaning.{accepted, hasMicro, isExpiredDay}
 use Rattle.changes.specs.Meaning.{isUtc}
-use Rattle.changes.specs.Asked.{takenScale, timeUsesList, takenAsked, recordMoment, list-lacks, handedAsked, took-is, took-scale, asked-sound, slip-answer, slip-refused, lacking}
+use Rattle.changes.specs.Asked.{timeUsesList, takenAsked, list-lacks, handedAsked, took-is, asked-sound, slip-answer, slip-refused, lacking}
 use Rattle.text_write.specs.Meaning.{stampOf, hasImage, fullText, imaging, writeText}
 use Rattle.text_write.specs.Stage.{putting, imaged, writtenOf}
 use Rattle.text_write.specs.declared.Form.{Form}

@@ -4,7 +4,7 @@ ghost use mathlib.Core.Bool.{true};
 ghost use mathlib.Core.List.{_++_};
 ghost use Prim.Native.Nat.{_≤_, _<_};
 ghost use Rattle.scales.specs.Meaning.{wrote};
-ghost use Rattle.text_read.specs.Meaning.{prefixOf};
+ghost use Rattle.text_fields.specs.Meaning.{prefixOf};
 ghost use Rattle.text_write.specs.Meaning.{stampOf, tens, units, textOf, hasMicros, showsScale, bodyOf, fullText};
 ghost use Rattle.text_write.specs.Stage.{putting};
 use calendar::Date;
@@ -12,7 +12,7 @@ use scales::Refusal;
 use scales::Scale;
 use scales::Written;
 use super::Form;
-use text_read::Stamp;
+use text_fields::Stamp;
 
 // Second 60 comes after 23:59.
 pub fn stamp_of(date: Date, u: u64) -> Stamp
@@ -61,7 +61,7 @@ fn image(t: Stamp) -> [u8; 27]
     let s = t.second;
     let u = t.micro;
     let k = (d.month as usize - 1) * 3;
-    let n = text_read::inner::month_names();
+    let n = text_fields::inner::month_names();
     [
         ten(q),
         unit(q),
@@ -125,7 +125,7 @@ fn fill_prefixed(z: Scale, t: Stamp, micros: bool, out: &mut [u8]) -> Written
     match fill(t, micros, &mut out[4..]) {
         Written::Refused(f) => Written::Refused(f),
         Written::Bytes(n) => {
-            let p = text_read::inner::prefix(z);
+            let p = text_fields::inner::prefix(z);
             octets::put(&p, out);
             Written::Bytes(n + 4)
         }

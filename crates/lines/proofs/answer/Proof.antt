@@ -5,12 +5,11 @@ use Prim.Native.Nat.{ℕ}
 use denote.Ref.{now}
 use lib.IntN.{ℤ}
 use mir.Facts.{toZ-ofZ}
-use Rattle.scales.specs.Meaning.{outcome, refused, answer, dated, slip, numberOf, inSpan}
+use Rattle.scales.specs.Meaning.{outcome, refused, answer, dated, slip, numberOf, inSpan, recordMoment}
 use Rattle.scales.specs.declared.Scale.{Scale}
 use Rattle.scales.specs.declared.Record.{Record}
 use Rattle.scales.specs.declared.Dated.the-variants as D
 use Rattle.scales.specs.declared.Scale.the-variants as S
-use Rattle.changes.specs.Asked.{recordMoment}
 use Rattle.text_write.specs.Meaning.{imageOf}
 use Rattle.text_write.specs.declared.Form.the-variants as F
 use Rattle.lines.specs.Meaning.{lineDating}

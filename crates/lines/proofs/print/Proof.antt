@@ -1,6 +1,6 @@
 -- `lines::print` meets its contract: the text and a newline. Assumes nothing.
 use denote.Ref.{now}
-use Rattle.changes.specs.Asked.{recordMoment}
+use Rattle.scales.specs.Meaning.{recordMoment}
 use Rattle.lines.specs.Told.{printed}
 use borrow.Author.Needs.{needs}
 use Rattle.lines.proofs.print.Statement.{statement}

@@ -8,11 +8,12 @@ use Rattle.leap.specs.Meaning.{accepted}
 use Rattle.scales.specs.Meaning.{outcome, dated, timeScale, timeCount}
 use Rattle.scales.specs.declared.Scale.{Scale}
 use Rattle.handed.specs.declared.Taken.{Taken}
+use Rattle.handed.specs.Meaning.{takenScale}
 use Rattle.changes.specs.Meaning.{ofCount, moving}
 use borrow.Author.Needs.{needs}
 use Rattle.changes.proofs.inner.judge.Statement.{statement}
 use Rattle.changes.proofs.inner.judge.Tie as tie
-use Rattle.changes.specs.Asked.{timeUsesList, takenScale, takenAsked, outside-is, at-is, uses-same}
+use Rattle.changes.specs.Asked.{timeUsesList, takenAsked, outside-is, at-is, uses-same}
 
 change-requires : tie.Need-change-requires
 change-requires c κs =

@@ -1,7 +1,8 @@
 -- `text_read::columns::is_named` meets its contract: each return rewrites with the tests that led there. Assumes nothing.
 use native.Mathlib.Nat.{add-zero}
 use borrow.Author.Tests.{eq-eqb, ne-eqb}
-use Rattle.text_read.specs.Meaning.{letter, isNamed}
+use Rattle.text_fields.specs.Meaning.{letter}
+use Rattle.text_read.specs.Meaning.{isNamed}
 use mathlib.Core.Path.{sym}
 use borrow.Author.Needs.{needs}
 use Rattle.text_read.proofs.columns.is_named.Statement.{statement}

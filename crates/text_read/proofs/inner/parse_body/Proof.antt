@@ -18,7 +18,7 @@ use Rattle.scales.specs.Same.{no-zero}
 use Rattle.handed.specs.Meaning.{Took}
 use Rattle.text_read.specs.Meaning.{hasMarks, stampIn, inLimits, stampMicro}
 use Rattle.text_read.specs.Parse.{limited, body-marks, body-limits, body-date, body-outside, body-at}
-use Rattle.text_read.specs.declared.Stamp.{Stamp}
+use Rattle.text_fields.specs.declared.Stamp.{Stamp}
 use borrow.Author.Needs.{needs}
 use Rattle.text_read.proofs.inner.parse_body.Statement.{statement}
 use Rattle.text_read.proofs.inner.parse_body.Tie as tie

@@ -6,7 +6,8 @@ use mir.Facts.{toZ-ofZ}
 use lib.IntN.{ℤ}
 use Rattle.leap.specs.Meaning.{accepted}
 use Rattle.scales.specs.Meaning.{outcome, slip, dated}
-use Rattle.changes.specs.Asked.{takenScale, takenAsked, asked-sound}
+use Rattle.handed.specs.Meaning.{takenScale}
+use Rattle.changes.specs.Asked.{takenAsked, asked-sound}
 use Rattle.text_read.specs.Ways.{in-answer, in-refused}
 use borrow.Author.Needs.{needs}
 use Rattle.text_read.proofs.inner.read_time.Statement.{statement}

@@ -3,7 +3,7 @@ use mathlib.Core.Path.{sym, ap, _∙_}
 use denote.Ref.{now}
 use mathlib.Core.List.{_++_}
 use mathlib.Core.Bool.{Bool}
-use Rattle.text_read.specs.Meaning.{prefixOf}
+use Rattle.text_fields.specs.Meaning.{prefixOf}
 use Rattle.text_write.specs.Meaning.{bodyOf}
 use Rattle.text_write.specs.Stage.{putting}
 use borrow.Author.Needs.{needs}

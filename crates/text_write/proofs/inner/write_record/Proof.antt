@@ -4,12 +4,12 @@ use mathlib.Core.Path.{_≡_, sym, ap, _∙_}
 use denote.Ref.{now}
 use mir.Facts.{toZ-ofZ}
 use borrow.Author.Tests.{not-true, not-false}
+use Rattle.scales.specs.Meaning.{recordMoment}
 use Rattle.calendar.specs.Meaning.{dateSlip, dateOfDay}
-use Rattle.changes.specs.Asked.{recordMoment}
 use Rattle.text_write.specs.Meaning.{fullText}
 use Rattle.text_write.specs.Stage.{putting}
 use Rattle.text_write.specs.Writes.{image-lacks, image-put, has-date, month-in}
-use Rattle.text_read.specs.declared.Stamp.{Stamp}
+use Rattle.text_fields.specs.declared.Stamp.{Stamp}
 use borrow.Author.Needs.{needs}
 use Rattle.text_write.proofs.inner.write_record.Statement.{statement}
 use Rattle.text_write.proofs.inner.write_record.Tie as tie

@@ -6,7 +6,8 @@ use mir.Facts.{toZ-ofZ}
 use lib.IntN.{ℤ}
 use Rattle.leap.specs.Meaning.{accepted}
 use Rattle.scales.specs.Meaning.{outcome, slip, dated}
-use Rattle.changes.specs.Asked.{takenScale, takenAsked}
+use Rattle.handed.specs.Meaning.{takenScale}
+use Rattle.changes.specs.Asked.{takenAsked}
 use Rattle.text_write.specs.Writes.{write-refused, write-answer, write-inside}
 use borrow.Author.Needs.{needs}
 use Rattle.text_write.proofs.inner.write_time.Statement.{statement}

@@ -1,8 +1,8 @@
--- `text_read::inner::prefix` meets its contract: by the scale. Assumes nothing.
-use Rattle.text_read.specs.Meaning.{prefixOf}
+-- `text_fields::inner::prefix` meets its contract: by the scale. Assumes nothing.
 use borrow.Author.Needs.{needs}
-use Rattle.text_read.proofs.inner.prefix.Statement.{statement}
-use Rattle.text_read.proofs.inner.prefix.Tie as tie
+use Rattle.text_fields.proofs.inner.prefix.Statement.{statement}
+use Rattle.text_fields.proofs.inner.prefix.Tie as tie
+use Rattle.text_fields.specs.Meaning.{prefixOf}
 
 returns : tie.Need-returns
 unfolding prefixOf
