@@ -3,7 +3,7 @@ use mathlib.Core.Bool.{Bool, cond}
 use mathlib.Core.List.{List}
 use Prim.Native.Nat.{ℕ}
 use lib.Dec.{eqb, leb}
-use Rattle.scales.specs.Meaning.{codeOf, Judged, given, outcome, Wrote, written, Valued}
+use Rattle.scales.specs.Meaning.{codeOf, Judged, given, outcome, Wrote, written}
 use Rattle.handed.specs.declared.Handed.{Handed}
 use Rattle.layout_times.specs.Cuc as Cuc
 use Rattle.layout_times.specs.Cryosat as Cryosat
@@ -11,7 +11,6 @@ use Rattle.layout_times.specs.Siral as Siral
 use Rattle.layout_times.specs.Proteus as Proteus
 use Rattle.c_api.specs.Meaning.{known, handedOf}
 use Rattle.c_api.specs.declared.VrkHanded.{VrkHanded}
-use Rattle.c_api.specs.declared.VrkCount.{VrkCount}
 use Rattle.c_api.specs.declared.bytes.VrkWritten.{VrkWritten}
 use Rattle.c_api.specs.declared.bytes.VrkProteus.{VrkProteus}
 use Rattle.c_api.specs.declared.bytes.Layout.{Layout}

@@ -9,7 +9,7 @@ use Rattle.scales.specs.Meaning.{andThen, sameScale, inSpan, Judged, given, giv
 use Rattle.scales.specs.declared.Scale.{Scale}
 use Rattle.scales.specs.declared.Scale.the-variants as S
 use Rattle.handed.specs.declared.Handed.{Handed}
-use Rattle.handed.specs.Meaning.{scaleOf, isFinite, isInSpan, dayOf, microOf, momentIn}
+use Rattle.handed.specs.Meaning.{scaleOf, isFinite, isInSpan, momentIn}
 use Rattle.leap.specs.Meaning.{seconds, accepted, taiOf, hasMicro, isExpiredDay, isExpiredTai, utcOf}
 
 -- ---- a time to its TAI count; `spans` says whether the time lies in its span

@@ -1,13 +1,13 @@
 -- The ways out of `write`. Assumes nothing.
-use mathlib.Core.Path.{_≡_, refl, sym, ap, subst, _∙_}
+use mathlib.Core.Path.{_≡_, refl, sym, subst, _∙_}
 use mathlib.Core.Bool.{true, false}
 use Prim.Native.Nat.{ℕ, _+_, _-_, _*_, _/_, _≤_, _<_}
 use native.Mathlib.Omega.{arith}
-use lib.IntN.{ℤ, pos, subℕ, _+ℤ_}
+use lib.IntN.{ℤ}
 use lib.Ieee.{Float}
 use borrow.Author.Tests.{lt-ltb, le-ltb}
-use Rattle.axis.specs.Meaning.{placeOfDay, dayAt, microsAt, Moment, dayMicros, since}
-use Rattle.axis.specs.Diff.{is-pos, neg-pos, sub-eq, sub-mul, sub-add}
+use Rattle.axis.specs.Meaning.{placeOfDay, dayAt, microsAt, Moment, dayMicros}
+use Rattle.axis.specs.Diff.{is-pos, neg-pos, sub-eq}
 use Rattle.axis.specs.Axis.{since-at}
 use Rattle.scales.specs.Meaning.{bound, outcome, timeScale, timeCount}
 use Rattle.scales.specs.Place.{apart, day-part}

@@ -1,6 +1,5 @@
 -- Decimal days: what is read of an f64 of days, and what is written of a handed time. Assumes nothing.
 use mathlib.Core.Path.{_≡_}
-use Prim.Native.Nat.{ℕ}
 use lib.Dec.{ltb}
 use lib.IntN.{ℤ}
 use lib.Ieee.{Float}

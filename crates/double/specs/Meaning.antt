@@ -8,7 +8,7 @@ use lib.IntN.{ℤ, pos, negsuc, negℤ, _+ℤ_, _*ℤ_}
 use lib.Signed.{ltZ}
 use lib.Ieee.{Float, nan, inf, fin, binary64, fits}
 use Rattle.axis.specs.Meaning.{floorZ}
-use Rattle.double.specs.declared.Bits.{Bits}
+use Rattle.double.specs.declared.inner.Bits.{Bits}
 
 abbrev pub signed : Bool → ℕ → ℤ
 signed false n = pos n

@@ -6,8 +6,7 @@ use Prim.Native.Nat.{ℕ, suc, _+_, _-_, _*_, _/_, _%_, _≤_, _<_}
 use native.Mathlib.Nat.{div-eq-of-lt, div-lt-iff-lt-mul, add-div-right}
 use native.Mathlib.Omega.{arith}
 use lib.Dec.{leb, ltb, lit<, lit≤}
-use lib.IntN.{ℤ, pos, negsuc, negℤ, subℕ, _+ℤ_, _*ℤ_}
-use lib.Pow.{pow-pos}
+use lib.IntN.{ℤ, pos, negℤ, subℕ, _+ℤ_, _*ℤ_}
 use lib.Signed.{ltZ}
 use borrow.Author.Tests.{lt-ltb, le-ltb, le-leb, lt-leb, ltb-true, leb-true}
 use Rattle.axis.specs.Meaning.{placeOfDay, microsAt, floorZ, modZ, dayMicros}
@@ -17,7 +16,7 @@ use Rattle.scales.specs.Meaning.{first}
 use Rattle.scales.specs.Place.{firstAt}
 use Rattle.scales.specs.declared.Scale.{Scale}
 use Rattle.scales.specs.declared.Scale.the-variants as S
-use Rattle.double.specs.Meaning.{signed, Exact, down, over, under, nearest}
+use Rattle.double.specs.Meaning.{signed, Exact, over, under, nearest}
 use Rattle.handed.specs.Meaning.{spans, microsOf}
 use Rattle.double.proofs.Exact.{under-pos}
 use Rattle.handed.specs.Parts.{firstOf, halfUp, halfDown, microsIn, inside, placeIn, placeOf}

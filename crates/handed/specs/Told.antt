@@ -12,7 +12,6 @@ use Rattle.scales.specs.Place.{firstAt, apart, Placed, placed, day-part, micro-
 use Rattle.scales.specs.Same.{time-scale, time-count}
 use Rattle.scales.specs.declared.Scale.{Scale}
 use Rattle.scales.specs.declared.Time.{Time}
-use Rattle.scales.specs.declared.Record.{Record}
 use Rattle.double.specs.Meaning.{exactOf}
 use Rattle.handed.specs.declared.Handed.{Handed}
 use Rattle.handed.specs.declared.Handed.the-variants as H

@@ -82,7 +82,7 @@ fn read_bits(first: u64, bits: u64) -> Reading
     requires { ⌜ (0 < first) × (first ≤ 36525) ⌝ }
     ensures { λ r. ⌜ r ≡ found first (ofBits binary64 bits) ⌝ }
 {
-    let parts = double::split(bits);
+    let parts = double::inner::split(bits);
     let neg = parts.minus;
     let field = parts.exponent;
     let digits = parts.digits;

@@ -1,17 +1,15 @@
 -- The list's meaning on the axis: days by their places, TAI counts by their places in microseconds. Assumes nothing.
-use mathlib.Core.Path.{_≡_, sym, ap, ap₂, _∙_}
+use mathlib.Core.Path.{_≡_, ap, ap₂, _∙_}
 use mathlib.Core.Bool.{_&&_}
 use mathlib.Core.List.{List}
 use Prim.Native.Nat.{ℕ, _+_, _-_, _*_, _/_, _%_, _≤_, _<_}
 use native.Mathlib.Omega.{arith}
-use lib.Dec.{leb, ltb, eqb}
-use lib.IntN.{ℤ, pos, subℕ, _+ℤ_, _-ℤ_}
-use lib.Signed.{leZ, ltZ}
-use borrow.Author.Tests.{le-leb, lt-leb, le-ltb, lt-ltb, eq-eqb, ne-eqb}
+use lib.Dec.{leb, eqb}
+use lib.IntN.{ℤ, _+ℤ_}
+use borrow.Author.Tests.{le-leb, lt-leb, eq-eqb, ne-eqb}
 use Rattle.axis.specs.Meaning.{placeOfDay, dayAt, microsAt, Moment, dayMicros, momentOf}
-use Rattle.axis.specs.Diff.{neg-pos, sub-eq, sub-add, sub-lt, sub-le-same, Way, way, below, above}
-use Rattle.axis.specs.Shift.{number-add}
-use Rattle.axis.specs.Axis.{day-from, day-to, micros-day, micros-left, since-at, day-before, micros-add, moment-at, micros-minus}
+use Rattle.axis.specs.Diff.{Way, way, below, above}
+use Rattle.axis.specs.Axis.{day-from, day-to, since-at, day-before, micros-add, moment-at, micros-minus}
 use Rattle.leap.specs.Meaning.{seconds, sameDay, offsetOn, taiOf, taiOfStart, plain, sixty}
 
 -- two tests of order are one of equality

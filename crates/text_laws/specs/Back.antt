@@ -18,7 +18,6 @@ use Rattle.scales.specs.Meaning.{bound, inSpan, Judged, given, gives, Outcome, 
 use Rattle.scales.specs.Place.{apart, placed, and-both}
 use Rattle.scales.specs.declared.Scale.{Scale}
 use Rattle.scales.specs.declared.Scale.the-variants as S
-use Rattle.scales.specs.declared.Record.{Record}
 use Rattle.handed.specs.declared.Handed.{Handed}
 use Rattle.handed.specs.declared.Handed.the-variants as H
 use Rattle.scales.specs.Order.{passed}

@@ -1,27 +1,22 @@
 -- Demand 3 of the texts: a list that extends the one in use keeps every answer, and every refusal but 9. Assumes nothing.
 use mathlib.Core.Path.{_≡_, refl, sym, ap, _∙_}
-use mathlib.Core.Bool.{Bool, true, false, not, _&&_, _||_}
+use mathlib.Core.Bool.{Bool, true, false, _&&_, _||_}
 use mathlib.Core.List.{List}
 use Prim.Native.Nat.{ℕ}
-use native.Mathlib.Omega.{arith}
 use lib.Dec.{eqb}
 use lib.IntN.{ℤ, pos}
 use Rattle.axis.specs.Meaning.{Moment}
-use Rattle.scales.specs.Meaning.{inSpan, Judged, given, gives, Outcome, refused, answer, outcome, dated, written, recordOf}
+use Rattle.scales.specs.Meaning.{inSpan, Judged, given, gives, Outcome, refused, outcome, written}
 use Rattle.scales.specs.Order.{onward}
 use Rattle.scales.specs.Place.{and-both}
 use Rattle.scales.specs.declared.Scale.{Scale}
-use Rattle.scales.specs.declared.Scale.the-variants as S
 use Rattle.handed.specs.declared.Handed.{Handed}
-use Rattle.handed.specs.declared.Handed.the-variants as H
 use Rattle.calendar.specs.Meaning.{dayOfDate}
-use Rattle.handed.specs.Meaning.{scaleOf, isFinite, isInSpan, momentIn}
+use Rattle.handed.specs.Meaning.{scaleOf}
 use Rattle.leap.specs.Meaning.{accepted, Extends, publishedDays, publishedOffsets, publishedLast}
-use Rattle.changes.specs.Meaning.{changeUsesList, moving, changing, changeOf, asked}
 use Rattle.leap_laws.proofs.Promises.{Fresh, fresh}
 use Rattle.leap_laws.proofs.Asked.{handed-again, asked-again}
 use Rattle.leap.specs.Published.{published}
-use Rattle.changes.specs.Asked.{handedAsked, list-passes, sound}
 use Rattle.leap_laws.proofs.Computed.{published-6209, extended}
 use Rattle.text_read.specs.Meaning.{isPlain, isPrefixed, isPrefixRight, isBody, scaleIn, bodyIn, stampIn, stampMoment, stampSpans, readingBody, datedIn, readText}
 use Rattle.text_write.specs.Meaning.{imaging, writeText}

@@ -1,7 +1,7 @@
 -- What an Envisat text stands for, as the paper states it. A text is the list of its bytes; a leap list is its steps' days ds, its
 -- offsets os and its last day e. Assumes nothing.
 use mathlib.Core.Bool.{Bool, cond, not, _&&_, _||_}
-use mathlib.Core.List.{List, [], _∷_}
+use mathlib.Core.List.{List}
 use Prim.Native.Nat.{ℕ, zero, suc, _+_, _-_, _*_}
 use lib.Dec.{eqb, leb, ltb}
 use lib.IntN.{ℤ}
@@ -11,7 +11,6 @@ use Rattle.scales.specs.Meaning.{andThen, inSpan, Judged, given, gives, Outcome
 use Rattle.scales.specs.declared.Scale.{Scale}
 use Rattle.scales.specs.declared.Scale.the-variants as S
 use Rattle.calendar.specs.Meaning.{isDate, dayOfDate}
-use Rattle.leap.specs.Meaning.{accepted, hasMicro, isExpiredDay}
 use Rattle.changes.specs.Meaning.{isUtc, moving, asked}
 use Rattle.text_fields.specs.declared.Stamp.{Stamp}
 use Rattle.text_fields.specs.Meaning.{letter, prefixOf}

@@ -1,19 +1,12 @@
 -- The stages that the private functions answer for: a time judged, a text parsed. Assumes nothing.
 use mathlib.Core.Path.{_≡_}
-use mathlib.Core.Bool.{Bool, false, not, _&&_}
 use mathlib.Core.List.{List}
 use Prim.Native.Nat.{ℕ}
-use lib.IntN.{ℤ, pos}
+use lib.IntN.{ℤ}
 use Rattle.axis.specs.Meaning.{Moment}
-use Rattle.scales.specs.Meaning.{inSpan, Judged, given, gives, refused, outcome, numberOf, momentAt, timeScale, timeCount}
+use Rattle.scales.specs.Meaning.{Judged, given, refused, outcome, numberOf}
 use Rattle.scales.specs.declared.Scale.{Scale}
-use Rattle.scales.specs.declared.Time.{Time}
-use Rattle.scales.specs.declared.Record.{Record}
-use Rattle.handed.specs.declared.Taken.{Taken}
-use Rattle.handed.specs.declared.Taken.the-variants as K
 use Rattle.handed.specs.Meaning.{takenScale}
-use Rattle.leap.specs.Meaning.{accepted}
-use Rattle.changes.specs.Meaning.{isUtc, asked}
 use Rattle.changes.specs.Asked.{takenAsked}
 use Rattle.text_read.specs.Meaning.{isBody, readingBody, reading, scaleIn}
 use Rattle.text_read.specs.declared.Parsed.{Parsed}

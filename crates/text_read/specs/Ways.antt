@@ -1,6 +1,6 @@
 -- The ways out of reading and of writing: a law for each. Assumes nothing.
-use mathlib.Core.Path.{_≡_, refl, sym, ap, ap₂, subst, _∙_}
-use mathlib.Core.Bool.{Bool, true, false, not, _||_, _&&_, false≢true}
+use mathlib.Core.Path.{_≡_, sym, ap, ap₂, subst, _∙_}
+use mathlib.Core.Bool.{true, not, _&&_}
 use mathlib.Core.List.{List}
 use Prim.Native.Nat.{ℕ}
 use lib.IntN.{ℤ}
@@ -8,14 +8,12 @@ use Rattle.axis.specs.Meaning.{Moment}
 use Rattle.scales.specs.Meaning.{Outcome, refused, answer, outcome, dated, numberOf, slip}
 use Rattle.scales.specs.declared.Scale.{Scale}
 use Rattle.scales.specs.declared.Scale.the-variants as S
-use Rattle.scales.specs.declared.Time.{Time}
 use Rattle.scales.specs.declared.Record.{Record}
 use Rattle.scales.specs.declared.Refusal.{Refusal}
 use Rattle.scales.specs.declared.Dated.the-variants as D
 use Rattle.handed.specs.declared.Taken.{Taken}
 use Rattle.handed.specs.Meaning.{takenScale}
 use Rattle.leap.specs.Meaning.{accepted}
-use Rattle.changes.specs.Meaning.{isUtc, changeUsesList}
 use Rattle.changes.specs.Asked.{timeUsesList, takenAsked, list-lacks, slip-refused, lacking}
 use Rattle.text_read.specs.Meaning.{datedIn, scaleIn, readText}
 use Rattle.text_read.specs.Stage.{ParsesText}

@@ -6,12 +6,12 @@ ghost use lib.ListN.{length};
 ghost use Rattle.scales.specs.Meaning.{slip, outcome, dated};
 ghost use Rattle.handed.specs.Meaning.{takenScale};
 ghost use Rattle.leap.specs.Meaning.{accepted};
-ghost use Rattle.changes.specs.Meaning.{isUtc};
-ghost use Rattle.changes.specs.Asked.{timeUsesList, lacksList, takenAsked};
-ghost use Rattle.text_fields.specs.Meaning.{names, prefixOf};
+ghost use Rattle.changes.specs.Asked.{timeUsesList, takenAsked};
 ghost use Rattle.text_read.specs.Meaning.{readingIn, datedIn};
 ghost use Rattle.text_read.specs.In.{timeIn};
 ghost use Rattle.text_read.specs.Stage.{ParsesBody, ParsesText};
+use super::Parsed;
+use super::columns;
 use calendar::DayAnswer;
 use handed::Handed;
 use handed::Taken;
@@ -19,8 +19,6 @@ use scales::Dated;
 use scales::Record;
 use scales::Refusal;
 use scales::Scale;
-use super::Parsed;
-use super::columns;
 
 // ---- what a text stands for
 

@@ -7,11 +7,11 @@ ghost use Rattle.scales.specs.Meaning.{wrote};
 ghost use Rattle.text_fields.specs.Meaning.{prefixOf};
 ghost use Rattle.text_write.specs.Meaning.{stampOf, tens, units, textOf, hasMicros, showsScale, bodyOf, fullText};
 ghost use Rattle.text_write.specs.Stage.{putting};
+use super::Form;
 use calendar::Date;
 use scales::Refusal;
 use scales::Scale;
 use scales::Written;
-use super::Form;
 use text_fields::Stamp;
 
 // Second 60 comes after 23:59.

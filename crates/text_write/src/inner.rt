@@ -7,6 +7,8 @@ ghost use Rattle.changes.specs.Meaning.{isUtc};
 ghost use Rattle.changes.specs.Asked.{timeUsesList};
 ghost use Rattle.text_write.specs.Meaning.{showsScale, hasImage};
 ghost use Rattle.text_write.specs.Stage.{imaged, writtenOf};
+use super::Form;
+use super::image;
 use calendar::DateAnswer;
 use handed::Taken;
 use scales::Dated;
@@ -14,8 +16,6 @@ use scales::Record;
 use scales::Refusal;
 use scales::Scale;
 use scales::Written;
-use super::Form;
-use super::image;
 
 // Unprefixed forms are UTC.
 fn has_scale(form: Form, z: Scale) -> bool

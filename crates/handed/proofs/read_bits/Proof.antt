@@ -6,7 +6,7 @@ use native.Mathlib.Nat.{mod-lt}
 use native.Mathlib.Omega.{arith}
 use lib.Pow.{pow-pos}
 use Rattle.double.specs.Meaning.{bitsOf}
-use Rattle.double.specs.declared.Bits.{Bits}
+use Rattle.double.specs.declared.inner.Bits.{Bits}
 use Rattle.handed.specs.Parts.{valueOf}
 use Rattle.handed.proofs.Fields.{bits-top, bits-out, bits-small, bits-middle}
 use Rattle.handed.proofs.read_bits.Statement.{statement}

@@ -8,7 +8,7 @@ use Rattle.leap.specs.Meaning.{accepted}
 use Rattle.scales.specs.Meaning.{outcome}
 use Rattle.scales.specs.Place.{not-lacking}
 use Rattle.handed.specs.Meaning.{takenScale}
-use Rattle.changes.specs.Asked.{timeUsesList, takenAsked}
+use Rattle.changes.specs.Asked.{takenAsked}
 use Rattle.text_read.specs.Meaning.{datedIn}
 use Rattle.text_read.specs.Ways.{read-refused, read-parsed, read-lacks}
 use mir.Val.{toZ, ofZ}

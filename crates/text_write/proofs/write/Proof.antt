@@ -13,7 +13,6 @@ use borrow.Author.Needs.{needs}
 use Rattle.text_write.proofs.write.Statement.{statement}
 use Rattle.text_write.proofs.write.Tie as tie
 use Rattle.scales.specs.Place.{not-lacking}
-use Rattle.changes.specs.Asked.{timeUsesList}
 
 returns : tie.Need-returns
 returns c =
