@@ -1,20 +1,29 @@
-/* Vrikshonem, the dating desk: its interface for C, version 0.2. It is fixed at 1.0 only; until then it grows.
+/* Vrikshonem, the dating desk: its interface for C, version 0.3. Before 1.0 names, structs and functions may change with the
+ * middle number of the version; CHANGELOG.md says what to change then.
  *
- * Every function answers every input, with a value or with the number of one refusal. None keeps anything between calls,
- * allocates, sets errno or relies on its caller having checked; any number of threads may call at once.
+ * Every function takes every input, and returns a value or the number of one refusal. None keeps anything between calls,
+ * allocates memory or sets errno, and none relies on its caller having checked its arguments. Any number of threads may call
+ * at once.
  *
- * Refusals. The first that applies in the order of vrikshonem_refusals.h is given, and never another. There stand their names,
- * such as VRK_NOT_IN_FORCE, and vrk_words, which says in words what is wrong. 0 is an answer.
+ * Refusals. Look at `refusal` of a result first: where it is 0 (VRK_ANSWERED) the other fields hold. Else it is the number of
+ * the first refusal that applies, in the order of vrikshonem_refusals.h. That header has a name for each number, such as
+ * VRK_NOT_IN_FORCE, and vrk_words, which says in words what is wrong.
  *
- * A code that stands for nothing (a scale, kind, form or H3) is a field over its limit, 3, but in a correlation 6. Each
- * function below lists the refusals that it can give, in the order in which it judges them.
+ * Below, "Refused" lists the numbers that a function can return, in the order in which it tests for them. A number that
+ * stands there without words means: 1 not as many bytes as the layout has, 4 a decimal day infinite or not a number, 5 leap
+ * list not accepted, 6 correlation not accepted, 7 time outside the limits of its scale, 9 a time after the leap list's last
+ * day, 10 second 60 on a day that has none, 11 result outside the limits of its scale, 13 `out` shorter than what is to be
+ * written.
  *
- * The empty result of a refusal: its number; day 0 microsecond 0 of the scale that the answer would have had (scale 0 where
- * that code is unknown), count 0, decimal day plus zero, length 0, every field 0.
+ * An unknown scale, kind, form or H3 code is refused 3; an unknown scale in a correlation, 6.
  *
- * Slices. A slice is a pointer and a number of elements. The pointer is valid for that many; with number 0 it may be null.
- * `const` slices are only read. A lent slice (`out`) overlaps no other slice of the call. An answer writes its image onto the
- * front of `out` and leaves every byte after the image; a refusal leaves every byte of `out`.
+ * With a refusal the other fields are empty: day, micro, count, length and every field of a layout are 0, a decimal day is
+ * plus zero, and `scale` is the scale that the answer would have had (0, which is TAI, where that code is unknown).
+ *
+ * Slices. A slice is a pointer and a number of elements. The pointer is valid for that many; where the number is 0 it may be
+ * null. `const` slices are only read. `out` is memory that the caller lends to be written to; it overlaps no other slice of
+ * the call. An answer writes onto the front of `out` and leaves every byte after what it wrote; a refusal leaves every byte
+ * of `out`.
  */
 #ifndef VRIKSHONEM_H
 #define VRIKSHONEM_H
@@ -30,21 +39,21 @@ extern "C" {
 
 /* ---- times */
 
-/* Codes of the scales, and of what is handed in. */
+/* The codes of a scale, and of a time's kind. */
 enum { VRK_TAI = 0, VRK_UTC = 1, VRK_GPS = 2 };
 enum { VRK_RECORD = 0, VRK_DECIMAL = 1 };
 
-/* A time handed in, judged by each function that takes it: a record (scale, day counted from 1 January 2000, microsecond of
- * that day) or a decimal day (scale, decimal), which stands for the record that vrk_decimal_read gives. Of a record `decimal`
- * is not looked at; of a decimal day `day` and `micro` are not.
+/* A time that is passed in. It is a record (VRK_RECORD: scale, day counted from 1 January 2000, microsecond of that day) or a
+ * decimal day (VRK_DECIMAL: scale, decimal), which stands for the record that vrk_decimal_read gives. Of a record `decimal`
+ * is ignored; of a decimal day `day` and `micro` are. Each function that takes a time tests it against these limits:
  *
  *    scale   first day             last day              microsecond of day below
  *    TAI     -10227 (1 Jan 1972)   36524 (31 Dec 2099)   86,400,000,000
  *    UTC     -10227                36524                 86,401,000,000
  *    GPS      -7300 (6 Jan 1980)   36524                 86,400,000,000
  *
- * Outside of this a time is refused 7. UTC microseconds from 86,400,000,000 on are second 60, whether the day has one or
- * not. */
+ * A time outside of them is refused 7. UTC microseconds from 86,400,000,000 on are second 60, the leap second 23:59:60. They
+ * are within the limits on every day; on a day without a leap second they are refused 10 where a leap list is used. */
 typedef struct {
     uint32_t kind;
     uint32_t scale;
@@ -53,7 +62,7 @@ typedef struct {
     double decimal;
 } vrk_handed;
 
-/* A time handed back: a record in its scale's span, or the empty one. */
+/* A time that is returned: a record within the limits of its scale, or with a refusal the empty one. */
 typedef struct {
     uint32_t refusal;
     uint32_t scale;
@@ -61,13 +70,13 @@ typedef struct {
     uint64_t micro;
 } vrk_time;
 
-/* A decimal day handed back. */
+/* A decimal day that is returned. */
 typedef struct {
     uint32_t refusal;
     double day;
 } vrk_decimal;
 
-/* A count or a tick handed back. */
+/* A count or a tick that is returned. */
 typedef struct {
     uint32_t refusal;
     uint64_t count;
@@ -82,21 +91,24 @@ typedef struct {
 /* ---- decimal days */
 
 /* Given     a decimal day and the code of its scale.
- * Returned  the microsecond nearest the exact value of the double, ties to the later. Minus zero is day 0.
- * Refused   3 unknown scale; 4; 7 on the exact value: first day inclusive, 36525 exclusive. */
+ * Returned  the time to the microsecond nearest the exact value of the double; of two equally near, the later. Minus zero is
+ *           day 0.
+ * Refused   3 unknown scale; 4; 7 an exact value below the scale's first day, or 36525 or more. */
 vrk_time vrk_decimal_read(double day, uint32_t scale);
 
 /* Given     a time.
- * Returned  the double nearest the exact quotient of its microseconds since day 0 by 86,400,000,000, ties to the even
- *           significand. It reads back as the same record.
+ * Returned  the double nearest (day x 86,400,000,000 + micro) / 86,400,000,000, correctly rounded. vrk_decimal_read gives the
+ *           same record back.
  * Refused   3 unknown kind or scale; 4; 7; 12 second 60. */
 vrk_decimal vrk_decimal_write(vrk_handed time);
 
 /* ---- SBT ticks */
 
-/* A correlation: a reference tick and the time it stood for, the period of a tick in picoseconds, and how many ticks back and
- * ahead it may be relied on (its window). It is accepted, or refused 6, with a known scale, a reference in that scale's span
- * below microsecond 86,400,000,000, a period from 3,906,000,000 to 3,906,500,000, `back` to 2^31 and `ahead` to 2^31 - 1. */
+/* A correlation says how to date ticks. `tick` is one tick, the reference, and `scale`, `day` and `micro` are the time it
+ * stood for. `period` is the length of a tick in picoseconds. `back` and `ahead` are the window: how many ticks before and
+ * after the reference the correlation may be relied on. It is accepted where all of this holds, otherwise refused 6: a known
+ * scale; `day` within the limits of that scale; `micro` below 86,400,000,000; `period` from 3,906,000,000 to 3,906,500,000;
+ * `back` at most 2^31; `ahead` at most 2^31 - 1. */
 typedef struct {
     uint32_t tick;
     uint32_t scale;
@@ -107,26 +119,30 @@ typedef struct {
     uint64_t ahead;
 } vrk_sbt_correlation;
 
-/* Given     a tick, a correlation, and the day and microsecond at which the packet was received, in the correlation's scale.
- * Returned  the tick's time in that scale, rounded down. Of the ticks with this number it is the one within half a wrap of
- *           the reference.
- * Refused   6; 7 for the receipt, from microsecond 86,400,000,000 on too; 8 where the tick lies outside the window or the
- *           receipt outside the window's times; 11. The empty record is of the correlation's scale. */
+/* Given     a tick, a correlation, and the receipt: the day and the microsecond at which the packet was received, in the
+ *           correlation's scale.
+ * Returned  the time of the tick in that scale, rounded down to the microsecond. The counter wraps: `tick` is taken for the
+ *           tick of this number from 2^31 before the reference to 2^31 - 1 after it.
+ * Refused   6; 7 the receipt is outside the limits of its scale, or its microsecond is 86,400,000,000 or more; 8 the tick is
+ *           outside the window, or the receipt is before the time of the window's first tick or after that of its last; 11.
+ *           With a refusal `scale` is the correlation's. */
 vrk_time vrk_sbt_date(uint32_t tick, vrk_sbt_correlation correlation, int64_t receipt_day, uint64_t receipt_micro);
 
 /* Given     a time and a correlation.
- * Returned  the last tick of the window whose time is not later, below 2^32.
- * Refused   3 unknown kind or scale of the time; 4; 6; 7; 8 outside the window's times, not judged of a time that gets 12; 12
- *           another scale than the correlation's, or second 60. */
+ * Returned  the last tick of the window whose time is not later than the given one; it is at most 3,906 microseconds earlier.
+ * Refused   3 unknown kind or scale of the time; 4; 6; 7; 8 the time is before that of the window's first tick or after that
+ *           of its last; 12 another scale than the correlation's, or second 60 (8 is not tested then). */
 vrk_count vrk_sbt_tick(vrk_handed time, vrk_sbt_correlation correlation);
 
 /* ---- GOCE counts */
 
-/* A correlation of GOCE's clock, always UTC; a count is 1/65536 s. `obt0` is the reference count. It stood for `utc0` plus
- * `offset`, counts since 1 January 2000 in days of 86,400 s. `gradient` is the clock's rate in billionths; `back` and `ahead`
- * are its window, in counts. It is accepted, or refused 6, with `obt0` and `utc0` below 2^48, an `offset` of at most one day
- * (5,662,310,400) either way, a `gradient` from 999,000,000 to 1,001,000,000, `back` to 2^47, `ahead` to 2^47 - 1, and `utc0`
- * plus `offset` in the UTC span: below 206,815,887,360,000, the counts of 36525 days. */
+/* A correlation says how to date GOCE's counts, always in UTC. A count is 1/65536 s. `obt0` is one count, the reference; it
+ * stood for `utc0` plus `offset`, in counts since 1 January 2000 in days of 86,400 s. `gradient` is the clock's rate in
+ * billionths, 1,000,000,000 for a clock that keeps time. `back` and `ahead` are the window: how many counts before and after
+ * the reference the correlation may be relied on. It is accepted where all of this holds, otherwise refused 6: `obt0` and
+ * `utc0` below 2^48; `offset` at most one day (5,662,310,400 counts) either way; `gradient` from 999,000,000 to
+ * 1,001,000,000; `back` at most 2^47; `ahead` at most 2^47 - 1; `utc0` plus `offset` below 206,815,887,360,000, the end of
+ * 2099. */
 typedef struct {
     uint64_t obt0;
     uint64_t utc0;
@@ -136,40 +152,44 @@ typedef struct {
     uint64_t ahead;
 } vrk_goce_correlation;
 
-/* Given     a count, a correlation, and the day and microsecond at which the packet was received, in UTC.
- * Returned  the count's time in UTC: Gradient x (OBT - OBT0) + Offset + UTC0, the exact sum rounded down once. OBT - OBT0 is
- *           signed, from -2^47 to 2^47 - 1: of the counts with this number it is the one within half a wrap of the reference.
- * Refused   3 a count from 2^48 on; 6; 7 for the receipt, from microsecond 86,400,000,000 on too; 8 where the count lies
- *           outside the window or the receipt outside the window's times; 11. The empty record is of UTC. */
+/* Given     a count, a correlation, and the receipt: the day and the microsecond at which the packet was received, in UTC.
+ * Returned  the time of the count in UTC, Gradient x (OBT - OBT0) + Offset + UTC0, the exact sum rounded down to the
+ *           microsecond. The counter wraps: `obt` is taken for the count of this number from 2^47 before the reference to
+ *           2^47 - 1 after it.
+ * Refused   3 a count of 2^48 or more; 6; 7 the receipt is outside the limits of UTC, or its microsecond is 86,400,000,000 or
+ *           more; 8 the count is outside the window, or the receipt is before the time of the window's first count or after
+ *           that of its last; 11. With a refusal `scale` is UTC. */
 vrk_time vrk_goce_date(uint64_t obt, vrk_goce_correlation correlation, int64_t receipt_day, uint64_t receipt_micro);
 
 /* Given     a time and a correlation.
- * Returned  the last count of the window whose time is not later, below 2^48. That time is at most 15 microseconds earlier.
- * Refused   3 unknown kind or scale of the time; 4; 6; 7; 8 outside the window's times, not judged of a time that gets 12; 12
- *           another scale than UTC, or second 60. */
+ * Returned  the last count of the window whose time is not later than the given one; it is at most 15 microseconds earlier.
+ * Refused   3 unknown kind or scale of the time; 4; 6; 7; 8 the time is before that of the window's first count or after that
+ *           of its last; 12 another scale than UTC, or second 60 (8 is not tested then). */
 vrk_count vrk_goce_count(vrk_handed time, vrk_goce_correlation correlation);
 
 /* ---- the leap list, and changes of scale
  *
- * A list is two slices of the same length, the steps' days and TAI minus UTC in seconds from each day on, and the last day E
- * that it speaks of. It is accepted, or refused 5, with 1 to 64 steps, of which the first is (-10227, 10), days that rise
- * strictly and are firsts of months, offsets that count up by one, E from -10227 to 36524, and no step later than E + 1. A UTC
- * day after E is expired, 9. */
+ * A leap list is `days` and `offsets`, two slices of the same length, and `last`. From each of the days on, TAI minus UTC is
+ * the offset beside it, in seconds; `last` is the last day for which the list is known. It is accepted where all of this
+ * holds, otherwise refused 5: 1 to 64 steps; the first is day -10227 with offset 10; days rise and are firsts of months; each
+ * offset is one more than the one before; `last` is from -10227 to 36524, and no step is later than `last` + 1. A UTC day
+ * after `last` is refused 9. A new leap second needs a longer list and nothing else. */
 
 /* Returned  1 where the list is accepted, 0 where it is not. */
 uint32_t vrk_list_accepted(const int64_t *days, size_t day_count, const uint64_t *offsets, size_t offset_count, int64_t last);
 
-/* Given     a time, the code of the scale that is wanted, and a leap list, which is looked at only where UTC is one of the two.
+/* Given     a time, `to_scale`, the code of the scale to change it to, and a leap list, which is used only where one of the
+ *           two scales is UTC.
  * Returned  the same instant in that scale; in its own scale a time stays as it is.
- * Refused   3 unknown scale that is wanted, unknown kind or scale of the time; 4; 5; 7; 9; 10; 11. The empty record is of the
- *           scale that is wanted. */
+ * Refused   3 unknown `to_scale`, unknown kind or scale of the time; 4; 5; 7; 9; 10; 11. With a refusal `scale` is
+ *           `to_scale`. */
 vrk_time vrk_change(vrk_handed time, uint32_t to_scale, const int64_t *days, size_t day_count, const uint64_t *offsets,
                     size_t offset_count, int64_t last);
 
 /* ---- byte layouts
  *
- * Most significant byte first, all fields unsigned. A reader takes a slice of any length. A writer of a time whose layout
- * cannot hold it exactly writes the last image whose reading is not later. */
+ * Most significant byte first, all fields unsigned. A reader may be given any number of bytes. Where a layout cannot hold a
+ * time exactly, its writer writes the latest time not after it that the layout can hold. */
 
 /* CUC, Aeolus, 6 bytes: seconds (32 bits) since 6 January 1980 and a fraction of 1/65536 s (16 bits), in GPS.
  *
@@ -185,18 +205,18 @@ vrk_written vrk_cuc_write(vrk_handed time, uint8_t *out, size_t count);
  * Given     6 bytes.    Returned  the count.    Refused  1. */
 vrk_count vrk_goce_read(const uint8_t *bytes, size_t count);
 
-/* Given     a count.    Written  6 bytes.    Refused  3 from 2^48 on; 13. */
+/* Given     a count.    Written  6 bytes.    Refused  3 a count of 2^48 or more; 13. */
 vrk_written vrk_goce_write(uint64_t value, uint8_t *out, size_t count);
 
-/* OBET, SMOS, 8 bytes: the byte 66 hexadecimal and a count of 56 bits.
+/* OBET, SMOS, 8 bytes: the byte 0x66 and a count of 56 bits.
  *
  * Given     8 bytes.    Returned  the count.    Refused  1; 2 another first byte. */
 vrk_count vrk_obet_read(const uint8_t *bytes, size_t count);
 
-/* Given     a count.    Written  8 bytes.    Refused  3 from 2^56 on; 13. */
+/* Given     a count.    Written  8 bytes.    Refused  3 a count of 2^56 or more; 13. */
 vrk_written vrk_obet_write(uint64_t value, uint8_t *out, size_t count);
 
-/* A vrk_time with Proteus's H3 bit, 0 or 1. */
+/* A time that is returned, with Proteus's H3 bit, 0 or 1. */
 typedef struct {
     uint32_t refusal;
     uint32_t scale;
@@ -205,34 +225,35 @@ typedef struct {
     uint32_t h3;
 } vrk_proteus;
 
-/* Proteus, SMOS, 8 bytes: week (12 bits) from 6 January 1980, three zero bits, H3, second of week (32 bits, at most 604,799),
- * a fraction as in CUC; UTC in weeks of 604,800 s, without a leap list.
+/* Proteus, SMOS, 8 bytes: week (12 bits) from 6 January 1980, three bits that are 0, the bit H3, second of week (32 bits, at
+ * most 604,799), a fraction as in CUC. It is UTC in weeks of 604,800 s, and no leap list is used.
  *
- * Given     8 bytes.    Returned  a UTC time, and H3.    Refused  1; 2 a zero bit is set; 3 a second over its limit. */
+ * Given     8 bytes.    Returned  a UTC time, and H3.    Refused  1; 2 one of the three bits is 1; 3 a second over its
+ *           limit. */
 vrk_proteus vrk_proteus_read(const uint8_t *bytes, size_t count);
 
 /* Given     a time, and H3, 0 or 1.    Written  8 bytes.
- * Refused   3 another H3, unknown kind or scale; 4; 7; 12 a scale other than UTC, second 60, a day outside -7300 to 21371;
- *           13. */
+ * Refused   3 an H3 other than 0 and 1, unknown kind or scale; 4; 7; 12 a scale other than UTC, second 60, a day outside
+ *           -7300 to 21371; 13. */
 vrk_written vrk_proteus_write(vrk_handed time, uint32_t h3, uint8_t *out, size_t count);
 
 /* CryoSat general, 8 bytes: day (16 bits) from 1 January 2000, millisecond (32 bits, below 86,400,000), microsecond (16 bits,
  * below 1,000), in TAI.
  *
- * Given     8 bytes.    Returned  a TAI time.    Refused  1; 3; 7. */
+ * Given     8 bytes.    Returned  a TAI time.    Refused  1; 3 a millisecond or microsecond over its limit; 7. */
 vrk_time vrk_cryosat_read(const uint8_t *bytes, size_t count);
 
-/* Given     a time.    Written  8 bytes, exactly.
+/* Given     a time.    Written  8 bytes, which hold it exactly.
  * Refused   3 unknown kind or scale; 4; 7; 12 a scale other than TAI, a day before 0; 13. */
 vrk_written vrk_cryosat_write(vrk_handed time, uint8_t *out, size_t count);
 
-/* SIRAL, 10 bytes: CryoSat general's, and an extra counter (16 bits) of 33/16 microsecond; all are added and the whole part is
- * taken, past midnight too.
+/* SIRAL, 10 bytes: the 8 of CryoSat general, and an extra counter (16 bits) in units of 33/16 microsecond. All are added, and
+ * the sum is rounded down to the microsecond; it may lie on the next day.
  *
- * Given     10 bytes.    Returned  a TAI time.    Refused  1; 3; 7 on the whole time. */
+ * Given     10 bytes.    Returned  a TAI time.    Refused  1; 3 a millisecond or microsecond over its limit; 7 the sum. */
 vrk_time vrk_siral_read(const uint8_t *bytes, size_t count);
 
-/* Given     a time.    Written  10 bytes, exactly, with the extra counter 0.
+/* Given     a time.    Written  10 bytes, which hold it exactly, with the extra counter 0.
  * Refused   3 unknown kind or scale; 4; 7; 12 a scale other than TAI, a day before 0; 13. */
 vrk_written vrk_siral_write(vrk_handed time, uint8_t *out, size_t count);
 
@@ -246,23 +267,23 @@ vrk_written vrk_sbt_write(uint32_t tick, uint8_t *out, size_t count);
 
 /* ---- the fields of the layouts that have several
  *
- * Bytes to fields and back, exactly. Only the fields' limits and widths are judged, and no span. */
+ * Bytes to fields and back, exactly. Only the limits and widths of the fields are tested, not those of the time. */
 
 typedef struct { uint32_t refusal; uint32_t seconds; uint32_t fraction; } vrk_cuc_fields;
 
 /* Given     6 bytes.    Returned  the fields.    Refused  1. */
 vrk_cuc_fields vrk_cuc_fields_read(const uint8_t *bytes, size_t count);
 
-/* Given     the fields.    Written  6 bytes.    Refused  3 a fraction from 2^16 on; 13. */
+/* Given     the fields.    Written  6 bytes.    Refused  3 a fraction of 2^16 or more; 13. */
 vrk_written vrk_cuc_fields_write(uint32_t seconds, uint32_t fraction, uint8_t *out, size_t count);
 
 typedef struct { uint32_t refusal; uint32_t week; uint32_t h3; uint32_t second; uint32_t fraction; } vrk_proteus_fields;
 
-/* Given     8 bytes.    Returned  the fields.    Refused  1; 2 a zero bit is set; 3 a second over its limit. */
+/* Given     8 bytes.    Returned  the fields.    Refused  1; 2 one of the three bits is 1; 3 a second over its limit. */
 vrk_proteus_fields vrk_proteus_fields_read(const uint8_t *bytes, size_t count);
 
-/* Given     the fields.    Written  8 bytes.    Refused  3 a week from 2^12 on, another H3, a second over its limit, a fraction
- *           from 2^16 on; 13. */
+/* Given     the fields.    Written  8 bytes.
+ * Refused   3 a week of 2^12 or more, an H3 other than 0 and 1, a second over its limit, a fraction of 2^16 or more; 13. */
 vrk_written vrk_proteus_fields_write(uint32_t week, uint32_t h3, uint32_t second, uint32_t fraction, uint8_t *out,
                                      size_t count);
 
@@ -271,37 +292,40 @@ typedef struct { uint32_t refusal; uint32_t day; uint32_t millisecond; uint32_t 
 /* Given     8 bytes.    Returned  the fields.    Refused  1; 3 a millisecond or microsecond over its limit. */
 vrk_cryosat_fields vrk_cryosat_fields_read(const uint8_t *bytes, size_t count);
 
-/* Given     the fields.    Written  8 bytes.    Refused  3 the same, a day from 2^16 on; 13. */
+/* Given     the fields.    Written  8 bytes.
+ * Refused   3 a millisecond or microsecond over its limit, a day of 2^16 or more; 13. */
 vrk_written vrk_cryosat_fields_write(uint32_t day, uint32_t millisecond, uint32_t microsecond, uint8_t *out, size_t count);
 
 typedef struct { uint32_t refusal; uint32_t day; uint32_t millisecond; uint32_t microsecond; uint32_t extra; } vrk_siral_fields;
 
-/* Given     10 bytes.    Returned  the fields.    Refused  1; 3 as of CryoSat general. */
+/* Given     10 bytes.    Returned  the fields.    Refused  1; 3 a millisecond or microsecond over its limit. */
 vrk_siral_fields vrk_siral_fields_read(const uint8_t *bytes, size_t count);
 
-/* Given     the fields.    Written  10 bytes.    Refused  3 as of CryoSat general, an extra counter from 2^16 on; 13. */
+/* Given     the fields.    Written  10 bytes.
+ * Refused   3 a millisecond or microsecond over its limit, a day or an extra counter of 2^16 or more; 13. */
 vrk_written vrk_siral_fields_write(uint32_t day, uint32_t millisecond, uint32_t microsecond, uint32_t extra, uint8_t *out,
                                    size_t count);
 
 /* ---- Envisat text
  *
- * Four forms, named by their length, without a zero byte at the end; without a prefix a text is UTC:
+ * Four forms; the code of a form is its length. No zero byte stands at the end. A text without a prefix is UTC:
  *
  *    20   30-JUN-1997 23:59:60                 27   30-JUN-1997 23:59:60.123456
  *    24   TAI=01-JUL-1997 00:00:30             31   GPS=01-JUL-1997 00:00:11.123456
  *
- * The leap list is looked at only for UTC. */
+ * The leap list is used only for UTC. */
 
 /* Given     a text and a leap list.
  * Returned  the time, in the text's scale.
- * Refused   1 another length; 3; 5; 7; 9; 10. The empty record is of TAI, whatever the text's scale. */
+ * Refused   1 a length other than 20, 24, 27 and 31; 3 a wrong character, field or date; 5; 7; 9; 10. With a refusal `scale`
+ *           is TAI, whatever the text's scale. */
 vrk_time vrk_text_read(const uint8_t *text, size_t count, const int64_t *days, size_t day_count, const uint64_t *offsets,
                        size_t offset_count, int64_t last);
 
-/* Given     a time, a leap list, and the form that is wanted: 20, 24, 27 or 31.
- * Written   that many bytes, exactly. Nothing is written that reading would refuse.
- * Refused   3 another form, unknown kind or scale; 4; 5; 7; 9; 10; 12 a scale other than UTC in 20 and 27, a microsecond of a
- *           second other than 0 in 20 and 24; 13. */
+/* Given     a time, a leap list, and `form`: 20, 24, 27 or 31.
+ * Written   that many bytes. vrk_text_read gives the same time back, under the same list.
+ * Refused   3 unknown form, unknown kind or scale; 4; 5; 7; 9; 10; 12 a scale other than UTC in 20 and 27, a time that is not
+ *           a whole second in 20 and 24; 13. */
 vrk_written vrk_text_write(vrk_handed time, const int64_t *days, size_t day_count, const uint64_t *offsets, size_t offset_count,
                            int64_t last, uint32_t form, uint8_t *out, size_t count);
 

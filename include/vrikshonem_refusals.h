@@ -23,7 +23,7 @@ enum {
     VRK_OUTPUT_SHORTER = 13 /* output slice shorter than the image */
 };
 
-/* What is wrong, in the paper's words. */
+/* What is wrong, in words. */
 static inline const char *vrk_words(uint32_t refusal) {
     switch (refusal) {
     case VRK_ANSWERED: return "answered";

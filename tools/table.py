@@ -1,5 +1,5 @@
 #!/usr/bin/env python3
-"""Checks the table | Rule | File | Definition | of README.md: each row leads to a definition, and each meaning
+"""Checks the tables | Rule | File | Definition | of docs/RULES.md: each row leads to a definition, and each meaning
 and view that a public contract cites has its row, so that a reader finds every meaning from there."""
 
 import os
@@ -12,7 +12,7 @@ import contracts
 from source import Unreadable, definitions, read
 from tally import Tally
 
-PAGE = "README.md"
+PAGE = "docs/RULES.md"
 HEADER = ["Rule", "File", "Definition"]
 
 

@@ -1,7 +1,7 @@
 """Vrikshonem, the dating desk: counters and times of packets as dates, or one numbered refusal.
 
 The library behind this module is proved: each reading is the exact time to the microsecond, each writing the bytes whose
-reading is that time or the last not later, and each refusal the first that applies in the paper's order.
+reading is that time or the last not later, and each refusal the first that applies, in a fixed order.
 
     >>> import vrikshonem
     >>> gps = vrikshonem.cuc_read(bytes.fromhex("459309110001"))
@@ -38,7 +38,7 @@ from ._layouts import *
 from ._refusals import *
 from ._times import *
 
-__version__ = "0.2.0"
+__version__ = "0.3.0"
 # Each module lists its own names, and in this form a checker of types can add them up.
 __all__: list[str] = []
 __all__ += _correlations.__all__

@@ -7,10 +7,10 @@ from typing import Dict, Optional, Type
 
 
 class Refused(Exception):
-    """A refusal: the first that applies in the paper's order. Lent memory keeps all its bytes.
+    """A refusal: the first that applies, in a fixed order. Memory that was lent keeps all its bytes.
 
-    number  the paper's number
-    words   what is wrong, in the paper's words
+    number  its number
+    words   what is wrong, in words
     """
 
     __module__ = "vrikshonem"

@@ -7,7 +7,7 @@ import ctypes
 from typing import Any, Dict, Tuple
 
 # The library's file carries the first two numbers of its version.
-LIBRARY = "libvrikshonem.so.0.2"
+LIBRARY = "libvrikshonem.so.0.3"
 
 
 class VrkWritten(ctypes.Structure):

@@ -2,7 +2,7 @@
 
 use std::fmt;
 
-/// A refusal: the first that applies in the paper's order. Lent memory keeps all its bytes.
+/// A refusal: the first that applies, in a fixed order. Memory that was lent keeps all its bytes.
 ///
 /// Each has a name, and in a `match` that name is a pattern:
 ///
@@ -27,7 +27,7 @@ use std::fmt;
 #[derive(Clone, Copy, PartialEq, Eq, Hash, Debug)]
 #[non_exhaustive]
 pub struct Error {
-    /// The paper's number.
+    /// Its number, from 1 on.
     pub number: u32,
 }
 

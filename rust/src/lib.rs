@@ -1,7 +1,7 @@
 //! Vrikshonem, the dating desk: counters and times of packets as dates, or one numbered refusal.
 //!
 //! The library behind this crate is proved: each reading is the exact time to the microsecond, each writing the bytes whose
-//! reading is that time or the last not later, and each refusal the first that applies in the paper's order. The crate adds
+//! reading is that time or the last not later, and each refusal the first that applies, in a fixed order. The crate adds
 //! types: [`Tai`], [`Utc`] and [`Gps`] times cannot be mistaken for each other, a [`LeapList`] is borrowed, and a refusal is
 //! an [`Error`] that has a name and a number, and says in words what is wrong.
 //!

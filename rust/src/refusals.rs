@@ -31,7 +31,7 @@ impl Error {
     /// 13: output slice shorter than the image.
     pub const OUTPUT_SHORTER: Error = Error { number: 13 };
 
-    /// What is wrong, in the paper's words.
+    /// What is wrong, in words.
     pub fn words(self) -> &'static str {
         match self {
             Error::LENGTH_IS_NONE => "input length is none of the layout's",

@@ -1,21 +1,29 @@
-"""The Rattle source has the refusals of refusals.txt: their names, numbers, order and words."""
+"""The Rattle source has the refusals of refusals.txt: their names, numbers, order and words. So have the pages that list them."""
 
 import os
 import re
+from itertools import zip_longest
 
 from refusals import refusals
 from source import read
 
 CODE, MEANING, PROMISES = "crates/scales/src/lib.rt", "crates/scales/specs/Meaning.antt", "crates/promises/specs/Meaning.antt"
+README, RULES = "README.md", "docs/RULES.md"
 
 
 def _small(name):
     return name[0].lower() + name[1:]
 
 
+def _below(heading, page):
+    """What stands below a heading of a page."""
+    section = re.search(rf"^## {heading}\n(.*?)(?=^## |\Z)", page, re.M | re.S)
+    return section[1] if section else ""
+
+
 def found(texts, listed):
-    """What the three files say: a title, what stands there and what is due. The list is in the order of the numbers."""
-    code, meaning, promises = texts
+    """What the files say: a title, what stands there and what is due. The list is in the order of the numbers."""
+    code, meaning, promises, readme, rules = texts
     judged = sorted(listed, key=lambda one: one.place)
     cases = re.search(r"pub enum Refusal \{(.*?)\}", code, re.S)
     yield "the cases of Refusal", re.findall(r"\w+", cases[1]) if cases else [], [one.name for one in listed]
@@ -31,6 +39,12 @@ def found(texts, listed):
     yield "the rows of the slip", short, due
     table = re.search(r"^  rows =\s(.*?) ∷ \[\]$", promises, re.M | re.S)
     yield "their table", re.split(r"\s+∷\s+", table[1].strip()) if table else [], [_small(one.name) for one in judged]
+    said = [(str(one.number), one.words) for one in judged]
+    # Two columns, of which the left one comes first; words have single spaces between.
+    block = re.findall(r"^    .*", _below("The refusals", readme), re.M)
+    lines = [re.findall(r" (\d+)  (\S+(?: \S+)*)", line) for line in block]
+    yield f"the list of {README}", [pair for column in zip_longest(*lines) for pair in column if pair], said
+    yield f"the table of {RULES}", re.findall(r"^\| (\d+) \| ([^|]+) \| [^|]+ \|$", _below("Refusals", rules), re.M), said
 
 
 # Changes of the source, each of which must be reported: the file's place in the texts, a pattern and what stands there instead.
@@ -42,12 +56,17 @@ FAULTS = {
     "other words": (2, r"correlation not in force", "correlation out of force"),
     "another row": (2, r"(notInForce = applies j )8", r"\g<1>9"),
     "a row less in the table": (2, r"lengthIsNone ∷ markerWrong", "markerWrong"),
+    "a refusal less in the list": (3, r" 8  correlation not in force\n", "\n"),
+    "other words in the list": (3, r"leap list expired\n", "leap list ended\n"),
+    "another number in the list": (3, r" 9  leap list expired\n", " 8  leap list expired\n"),
+    "a row less of the rules": (4, r"\n\| 8 \| correlation .*", ""),
+    "other words of the rules": (4, r"\| leap list expired \|", "| leap list ended |"),
 }
 
 
 def check(tally, root):
     listed = sorted(refusals(root), key=lambda one: one.number)
-    texts = [read(os.path.join(root, path)) for path in (CODE, MEANING, PROMISES)]
+    texts = [read(os.path.join(root, path)) for path in (CODE, MEANING, PROMISES, README, RULES)]
     for title, have, due in found(texts, listed):
         tally.expect(f"refusals: {title} is that of refusals.txt", have == due, str(have))
     for what, (at, pattern, new) in FAULTS.items():

@@ -24,7 +24,7 @@ def header(listed):
     for one in listed:
         comma = "," if one != listed[-1] else ""
         lines.append(f"    VRK_{one.constant} = {one.number}{comma} /* {one.words} */")
-    lines += ["};", "", "/* What is wrong, in the paper's words. */"]
+    lines += ["};", "", "/* What is wrong, in words. */"]
     lines += ["static inline const char *vrk_words(uint32_t refusal) {", "    switch (refusal) {"]
     lines.append('    case VRK_ANSWERED: return "answered";')
     lines += [f'    case VRK_{one.constant}: return "{one.words}";' for one in listed]
@@ -37,7 +37,7 @@ def rust(listed):
     for one in listed:
         lines.append(f"    /// {one.number}: {one.words}.")
         lines.append(f"    pub const {one.constant}: Error = Error {{ number: {one.number} }};")
-    lines += ["", "    /// What is wrong, in the paper's words.", "    pub fn words(self) -> &'static str {", "        match self {"]
+    lines += ["", "    /// What is wrong, in words.", "    pub fn words(self) -> &'static str {", "        match self {"]
     lines += [f'            Error::{one.constant} => "{one.words}",' for one in listed]
     return "\n".join([*lines, f'            _ => "{UNKNOWN}",', "        }", "    }", "}"]) + "\n"
 
@@ -53,10 +53,10 @@ def python(listed):
         "",
         "",
         "class Refused(Exception):",
-        '    """A refusal: the first that applies in the paper\'s order. Lent memory keeps all its bytes.',
+        '    """A refusal: the first that applies, in a fixed order. Memory that was lent keeps all its bytes.',
         "",
-        "    number  the paper's number",
-        "    words   what is wrong, in the paper's words",
+        "    number  its number",
+        "    words   what is wrong, in words",
         '    """',
         "",
         '    __module__ = "vrikshonem"',

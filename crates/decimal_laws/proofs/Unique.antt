@@ -16,11 +16,11 @@ use Rattle.axis.specs.Meaning.{dayMicros}
 use Rattle.scales.specs.Meaning.{Outcome, refused, answer, outcome, Valued, Reply, some, no, valueSlip}
 use Rattle.scales.specs.Same.{same-made, same-reply}
 use Rattle.handed.specs.declared.Handed.{Handed}
-use Rattle.decimal.specs.Meaning.{DayOf, replyDecimal, decimalSlip, Allowed, writing, WroteDay}
+use Rattle.decimal.specs.Meaning.{replyDecimal, decimalSlip, Allowed, writing, WroteDay}
 use Rattle.decimal.specs.declared.Decimal.{Decimal}
 use Rattle.decimal.specs.declared.Decimal.the-variants as D
 use Rattle.double.proofs.Exact.{has}
-use Rattle.double.specs.Meaning.{apart, Holds, Nearest, plusZero}
+use Rattle.double.specs.Meaning.{apart, Holds, Nearest, plusZero, QuotientOf}
 
 -- ---- two doubles of one size and sign are one
 abbrev bitsOf : Bool → ℕ → ℕ
@@ -85,10 +85,10 @@ nearest-one s n d x y D a b =
     (subst (λ (z : ℕ). Holds x s (z * 2 ^ b .k) (2 ^ 1074)) Q (subst (λ (z : ℕ). Holds x s (a .q * 2 ^ z) (2 ^ 1074)) K (a .value)))
     (b .value)
 
-pub day-one : (z : ℤ) (x y : Float) → DayOf z x → DayOf z y → x ≡ y
-day-one (pos zero) x y a b = a ∙ sym b
-day-one (pos (suc n)) x y a b = nearest-one false (suc n) dayMicros x y (lit< tt) a b
-day-one (negsuc n) x y a b = nearest-one true (suc n) dayMicros x y (lit< tt) a b
+pub quotient-one : (z : ℤ) (d : ℕ) (x y : Float) → 0 < d → QuotientOf z d x → QuotientOf z d y → x ≡ y
+quotient-one (pos zero) d x y D a b = a ∙ sym b
+quotient-one (pos (suc n)) d x y D a b = nearest-one false (suc n) d x y D a b
+quotient-one (negsuc n) d x y D a b = nearest-one true (suc n) d x y D a b
 
 -- ---- the answers
 same-day : (a b : Decimal) → decimalSlip a ≡ decimalSlip b → a ≡ b
@@ -109,7 +109,7 @@ allowed-one (refused n) v w a b =
     λ i. record { number = p i; value = q i }
 allowed-one (answer z) v w a b =
     let p = a .0 ∙ sym (b .0) in
-    let q = day-one z (v .value) (w .value) (a .1) (b .1) in
+    let q = quotient-one z dayMicros (v .value) (w .value) (lit< tt) (a .1) (b .1) in
     λ i. record { number = p i; value = q i }
 
 pub wrote-one : (h : Handed) (a b : Decimal) → WroteDay h a → WroteDay h b → a ≡ b
