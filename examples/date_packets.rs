@@ -8,7 +8,7 @@ use std::io::{self, Write};
 use std::path::{Path, PathBuf};
 use std::process::ExitCode;
 use vrikshonem::{cryosat, cuc, goce, proteus, sbt, siral, text};
-use vrikshonem::{SbtCorrelation, Error, Form, GoceCorrelation, LeapList, Tick, Utc};
+use vrikshonem::{Error, Form, GoceCorrelation, LeapList, SbtCorrelation, Tick, Utc};
 
 const PACKET: usize = 24;
 const LONGEST: usize = 10;

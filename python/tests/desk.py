@@ -2,7 +2,7 @@
 
 import unittest
 
-from vrikshonem import SbtCorrelation, GoceCorrelation, LeapList, Refused
+from vrikshonem import GoceCorrelation, LeapList, Refused, SbtCorrelation
 
 LIST = LeapList.PUBLISHED
 DAY = 86_400_000_000

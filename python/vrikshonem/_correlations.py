@@ -10,7 +10,7 @@ from . import _sys
 from ._library import library
 from ._times import SCALES, Handed, T, Utc, answered, due, handed, narrow, signed, unsigned
 
-__all__ = ["SbtCorrelation", "GoceCorrelation"]
+__all__ = ["GoceCorrelation", "SbtCorrelation"]
 
 
 @dataclass(frozen=True)

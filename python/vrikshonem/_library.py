@@ -18,7 +18,7 @@ def _places() -> Tuple[str, ...]:
     if named:
         return (os.path.join(named, LIBRARY),)
     root = os.path.dirname(os.path.dirname(os.path.dirname(os.path.abspath(__file__))))
-    return (os.path.join(root, "target", "here", "lib", LIBRARY), LIBRARY)
+    return (os.path.join(root, "target", "host", "lib", LIBRARY), LIBRARY)
 
 
 def library() -> ctypes.CDLL:

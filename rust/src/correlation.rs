@@ -13,7 +13,7 @@ pub struct Tick(pub u32);
 /// Any correlation can be built. One that is not accepted is refused with 6 by each function.
 ///
 /// ```
-/// use vrikshonem::{SbtCorrelation, Error, Tick, Utc};
+/// use vrikshonem::{Error, SbtCorrelation, Tick, Utc};
 /// let autumn = SbtCorrelation {
 ///     tick: Tick(0xFFFF_FFFF),
 ///     reference: Utc::new(640, 36_000_000_000),

@@ -7,7 +7,7 @@ use std::fmt;
 /// Each has a name, and in a `match` that name is a pattern:
 ///
 /// ```
-/// use vrikshonem::{SbtCorrelation, Error, Tick, Utc};
+/// use vrikshonem::{Error, SbtCorrelation, Tick, Utc};
 ///
 /// fn said(correlation: &SbtCorrelation<Utc>, tick: Tick, receipt: Utc) -> String {
 ///     match correlation.date(tick, receipt) {

@@ -23,7 +23,7 @@
 //! A time of one scale is not accepted where another is due:
 //!
 //! ```compile_fail,E0308
-//! use vrikshonem::{SbtCorrelation, Gps, Tick, Utc};
+//! use vrikshonem::{Gps, SbtCorrelation, Tick, Utc};
 //! fn dated(correlation: SbtCorrelation<Utc>) {
 //!     let _ = correlation.date(Tick(0), Gps::new(0, 0));
 //! }
@@ -39,7 +39,7 @@ mod sys;
 pub mod text;
 mod time;
 
-pub use correlation::{SbtCorrelation, GoceCorrelation, Tick};
+pub use correlation::{GoceCorrelation, SbtCorrelation, Tick};
 pub use error::Error;
 pub use layouts::{cryosat, cuc, goce, obet, proteus, sbt, siral};
 pub use leap::{change, LeapList};

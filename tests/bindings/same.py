@@ -90,12 +90,24 @@ def version():
     tally.expect("CHANGELOG.md begins with the version", latest and latest[1] == stored)
 
 
+# Where each copy of the published list has its last day.
+LAST = {
+    "rust/src/leap.rs": r"offsets: &OFFSETS, last: (\d+)",
+    "python/vrikshonem/_times.py": r"range\(10, 38\),\s+(\d+),",
+    "examples/date_packets.c": r"#define LIST .*, (\d+)\n",
+}
+
+
 def leap_list():
-    meaning = re.search(r"\npublishedDays =(.*?)\[\]", read("crates/leap/specs/Meaning.antt"), re.S)[1]
+    meant = read("crates/leap/specs/Meaning.antt")
+    meaning = re.search(r"\npublishedDays =(.*?)\[\]", meant, re.S)[1]
+    last = re.search(r"\npublishedLast = pos (\d+)\n", meant)[1]
     signs = re.findall(r"(negsuc|pos) (\d+)", meaning)
     days = [-int(number) - 1 if sign == "negsuc" else int(number) for sign, number in signs]
     tally.expect("the published list has 28 days", len(days) == 28, str(days))
-    for path in ["rust/src/leap.rs", "python/vrikshonem/_times.py", "examples/date_packets.c"]:
+    for path, at in LAST.items():
+        ends = re.findall(at, read(path))
+        tally.expect(f"the last day of {path} is the published one", ends == [last], str(ends))
         table = re.search(r"[\[({]\s*(-10227,\s+-10045,.*?6210)\b", read(path), re.S)
         found = [int(number) for number in re.findall(r"-?\d+", table[1])] if table else []
         tally.expect(f"the list of {path} is the published one", found == days, str(found))

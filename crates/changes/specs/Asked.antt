@@ -26,6 +26,7 @@ use Rattle.handed.specs.declared.Taken.the-variants as K
 use Rattle.leap.specs.Meaning.{accepted}
 use Rattle.changes.specs.Meaning.{isUtc, changeUsesList, ofCount, moving, asked}
 
+-- ---- the stages: whether a list is used, whether it is lacking, and what it is asked of a time that was taken
 abbrev pub timeUsesList : Taken → Bool
 timeUsesList (K.NotFinite z) = false
 timeUsesList (K.Outside z) = isUtc z

@@ -21,6 +21,7 @@ use Rattle.leap.specs.Meaning.{accepted}
 use Rattle.leap.specs.Walk.{or-true}
 use Rattle.changes.specs.Meaning.{fromScale, toScale, isUtc, changeUsesList, settled, moving, ofCount, changeOf}
 use Rattle.changes.specs.Ways.{Left, way-on, way-out}
+use Rattle.changes.specs.Asked.{lacking}
 
 -- ---- the list is used where UTC stands on either side
 pub uses-from : (s to : Scale) → isUtc s ≡ true → changeUsesList s to ≡ true
@@ -47,11 +48,6 @@ module _ (s : Scale) (n : ℕ) (ds : List ℤ) (os : List ℕ) {z e : ℤ} (q : 
   move-out g = way-out w to next g ∙ ap moved q
 
 -- ---- what is judged before
-pub lacking : (u a : Bool) → (u && not a) ≡ true → (not u || a) ≡ false
-lacking true true e = absurd (false≢true e)
-lacking true false e = refl
-lacking false a e = absurd (false≢true e)
-
 pub having : (u a : Bool) → (u && not a) ≡ false → (not u || a) ≡ true
 having true true e = refl
 having true false e = absurd (false≢true (sym e))
@@ -67,7 +63,7 @@ module _ (h : Handed) (to : Scale) (ds : List ℤ) (os : List ℕ) (e : ℤ) whe
 
   pub change-unlisted : isFinite h ≡ true → lacks ≡ true → dated to (refused 5) ≡ changeOf h to ds os e
   unfolding changeOf
-  change-unlisted f l = sym (rw (f, lacking (changeUsesList (scaleOf h) to) (accepted ds os e) l))
+  change-unlisted f l = let x = lacking (changeUsesList (scaleOf h) to) (accepted ds os e) l in sym (rw (f, x .0, x .1))
 
   pub seven : (s : Scale) (m : Moment) → outcome (moving s to ds os e false m) ≡ refused 7
   seven S.Tai m = refl

@@ -12,6 +12,7 @@ use Rattle.axis.specs.Diff.{Way, way, below, above}
 use Rattle.axis.specs.Axis.{day-from, day-to, since-at, day-before, micros-add, moment-at, micros-minus}
 use Rattle.leap.specs.Meaning.{seconds, sameDay, offsetOn, taiOf, taiOfStart, plain, sixty}
 
+-- ---- days
 -- two tests of order are one of equality
 pub both-ways : (p a : ℕ) → (leb p a && leb a p) ≡ eqb p a
 both-ways p a = go (way p a) (way a p)
@@ -25,6 +26,7 @@ both-ways p a = go (way p a) (way a p)
 pub same-at : (d : ℤ) (a : ℕ) → 0 < a → a < 100000 → sameDay d (dayAt a) ≡ eqb (placeOfDay d) a
 same-at d a h k = ap₂ _&&_ (day-to a d k) (day-from a d h (omega arith)) ∙ both-ways (placeOfDay d) a
 
+-- ---- TAI counts
 pub tai-at : (ds : List ℤ) (os : List ℕ) (a u : ℕ) → taiOf ds os (dayAt a) u ≡ microsAt (a * dayMicros + u + offsetOn ds os (dayAt a) * 1000000)
 tai-at ds os a u =
     ap (λ (z : ℤ). z +ℤ seconds (offsetOn ds os (dayAt a))) (since-at a u) ∙ micros-add (a * dayMicros + u) (offsetOn ds os (dayAt a) * 1000000)

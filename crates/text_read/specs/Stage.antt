@@ -1,4 +1,4 @@
--- The stages that the private functions answer for: a time judged, a text parsed. Assumes nothing.
+-- The stage that the private functions answer for: a text parsed. Assumes nothing.
 use mathlib.Core.Path.{_≡_}
 use mathlib.Core.List.{List}
 use Prim.Native.Nat.{ℕ}
@@ -12,7 +12,7 @@ use Rattle.text_read.specs.Meaning.{isBody, readingBody, reading, scaleI
 use Rattle.text_read.specs.declared.Parsed.{Parsed}
 use Rattle.text_read.specs.declared.Parsed.the-variants as P
 
--- ---- a text that was parsed: whatever the list, what is left to judge is judged of the time alone
+-- a text that was parsed: whatever the list, what is left to judge is judged of the time alone
 abbrev pub Parses : Scale → (List ℤ → List ℕ → ℤ → Judged Moment) → Parsed → Type 0
 Parses z j (P.Refused f) = (ds : List ℤ) (os : List ℕ) (e : ℤ) → refused (numberOf f) ≡ outcome (j ds os e)
 Parses z j (P.Time t) = (takenScale t ≡ z) × ((ds : List ℤ) (os : List ℕ) (e : ℤ) → outcome (takenAsked t ds os e) ≡ outcome (j ds os e))
