@@ -11,7 +11,7 @@ use Rattle.ground_laws.proofs.Desks.{keeps}
 use Rattle.calendar.specs.Meaning.{leap, monthLength, lengthOf, firstDay, isDate, dayAfter, daysTo, walk, dayOfDate, dateOfDay}
 use Rattle.double.specs.Meaning.{plusZero}
 use Rattle.text_fields.specs.Meaning.{names, letter, prefixOf}
-use Rattle.text_read.specs.Meaning.{digitOf, twoOf, fourOf, isNamed, seek, monthOf, hasMarks, microIn, stampIn, inLimits, hasPrefix, scaleIn, bodyIn, isPrefixRight, isBody, readText}
+use Rattle.text_read.specs.Meaning.{digitOf, twoOf, fourOf, isNamed, seek, monthNamed, hasMarks, microIn, stampIn, inLimits, hasPrefix, scaleIn, bodyIn, isPrefixRight, isBody, readText}
 use Rattle.text_write.specs.Meaning.{textOf, writing}
 use Rattle.text_laws.specs.Computed.{reads}
 use Rattle.text_laws.specs.Wrong.{capitals, ownScale, beforeGps}
@@ -23,7 +23,7 @@ use Rattle.c_api.specs.declared.VrkTime.{VrkTime}
 
 -- ---- texts read: a refused text in the scale of its prefix, GPS=01-JAN-1972 00:00:00
 pub read-own-scale : ShutOut (timeOut (reads beforeGps)) (record { refusal = 7; scale = 0; day = pos 0; micro = 0 }) (timeOut (ownScale beforeGps)) (record { refusal = 7; scale = 2; day = pos 0; micro = 0 })
-unfolding readText isPrefixRight isBody scaleIn bodyIn hasPrefix prefixOf hasMarks stampIn microIn inLimits digitOf twoOf fourOf monthOf seek isNamed letter names isDate dayOfDate dayAfter firstDay lengthOf monthLength leap
+unfolding readText isPrefixRight isBody scaleIn bodyIn hasPrefix prefixOf hasMarks stampIn microIn inLimits digitOf twoOf fourOf monthNamed seek isNamed letter names isDate dayOfDate dayAfter firstDay lengthOf monthLength leap
 read-own-scale = (refl, refl, differ (λ (t : VrkTime). t .scale) (λ e. omega arith))
 
 -- months in small letters taken, TAI=01-jan-2000 00:00:00
@@ -31,7 +31,7 @@ abbrev small : List ℕ
 small = 84 ∷ 65 ∷ 73 ∷ 61 ∷ 48 ∷ 49 ∷ 45 ∷ 106 ∷ 97 ∷ 110 ∷ 45 ∷ 50 ∷ 48 ∷ 48 ∷ 48 ∷ 32 ∷ 48 ∷ 48 ∷ 58 ∷ 48 ∷ 48 ∷ 58 ∷ 48 ∷ 48 ∷ []
 
 pub read-small : ShutOut (timeOut (readText small [] [] (pos 0))) (record { refusal = 3; scale = 0; day = pos 0; micro = 0 }) (timeOut (readText (capitals small) [] [] (pos 0))) (record { refusal = 0; scale = 0; day = pos 0; micro = 0 })
-unfolding readText isPrefixRight isBody scaleIn bodyIn hasPrefix prefixOf hasMarks stampIn microIn inLimits digitOf twoOf fourOf monthOf seek isNamed letter names isDate dayOfDate dayAfter firstDay lengthOf monthLength leap
+unfolding readText isPrefixRight isBody scaleIn bodyIn hasPrefix prefixOf hasMarks stampIn microIn inLimits digitOf twoOf fourOf monthNamed seek isNamed letter names isDate dayOfDate dayAfter firstDay lengthOf monthLength leap
 read-small = (refl, refl, differ (λ (t : VrkTime). t .refusal) (λ e. omega arith))
 
 -- ---- texts written: an unknown form taken for the longest

@@ -37,14 +37,14 @@ momentAfter S.Utc z = momentOf z
 momentAfter S.Gps z = momentOf z
 
 -- scale by scale, which microseconds of a day such days have: second 60 is none of them
-abbrev pub plain : Scale → ℕ → Bool
-plain S.Tai u = ltb u dayMicros
-plain S.Utc u = ltb u dayMicros
-plain S.Gps u = ltb u dayMicros
+abbrev pub plainMicro : Scale → ℕ → Bool
+plainMicro S.Tai u = ltb u dayMicros
+plainMicro S.Utc u = ltb u dayMicros
+plainMicro S.Gps u = ltb u dayMicros
 
 -- "the receipt time, a day and a microsecond below 86,400,000,000 in the correlation's scale"
 abbrev pub receivable : Scale → ℤ → ℕ → Bool
-receivable s d u = inSpan s d u && plain s u
+receivable s d u = inSpan s d u && plainMicro s u
 
 -- ---- "the number from -2^31 to 2^31 - 1 that equals tick minus reference tick modulo 2^32", for any half of the modulus
 abbrev pub elapsed : Clock → ℕ → ℤ
@@ -101,7 +101,7 @@ abbrev pub instantOf : Handed → ℤ
 instantOf h = instant (scaleOf h) (dayOf h) (microOf h)
 
 abbrev pub hasImage : Scale → Handed → Bool
-hasImage s h = sameScale (scaleOf h) s && plain (scaleOf h) (microOf h)
+hasImage s h = sameScale (scaleOf h) s && plainMicro (scaleOf h) (microOf h)
 
 -- "A time of another scale, or in second 60, gets 12, and 8 is not judged for it"
 abbrev pub turning : Bool → Clock → Handed → Judged ℕ

@@ -16,7 +16,7 @@ use Rattle.scales.specs.declared.Scale.{Scale}
 use Rattle.scales.specs.declared.Scale.the-variants as S
 use Rattle.handed.specs.declared.Handed.{Handed}
 use Rattle.handed.specs.Meaning.{isFinite, isInSpan}
-use Rattle.clock.specs.Meaning.{instant, momentAfter, plain, receivable, Cover, within, instantOf, hasImage}
+use Rattle.clock.specs.Meaning.{instant, momentAfter, plainMicro, receivable, Cover, within, instantOf, hasImage}
 use Rattle.clock.specs.declared.inner.Place.{Place}
 use Rattle.clock.specs.declared.inner.Place.the-variants as P
 use Rattle.clock.specs.declared.inner.Turned.{Turned}
@@ -75,7 +75,7 @@ moment-is S.Tai z = refl
 moment-is S.Utc z = refl
 moment-is S.Gps z = refl
 
-pub plain-is : (s : Scale) (u : ℕ) → plain s u ≡ ltb u dayMicros
+pub plain-is : (s : Scale) (u : ℕ) → plainMicro s u ≡ ltb u dayMicros
 plain-is S.Tai u = refl
 plain-is S.Utc u = refl
 plain-is S.Gps u = refl

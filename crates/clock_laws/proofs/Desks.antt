@@ -8,7 +8,7 @@ use Rattle.scales.specs.Meaning.{sameScale, Slip, dated, given, gives, Outcome,
 use Rattle.scales.specs.declared.Scale.{Scale}
 use Rattle.handed.specs.declared.Handed.{Handed}
 use Rattle.handed.specs.Meaning.{scaleOf, isFinite, isInSpan, microOf}
-use Rattle.clock.specs.Meaning.{Clock, instant, momentAfter, plain, receivable, time, inWindow, covers, inForce, lastCount, countAt, instantOf, hasImage}
+use Rattle.clock.specs.Meaning.{Clock, instant, momentAfter, plainMicro, receivable, time, inWindow, covers, inForce, lastCount, countAt, instantOf, hasImage}
 use Rattle.clock_laws.proofs.Wider.{widened}
 
 -- ---- dates: a desk with another rule of force, another elapsed count, or another time of it
@@ -54,7 +54,7 @@ countBy image accepted c h =
 
 -- a time of another scale taken as the counter's
 abbrev pub scaleIgnored : Scale → Handed → Bool
-scaleIgnored s h = plain (scaleOf h) (microOf h)
+scaleIgnored s h = plainMicro (scaleOf h) (microOf h)
 
 -- second 60 taken for the next day's first
 abbrev pub secondIgnored : Scale → Handed → Bool

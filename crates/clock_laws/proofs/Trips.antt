@@ -16,7 +16,7 @@ use Rattle.scales.specs.declared.Scale.{Scale}
 use Rattle.handed.specs.declared.Handed.{Handed}
 use Rattle.handed.specs.declared.Handed.the-variants as H
 use Rattle.handed.specs.Meaning.{scaleOf, isFinite, isInSpan, dayOf, microOf}
-use Rattle.clock.specs.Meaning.{Clock, plain, elapsed, time, covers, dating, lastCount, countAt, instantOf, hasImage, turning}
+use Rattle.clock.specs.Meaning.{Clock, plainMicro, elapsed, time, covers, dating, lastCount, countAt, instantOf, hasImage, turning}
 use Rattle.clock.specs.Stage.{instant-is, moment-is, plain-is}
 use Rattle.clock.specs.Window.{Runs, divided, divided-time, divided-early, divided-close, covers-time, last-is, divided-window}
 use Rattle.clock_laws.proofs.Counts.{left-under, count-whole, elapsed-from}
@@ -57,7 +57,7 @@ module _ (accepted : Bool) (c : Clock) (runs : accepted ≡ true → Runs c) whe
           ∙ ap₂ since (s .day) (s .micro)
           ∙ exact accepted c t d u m e
 
-      plain-at : plain (scaleOf h) (microOf h) ≡ true
+      plain-at : plainMicro (scaleOf h) (microOf h) ≡ true
       plain-at =
           plain-is (scaleOf h) (microOf h)
           ∙ ap (λ (n : ℕ). ltb n dayMicros)

@@ -15,7 +15,7 @@ use Rattle.calendar.specs.Meaning.{leap, monthLength, lengthOf, firstDay, isDat
 use Rattle.leap.specs.Meaning.{through, isStep, publishedDays, publishedOffsets, publishedLast}
 use Rattle.leap.specs.Published.{published}
 use Rattle.text_fields.specs.Meaning.{names, letter, prefixOf}
-use Rattle.text_read.specs.Meaning.{digitOf, twoOf, fourOf, sixOf, isNamed, seek, monthOf, hasMarks, microIn, stampIn, inLimits, hasPrefix, scaleIn, bodyIn, isPrefixRight, isBody}
+use Rattle.text_read.specs.Meaning.{digitOf, twoOf, fourOf, sixOf, isNamed, seek, monthNamed, hasMarks, microIn, stampIn, inLimits, hasPrefix, scaleIn, bodyIn, isPrefixRight, isBody}
 use Rattle.text_write.specs.Meaning.{textOf}
 use Rattle.text_laws.specs.Computed.{sixty}
 use Rattle.lines_laws.specs.Run.{kept-is}
@@ -27,7 +27,7 @@ dates s = outcome (lineDating publishedDays publishedOffsets publishedLast s)
 -- ---- the example
 -- UTC=31-DEC-2016 23:59:60.000000
 sixty-dates : dates sixty ≡ answer (record { day = pos 6210; micro = 36000000 })
-unfolding isPrefixRight isBody scaleIn bodyIn hasPrefix prefixOf hasMarks stampIn microIn inLimits digitOf twoOf fourOf sixOf monthOf seek isNamed letter names isDate dayOfDate dayAfter firstDay lengthOf monthLength leap isStep through
+unfolding isPrefixRight isBody scaleIn bodyIn hasPrefix prefixOf hasMarks stampIn microIn inLimits digitOf twoOf fourOf sixOf monthNamed seek isNamed letter names isDate dayOfDate dayAfter firstDay lengthOf monthLength leap isStep through
 sixty-dates = rw published
 
 -- TAI=01-JAN-2017 00:00:36.000000
@@ -103,7 +103,7 @@ abbrev pub dosLine : List ℕ
 dosLine = take 20 (drop 4 sixty) ++ (13 ∷ [])
 
 dos-dates : dates (taken dosLine) ≡ answer (record { day = pos 6210; micro = 36000000 })
-unfolding isPrefixRight isBody scaleIn bodyIn hasPrefix prefixOf hasMarks stampIn microIn inLimits digitOf twoOf fourOf sixOf monthOf seek isNamed letter names isDate dayOfDate dayAfter firstDay lengthOf monthLength leap isStep through
+unfolding isPrefixRight isBody scaleIn bodyIn hasPrefix prefixOf hasMarks stampIn microIn inLimits digitOf twoOf fourOf sixOf monthNamed seek isNamed letter names isDate dayOfDate dayAfter firstDay lengthOf monthLength leap isStep through
 dos-dates = rw published
 
 pub return-taken : ShutOut (dates dosLine) (refused 1) (dates (taken dosLine)) (answer (record { day = pos 6210; micro = 36000000 }))

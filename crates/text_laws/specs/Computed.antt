@@ -15,7 +15,7 @@ use Rattle.leap.specs.Meaning.{isStep, publishedDays, publishedOffsets, publish
 use Rattle.leap.specs.Published.{published}
 use Rattle.text_fields.specs.Meaning.{names, letter, prefixOf}
 use Rattle.leap_laws.proofs.Computed.{published-6209}
-use Rattle.text_read.specs.Meaning.{digitOf, twoOf, fourOf, sixOf, isNamed, seek, monthOf, hasMarks, microIn, stampIn, inLimits, hasPrefix, scaleIn, bodyIn, isPrefixRight, isBody, readText}
+use Rattle.text_read.specs.Meaning.{digitOf, twoOf, fourOf, sixOf, isNamed, seek, monthNamed, hasMarks, microIn, stampIn, inLimits, hasPrefix, scaleIn, bodyIn, isPrefixRight, isBody, readText}
 use Rattle.text_write.specs.Meaning.{textOf, writeText}
 use Rattle.text_write.specs.declared.Form.{Form}
 use Rattle.text_write.specs.declared.Form.the-variants as F
@@ -58,7 +58,7 @@ sixty-not-refused = none-refused leapSecond F.PrefixedMicros publishedDays publi
 
 -- under a list that ends on that very day it was read the same, and a list that extends it keeps the answer
 pub read-early : readText sixty publishedDays publishedOffsets (pos 6209) ≡ answered S.Utc (pos 6209) 86400000000
-unfolding readText isPrefixRight isBody scaleIn bodyIn hasPrefix prefixOf hasMarks stampIn microIn inLimits digitOf twoOf fourOf sixOf monthOf seek isNamed letter names isDate dayOfDate dayAfter firstDay lengthOf monthLength leap isStep
+unfolding readText isPrefixRight isBody scaleIn bodyIn hasPrefix prefixOf hasMarks stampIn microIn inLimits digitOf twoOf fourOf sixOf monthNamed seek isNamed letter names isDate dayOfDate dayAfter firstDay lengthOf monthLength leap isStep
 read-early = rw published-6209
 
 pub sixty-again : reads sixty ≡ readText sixty publishedDays publishedOffsets (pos 6209)

@@ -9,7 +9,7 @@ use lib.Dec.{eqb}
 use lib.ListN.{take}
 use borrow.Author.Tests.{le-leb, lt-ltb, eqb-true}
 use Rattle.scales.specs.Place.{and-both}
-use Rattle.text_read.specs.Meaning.{digitOf, twoOf, fourOf, sixOf, isNamed, seek, monthOf, microIn, stampIn}
+use Rattle.text_read.specs.Meaning.{digitOf, twoOf, fourOf, sixOf, isNamed, seek, monthNamed, microIn, stampIn}
 use Rattle.text_fields.specs.declared.Stamp.{Stamp}
 use Rattle.text_fields.specs.Meaning.{names, letter}
 use Rattle.text_write.specs.Meaning.{tens, units, textOf}
@@ -58,18 +58,18 @@ at-each f (suc n) e k h =
     ⊎-elim (λ (q : k ≡ n). rw q (p .0)) (λ (q : k < n). at-each f n (p .1) k q) (eq-or-lt-of-le (omega arith))
 
 named : ℕ → Bool
-named k = eqb (monthOf (letter (k + 1) 0) (letter (k + 1) 1) (letter (k + 1) 2)) (k + 1)
+named k = eqb (monthNamed (letter (k + 1) 0) (letter (k + 1) 1) (letter (k + 1) 2)) (k + 1)
 
 months : every named 12 ≡ true
-unfolding named monthOf seek isNamed letter names
+unfolding named monthNamed seek isNamed letter names
 months = refl
 
-month-back : (m : ℕ) → 1 ≤ m → m ≤ 12 → monthOf (letter m 0) (letter m 1) (letter m 2) ≡ m
+month-back : (m : ℕ) → 1 ≤ m → m ≤ 12 → monthNamed (letter m 0) (letter m 1) (letter m 2) ≡ m
 unfolding named
 month-back m h k =
     let e : m - 1 + 1 ≡ m = omega arith in
     let t : named (m - 1) ≡ true = at-each named 12 months (m - 1) (omega arith) in
-    rw e at (eqb-true (monthOf (letter (m - 1 + 1) 0) (letter (m - 1 + 1) 1) (letter (m - 1 + 1) 2)) (m - 1 + 1) t)
+    rw e at (eqb-true (monthNamed (letter (m - 1 + 1) 0) (letter (m - 1 + 1) 1) (letter (m - 1 + 1) 2)) (m - 1 + 1) t)
 
 -- fields that their places can hold
 pub record Small (t : Stamp) : Type 0 where

@@ -16,7 +16,7 @@ use Rattle.handed.specs.Meaning.{scaleOf, dayOf, microOf}
 use Rattle.leap.specs.Meaning.{accepted, publishedDays, publishedOffsets, publishedLast}
 use Rattle.leap.specs.Published.{published}
 use Rattle.text_fields.specs.Meaning.{names, letter, prefixOf}
-use Rattle.text_read.specs.Meaning.{digitOf, twoOf, fourOf, isNamed, seek, monthOf, hasMarks, microIn, stampIn, inLimits, hasPrefix, scaleIn, bodyIn, isPrefixRight, isBody, reading, readText}
+use Rattle.text_read.specs.Meaning.{digitOf, twoOf, fourOf, isNamed, seek, monthNamed, hasMarks, microIn, stampIn, inLimits, hasPrefix, scaleIn, bodyIn, isPrefixRight, isBody, reading, readText}
 use Rattle.text_write.specs.Meaning.{textOf, hasImage, writing, writeText}
 use Rattle.text_write.specs.declared.Form.{Form}
 use Rattle.text_write.specs.declared.Form.the-variants as F
@@ -33,11 +33,11 @@ abbrev pub lower : List ℕ
 lower = 51 ∷ 49 ∷ 45 ∷ 100 ∷ 101 ∷ 99 ∷ 45 ∷ 50 ∷ 48 ∷ 49 ∷ 54 ∷ 32 ∷ 48 ∷ 48 ∷ 58 ∷ 48 ∷ 48 ∷ 58 ∷ 48 ∷ 48 ∷ []
 
 upper : reads (capitals lower) ≡ answered S.Utc (pos 6209) 0
-unfolding readText isPrefixRight isBody scaleIn bodyIn hasPrefix prefixOf hasMarks stampIn microIn inLimits digitOf twoOf fourOf monthOf seek isNamed letter names isDate dayOfDate dayAfter firstDay lengthOf monthLength leap
+unfolding readText isPrefixRight isBody scaleIn bodyIn hasPrefix prefixOf hasMarks stampIn microIn inLimits digitOf twoOf fourOf monthNamed seek isNamed letter names isDate dayOfDate dayAfter firstDay lengthOf monthLength leap
 upper = rw published
 
 pub lower-case : ShutOut (reads lower) (empty 3 S.Tai) (reads (capitals lower)) (answered S.Utc (pos 6209) 0)
-unfolding readText isPrefixRight isBody scaleIn bodyIn hasPrefix prefixOf hasMarks stampIn microIn inLimits digitOf twoOf fourOf monthOf seek isNamed letter names isDate dayOfDate dayAfter firstDay lengthOf monthLength leap
+unfolding readText isPrefixRight isBody scaleIn bodyIn hasPrefix prefixOf hasMarks stampIn microIn inLimits digitOf twoOf fourOf monthNamed seek isNamed letter names isDate dayOfDate dayAfter firstDay lengthOf monthLength leap
 lower-case = (refl, upper, λ q. let z : _≡_ {A = ℕ} 3 0 = (λ i. q i .number) ∙ (λ i. upper i .number) in omega arith)
 
 -- 3 and 7 swapped: 29-FEB-0000 00:00:00
@@ -48,7 +48,7 @@ abbrev pub leapDay0000 : List ℕ
 leapDay0000 = 50 ∷ 57 ∷ 45 ∷ 70 ∷ 69 ∷ 66 ∷ 45 ∷ 48 ∷ 48 ∷ 48 ∷ 48 ∷ 32 ∷ 48 ∷ 48 ∷ 58 ∷ 48 ∷ 48 ∷ 58 ∷ 48 ∷ 48 ∷ []
 
 outside : reads leapDay0000 ≡ empty 7 S.Tai
-unfolding readText isPrefixRight isBody scaleIn bodyIn hasPrefix prefixOf hasMarks stampIn microIn inLimits digitOf twoOf fourOf monthOf seek isNamed letter names isDate dayOfDate dayAfter firstDay lengthOf monthLength leap
+unfolding readText isPrefixRight isBody scaleIn bodyIn hasPrefix prefixOf hasMarks stampIn microIn inLimits digitOf twoOf fourOf monthNamed seek isNamed letter names isDate dayOfDate dayAfter firstDay lengthOf monthLength leap
 outside = rw published
 
 pub three-for-seven : ShutOut (reads leapDay0000) (empty 7 S.Tai) (swapped (reads leapDay0000)) (empty 3 S.Tai)
@@ -63,7 +63,7 @@ beforeGps =
     71 ∷ 80 ∷ 83 ∷ 61 ∷ 48 ∷ 49 ∷ 45 ∷ 74 ∷ 65 ∷ 78 ∷ 45 ∷ 49 ∷ 57 ∷ 55 ∷ 50 ∷ 32 ∷ 48 ∷ 48 ∷ 58 ∷ 48 ∷ 48 ∷ 58 ∷ 48 ∷ 48 ∷ []
 
 pub refused-in-gps : ShutOut (reads beforeGps) (empty 7 S.Tai) (ownScale beforeGps) (empty 7 S.Gps)
-unfolding readText isPrefixRight isBody scaleIn bodyIn hasPrefix prefixOf hasMarks stampIn microIn inLimits digitOf twoOf fourOf monthOf seek isNamed letter names isDate dayOfDate dayAfter firstDay lengthOf monthLength leap
+unfolding readText isPrefixRight isBody scaleIn bodyIn hasPrefix prefixOf hasMarks stampIn microIn inLimits digitOf twoOf fourOf monthNamed seek isNamed letter names isDate dayOfDate dayAfter firstDay lengthOf monthLength leap
 refused-in-gps = (refl, refl, λ q. let z : _≡_ {A = ℕ} 0 2 = λ i. codeOf (q i .scale) in omega arith)
 
 -- a list asked for where none is used: TAI=01-JAN-1972 00:00:00 under no list at all
@@ -75,16 +75,16 @@ firstTai =
     84 ∷ 65 ∷ 73 ∷ 61 ∷ 48 ∷ 49 ∷ 45 ∷ 74 ∷ 65 ∷ 78 ∷ 45 ∷ 49 ∷ 57 ∷ 55 ∷ 50 ∷ 32 ∷ 48 ∷ 48 ∷ 58 ∷ 48 ∷ 48 ∷ 58 ∷ 48 ∷ 48 ∷ []
 
 pub list-for-tai : ShutOut (readText firstTai [] [] (pos 0)) (answered S.Tai (negsuc 10226) 0) (listFirst firstTai) (empty 5 S.Tai)
-unfolding readText isPrefixRight isBody scaleIn bodyIn hasPrefix prefixOf hasMarks stampIn microIn inLimits digitOf twoOf fourOf monthOf seek isNamed letter names isDate dayOfDate dayAfter firstDay lengthOf monthLength leap accepted
+unfolding readText isPrefixRight isBody scaleIn bodyIn hasPrefix prefixOf hasMarks stampIn microIn inLimits digitOf twoOf fourOf monthNamed seek isNamed letter names isDate dayOfDate dayAfter firstDay lengthOf monthLength leap accepted
 list-for-tai = (refl, refl, λ q. let z : _≡_ {A = ℕ} 0 5 = λ i. q i .number in omega arith)
 
 -- the desk that refuses all, and the one that answers day 0 for everything
 pub refuses-all : ShutOut (readText firstTai [] [] (pos 0)) (answered S.Tai (negsuc 10226) 0) (refusesAll S.Tai) (empty 7 S.Tai)
-unfolding readText isPrefixRight isBody scaleIn bodyIn hasPrefix prefixOf hasMarks stampIn microIn inLimits digitOf twoOf fourOf monthOf seek isNamed letter names isDate dayOfDate dayAfter firstDay lengthOf monthLength leap
+unfolding readText isPrefixRight isBody scaleIn bodyIn hasPrefix prefixOf hasMarks stampIn microIn inLimits digitOf twoOf fourOf monthNamed seek isNamed letter names isDate dayOfDate dayAfter firstDay lengthOf monthLength leap
 refuses-all = (refl, refl, differ (λ (t : Slip). t .number) (λ e. omega arith))
 
 pub day-zero : ShutOut (readText firstTai [] [] (pos 0)) (answered S.Tai (negsuc 10226) 0) (dayZero S.Tai) (answered S.Tai (pos 0) 0)
-unfolding readText isPrefixRight isBody scaleIn bodyIn hasPrefix prefixOf hasMarks stampIn microIn inLimits digitOf twoOf fourOf monthOf seek isNamed letter names isDate dayOfDate dayAfter firstDay lengthOf monthLength leap
+unfolding readText isPrefixRight isBody scaleIn bodyIn hasPrefix prefixOf hasMarks stampIn microIn inLimits digitOf twoOf fourOf monthNamed seek isNamed letter names isDate dayOfDate dayAfter firstDay lengthOf monthLength leap
 day-zero = (refl, refl, differ (λ (t : Slip). natAbs (t .day)) (λ e. omega arith))
 
 -- ---- writing

@@ -36,8 +36,8 @@ unfoldable pub seek : ℕ → ℕ → ℕ → ℕ → ℕ → ℕ
 seek zero m a b c = 0
 seek (suc n) m a b c = cond (isNamed m a b c) m (seek n (suc m) a b c)
 
-unfoldable pub monthOf : ℕ → ℕ → ℕ → ℕ
-monthOf a b c = seek 12 1 a b c
+unfoldable pub monthNamed : ℕ → ℕ → ℕ → ℕ
+monthNamed a b c = seek 12 1 a b c
 
 -- ---- "dd-mmm-yyyy hh:mm:ss (20 characters), with .uuuuuu (27)": the fields of a text by their places
 unfoldable pub hasMarks : List ℕ → Bool
@@ -55,7 +55,7 @@ stampIn s =
       date =
           record {
             year = fourOf (getD s 7 0) (getD s 8 0) (getD s 9 0) (getD s 10 0);
-            month = monthOf (getD s 3 0) (getD s 4 0) (getD s 5 0);
+            month = monthNamed (getD s 3 0) (getD s 4 0) (getD s 5 0);
             day = twoOf (getD s 0 0) (getD s 1 0);
           };
       hour = twoOf (getD s 12 0) (getD s 13 0);

@@ -5,7 +5,7 @@ ghost use Prim.Native.Nat.{_≤_, _<_};
 ghost use lib.Dec.{eqb};
 ghost use lib.ListN.{length};
 ghost use Rattle.text_fields.specs.Meaning.{names};
-ghost use Rattle.text_read.specs.Meaning.{digitOf, twoOf, fourOf, sixOf, isNamed, monthOf, hasMarks, microIn, stampIn, inLimits, hasPrefix, prefixScale, stampMicro};
+ghost use Rattle.text_read.specs.Meaning.{digitOf, twoOf, fourOf, sixOf, isNamed, monthNamed, hasMarks, microIn, stampIn, inLimits, hasPrefix, prefixScale, stampMicro};
 use calendar::Date;
 use scales::Scale;
 use text_fields::Stamp;
@@ -81,7 +81,7 @@ fn is_named(t: &[u8; 36], m: usize, a: u8, b: u8, c: u8) -> bool
 
 // The month that three letters name, and 0 where they name none.
 fn month_of(a: u8, b: u8, c: u8) -> u64
-    ensures { λ r. ⌜ r ≡ monthOf a b c ⌝ }
+    ensures { λ r. ⌜ r ≡ monthNamed a b c ⌝ }
 {
     let t = text_fields::inner::month_names();
     let mut m: usize = 1;

@@ -3,19 +3,19 @@ use borrow.Author.Needs.{needs}
 use Prim.Native.Nat.{_-_, _≤_}
 use mathlib.Core.Path.{_≡_, _∙_, sym, refl}
 use native.Mathlib.Omega.{arith}
-use Rattle.text_read.specs.Meaning.{seek, monthOf}
+use Rattle.text_read.specs.Meaning.{seek, monthNamed}
 use Rattle.text_read.specs.Months.{seek-step}
 use Rattle.text_read.proofs.columns.month_of.Statement.{statement}
 use Rattle.text_read.proofs.columns.month_of.Tie as tie
 
 abbrev Inv-loop : tie.InvT-loop
-Inv-loop a b c t m₀ m = (1 ≤ m) × (m ≤ 13) × (seek (13 - m) m a b c ≡ monthOf a b c)
+Inv-loop a b c t m₀ m = (1 ≤ m) × (m ≤ 13) × (seek (13 - m) m a b c ≡ monthNamed a b c)
 
 abbrev μ-loop : tie.MeasureT-loop
 μ-loop a b c t m₀ m = 13 - m
 
 loop-holds : tie.Need-loop-holds Inv-loop μ-loop
-unfolding monthOf
+unfolding monthNamed
 loop-holds c = (omega arith, omega arith, refl)
 
 is-named-requires : tie.Need-is-named-requires Inv-loop μ-loop
