@@ -24,7 +24,8 @@ use Rattle.handed.specs.declared.Handed.{Handed}
 use Rattle.handed.specs.declared.Taken.{Taken}
 use Rattle.handed.specs.declared.Taken.the-variants as K
 use Rattle.leap.specs.Meaning.{accepted}
-use Rattle.changes.specs.Meaning.{isUtc, changeUsesList, ofCount, moving, asked}
+use Rattle.via_tai.specs.Meaning.{isUtc, ofCount}
+use Rattle.changes.specs.Meaning.{changeUsesList, moving, asked}
 
 -- ---- the stages: whether a list is used, whether it is lacking, and what it is asked of a time that was taken
 abbrev pub timeUsesList : Taken → Bool

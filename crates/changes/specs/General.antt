@@ -19,8 +19,9 @@ use Rattle.handed.specs.Told.{Told, told-scale, told-moment}
 use Rattle.handed.specs.Meaning.{scaleOf, isFinite, isInSpan, momentIn}
 use Rattle.leap.specs.Meaning.{accepted}
 use Rattle.leap.specs.Walk.{or-true}
-use Rattle.changes.specs.Meaning.{fromScale, toScale, isUtc, changeUsesList, settled, moving, ofCount, changeOf}
-use Rattle.changes.specs.Ways.{Left, way-on, way-out}
+use Rattle.via_tai.specs.Meaning.{fromScale, toScale, isUtc, ofCount}
+use Rattle.via_tai.specs.Ways.{Left, way-on, way-out}
+use Rattle.changes.specs.Meaning.{changeUsesList, settled, moving, changeOf}
 use Rattle.changes.specs.Asked.{lacking}
 
 -- ---- the list is used where UTC stands on either side

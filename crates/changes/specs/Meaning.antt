@@ -3,49 +3,17 @@
 use mathlib.Core.Bool.{Bool, cond, not, _||_}
 use mathlib.Core.List.{List}
 use Prim.Native.Nat.{ℕ}
-use lib.IntN.{ℤ, _+ℤ_, _-ℤ_}
-use Rattle.axis.specs.Meaning.{Moment, since, momentOf}
-use Rattle.scales.specs.Meaning.{andThen, sameScale, inSpan, Judged, given, gives, outcome, Slip, dated, momentAt, resulting}
+use lib.IntN.{ℤ}
+use Rattle.axis.specs.Meaning.{Moment}
+use Rattle.scales.specs.Meaning.{andThen, sameScale, Judged, given, gives, outcome, Slip, dated}
 use Rattle.scales.specs.declared.Scale.{Scale}
 use Rattle.scales.specs.declared.Scale.the-variants as S
 use Rattle.handed.specs.declared.Handed.{Handed}
 use Rattle.handed.specs.Meaning.{scaleOf, isFinite, isInSpan, momentIn}
-use Rattle.leap.specs.Meaning.{seconds, accepted, taiOf, hasMicro, isExpiredDay, isExpiredTai, utcOf}
-
--- ---- a time to its TAI count; `spans` says whether the time lies in its span
-abbrev pub fromTai : Bool → Moment → Judged ℤ
-fromTai spans m =
-    given spans 7
-    (gives (since (m .day) (m .micro)))
-
--- "TAI is GPS plus 19 s"
-abbrev pub fromGps : Bool → Moment → Judged ℤ
-fromGps spans m =
-    given spans 7
-    (gives (since (m .day) (m .micro) +ℤ seconds 19))
-
-abbrev pub fromUtc : List ℤ → List ℕ → ℤ → Bool → Moment → Judged ℤ
-fromUtc ds os e spans m =
-    given spans 7
-    (given (not (isExpiredDay e (m .day))) 9
-    (given (hasMicro ds (m .day) (m .micro)) 10
-    (gives (taiOf ds os (m .day) (m .micro)))))
-
-abbrev pub toTai : ℤ → Judged Moment
-toTai c = resulting S.Tai (momentOf c)
-
-abbrev pub toGps : ℤ → Judged Moment
-toGps c = resulting S.Gps (momentOf (c -ℤ seconds 19))
-
-abbrev pub toUtc : List ℤ → List ℕ → ℤ → ℤ → Judged Moment
-toUtc ds os e c =
-    given (not (isExpiredTai ds os e c)) 9
-    (resulting S.Utc (utcOf ds os c))
+use Rattle.leap.specs.Meaning.{accepted, hasMicro, isExpiredDay}
+use Rattle.via_tai.specs.Meaning.{fromTai, fromGps, fromUtc, toTai, toGps, toUtc, ofCount, fromScale, toScale, isUtc}
 
 -- ---- the six changes, of a count of each scale
-abbrev pub ofCount : {A : Type 0} → Scale → ℕ → (Bool → Moment → A) → A
-ofCount s n f = f (inSpan s (momentAt s n .day) (momentAt s n .micro)) (momentAt s n)
-
 -- "5 leap list not accepted, where one is used"
 abbrev pub withList : List ℤ → List ℕ → ℤ → Judged Moment → Judged Moment
 withList ds os e rest = given (accepted ds os e) 5 rest
@@ -87,19 +55,6 @@ unfoldable pub gpsToUtc : ℕ → List ℤ → List ℕ → ℤ → Slip
 gpsToUtc n ds os e = dated S.Utc (outcome (withList ds os e (gpsInUtc ds os e n)))
 
 -- ---- the change of any time that is handed in, to any scale
-abbrev pub fromScale : Scale → List ℤ → List ℕ → ℤ → Bool → Moment → Judged ℤ
-fromScale S.Tai ds os e = fromTai
-fromScale S.Utc ds os e = fromUtc ds os e
-fromScale S.Gps ds os e = fromGps
-
-abbrev pub toScale : Scale → List ℤ → List ℕ → ℤ → ℤ → Judged Moment
-toScale S.Tai ds os e = toTai
-toScale S.Utc ds os e = toUtc ds os e
-toScale S.Gps ds os e = toGps
-
-abbrev pub isUtc : Scale → Bool
-isUtc s = sameScale s S.Utc
-
 -- a list is used where UTC stands on either side
 abbrev pub changeUsesList : Scale → Scale → Bool
 changeUsesList s to = isUtc s || isUtc to

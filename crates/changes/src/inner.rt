@@ -1,14 +1,13 @@
-// The cores: a list that is lent was accepted before, and is not tested here. Each change goes by way of a TAI count, whose span
-// is not tested: `from_..` gives it, `to_..` takes it.
+// The cores: a list that is used was accepted before, and is not tested here, but where `lacks_list` tests it.
 ghost use mathlib.Core.Path.{_≡_};
 ghost use mathlib.Core.Bool.{true};
-ghost use Prim.Native.Nat.{_<_};
-ghost use Rattle.axis.specs.Meaning.{dayAt, microsAt};
+ghost use Rattle.axis.specs.Meaning.{microsAt};
 ghost use Rattle.scales.specs.Meaning.{outcome, dated, slip, slipTai, slipUtc, slipGps, timeScale, timeCount};
 ghost use Rattle.handed.specs.Meaning.{takenScale};
-ghost use Rattle.leap.specs.Meaning.{accepted, hasMicro};
-ghost use Rattle.changes.specs.Meaning.{fromTai, fromGps, fromUtc, toTai, toGps, toUtc, ofCount, fromScale, toScale, isUtc, changeUsesList, moving};
-ghost use Rattle.changes.specs.Ways.{Left, OnTheWay};
+ghost use Rattle.leap.specs.Meaning.{accepted};
+ghost use Rattle.via_tai.specs.Meaning.{ofCount, toScale, isUtc};
+ghost use Rattle.via_tai.specs.Ways.{OnTheWay};
+ghost use Rattle.changes.specs.Meaning.{changeUsesList, moving};
 ghost use Rattle.changes.specs.Asked.{timeUsesList, lacksList, takenAsked};
 use handed::Taken;
 use scales::Dated;
@@ -22,133 +21,7 @@ use scales::Tai;
 use scales::Time;
 use scales::Utc;
 
-// The places of days -10227, -7300 and 36524.
-const FIRST: u64 = 29773;
-
-const GPS_FIRST: u64 = 32700;
-
-const LAST: u64 = 76524;
-
-const SECOND: u64 = 1_000_000;
-
-// ---- to the TAI count
-
-pub fn from_tai(t: Tai) -> DatedTai
-    ensures { λ r. ⌜ Left (ofCount Scale.Tai (t .0) fromTai) r ⌝ }
-{
-    let day = t.0 / Tai::BOUND;
-    if day < FIRST {
-        return DatedTai::Refused(Refusal::OutsideSpan);
-    }
-    if LAST < day {
-        return DatedTai::Refused(Refusal::OutsideSpan);
-    }
-    DatedTai::At(t)
-}
-
-pub fn from_gps(t: Gps) -> DatedTai
-    ensures { λ r. ⌜ Left (ofCount Scale.Gps (t .0) fromGps) r ⌝ }
-{
-    let n = t.0;
-    let day = n / Gps::BOUND;
-    if day < GPS_FIRST {
-        return DatedTai::Refused(Refusal::OutsideSpan);
-    }
-    if LAST < day {
-        return DatedTai::Refused(Refusal::OutsideSpan);
-    }
-    DatedTai::At(Tai(n + 19 * SECOND))
-}
-
-// Has the UTC day at a place this microsecond? From 86,400,000,000 up only where the next day is a step.
-fn has_micro(days: &[i64], day: u64, micro: u64) -> bool
-    requires { ⌜ day < 99999 ⌝ }
-    ensures { λ r. ⌜ r ≡ hasMicro (now (days .entry)) (dayAt day) micro ⌝ }
-{
-    if micro < Tai::BOUND {
-        return true;
-    }
-    leap::inner::is_step(days, day + 1)
-}
-
-fn from_utc(t: Utc, days: &[i64], offsets: &[u64], last: i64) -> DatedTai
-    requires { ⌜ accepted (now days) (now offsets) last ≡ true ⌝ }
-    ensures { λ r. ⌜ Left (ofCount Scale.Utc (t .0) (fromUtc (now (days .entry)) (now (offsets .entry)) last)) r ⌝ }
-{
-    let day = t.0 / Utc::BOUND;
-    let micro = t.0 % Utc::BOUND;
-    if day < FIRST {
-        return DatedTai::Refused(Refusal::OutsideSpan);
-    }
-    if LAST < day {
-        return DatedTai::Refused(Refusal::OutsideSpan);
-    }
-    if axis::place_of_day(last) < day {
-        return DatedTai::Refused(Refusal::ListExpired);
-    }
-    if !has_micro(days, day, micro) {
-        return DatedTai::Refused(Refusal::SecondLacking);
-    }
-    let offset = leap::inner::offset_on(days, offsets, day);
-    DatedTai::At(Tai(day * Tai::BOUND + micro + offset * SECOND))
-}
-
-// ---- from the TAI count
-
-pub fn to_tai(c: Tai) -> DatedTai
-    requires { ⌜ OnTheWay (c .0) ⌝ }
-    ensures { λ r. ⌜ slipTai r ≡ dated Scale.Tai (outcome (toTai (microsAt (c .0)))) ⌝ }
-{
-    if LAST < c.0 / Tai::BOUND {
-        return DatedTai::Refused(Refusal::ResultOutside);
-    }
-    DatedTai::At(c)
-}
-
-pub fn to_gps(c: Tai) -> DatedGps
-    requires { ⌜ OnTheWay (c .0) ⌝ }
-    ensures { λ r. ⌜ slipGps r ≡ dated Scale.Gps (outcome (toGps (microsAt (c .0)))) ⌝ }
-{
-    let n = c.0 - 19 * SECOND;
-    let day = n / Gps::BOUND;
-    if day < GPS_FIRST {
-        return DatedGps::Refused(Refusal::ResultOutside);
-    }
-    if LAST < day {
-        return DatedGps::Refused(Refusal::ResultOutside);
-    }
-    DatedGps::At(Gps(n))
-}
-
-pub fn to_utc(c: Tai, days: &[i64], offsets: &[u64], last: i64) -> DatedUtc
-    requires { ⌜ OnTheWay (c .0) ⌝ }
-    requires { ⌜ accepted (now days) (now offsets) last ≡ true ⌝ }
-    ensures { λ r. ⌜ slipUtc r ≡ dated Scale.Utc (outcome (toUtc (now (days .entry)) (now (offsets .entry)) last (microsAt (c .0)))) ⌝ }
-{
-    let n = c.0;
-    let next = axis::place_of_day(last) + 1;
-    let offset = leap::inner::offset_on(days, offsets, next);
-    if next * Tai::BOUND + offset * SECOND <= n {
-        return DatedUtc::Refused(Refusal::ListExpired);
-    }
-    if n < FIRST * Tai::BOUND + 10 * SECOND {
-        return DatedUtc::Refused(Refusal::ResultOutside);
-    }
-    DatedUtc::At(leap::inner::utc_at(days, offsets, c))
-}
-
 // ---- a time and a scale that are known only when the program runs
-
-pub fn from_time(t: Time, days: &[i64], offsets: &[u64], last: i64) -> DatedTai
-    requires { ⌜ (isUtc (timeScale t) ≡ true → accepted (now days) (now offsets) last ≡ true) ⌝ }
-    ensures { λ r. ⌜ Left (ofCount (timeScale t) (timeCount t) (fromScale (timeScale t) (now (days .entry)) (now (offsets .entry)) last)) r ⌝ }
-{
-    match t {
-        Time::Tai(n) => from_tai(n),
-        Time::Utc(n) => from_utc(n, days, offsets, last),
-        Time::Gps(n) => from_gps(n),
-    }
-}
 
 fn dated_tai(d: DatedTai) -> Dated
     ensures { λ r. ⌜ slip r ≡ slipTai d ⌝ }
@@ -183,9 +56,9 @@ fn to_scale(c: Tai, to: Scale, days: &[i64], offsets: &[u64], last: i64) -> Date
     ensures { λ r. ⌜ slip r ≡ dated to (outcome (toScale to (now (days .entry)) (now (offsets .entry)) last (microsAt (c .0)))) ⌝ }
 {
     match to {
-        Scale::Tai => dated_tai(to_tai(c)),
-        Scale::Utc => dated_utc(to_utc(c, days, offsets, last)),
-        Scale::Gps => dated_gps(to_gps(c)),
+        Scale::Tai => dated_tai(via_tai::inner::to_tai(c)),
+        Scale::Utc => dated_utc(via_tai::inner::to_utc(c, days, offsets, last)),
+        Scale::Gps => dated_gps(via_tai::inner::to_gps(c)),
     }
 }
 
@@ -194,7 +67,7 @@ pub fn change(t: Time, to: Scale, days: &[i64], offsets: &[u64], last: i64) -> D
     requires { ⌜ (changeUsesList (timeScale t) to ≡ true → accepted (now days) (now offsets) last ≡ true) ⌝ }
     ensures { λ r. ⌜ slip r ≡ dated to (outcome (ofCount (timeScale t) (timeCount t) (moving (timeScale t) to (now (days .entry)) (now (offsets .entry)) last))) ⌝ }
 {
-    match from_time(t, days, offsets, last) {
+    match via_tai::inner::from_time(t, days, offsets, last) {
         DatedTai::At(c) => {
             if t.scale().code() == to.code() {
                 return Dated::At(t.to_record());

@@ -21,8 +21,8 @@ pub mod inner;
 pub fn tai_to_gps(t: Tai) -> DatedGps
     ensures { λ r. ⌜ slipGps r ≡ taiToGps (t .0) ⌝ }
 {
-    match inner::from_tai(t) {
-        DatedTai::At(c) => inner::to_gps(c),
+    match via_tai::inner::from_tai(t) {
+        DatedTai::At(c) => via_tai::inner::to_gps(c),
         DatedTai::Refused(f) => DatedGps::Refused(f),
     }
 }
@@ -30,8 +30,8 @@ pub fn tai_to_gps(t: Tai) -> DatedGps
 pub fn gps_to_tai(t: Gps) -> DatedTai
     ensures { λ r. ⌜ slipTai r ≡ gpsToTai (t .0) ⌝ }
 {
-    match inner::from_gps(t) {
-        DatedTai::At(c) => inner::to_tai(c),
+    match via_tai::inner::from_gps(t) {
+        DatedTai::At(c) => via_tai::inner::to_tai(c),
         DatedTai::Refused(f) => DatedTai::Refused(f),
     }
 }
@@ -43,14 +43,14 @@ fn by_list(t: Time, days: &[i64], offsets: &[u64], last: i64) -> DatedTai
     if !leap::is_accepted(days, offsets, last) {
         return DatedTai::Refused(Refusal::ListNotAccepted);
     }
-    inner::from_time(t, days, offsets, last)
+    via_tai::inner::from_time(t, days, offsets, last)
 }
 
 pub fn utc_to_tai(t: Utc, days: &[i64], offsets: &[u64], last: i64) -> DatedTai
     ensures { λ r. ⌜ slipTai r ≡ utcToTai (t .0) (now (days .entry)) (now (offsets .entry)) last ⌝ }
 {
     match by_list(Time::Utc(t), days, offsets, last) {
-        DatedTai::At(c) => inner::to_tai(c),
+        DatedTai::At(c) => via_tai::inner::to_tai(c),
         DatedTai::Refused(f) => DatedTai::Refused(f),
     }
 }
@@ -59,7 +59,7 @@ pub fn utc_to_gps(t: Utc, days: &[i64], offsets: &[u64], last: i64) -> DatedGps
     ensures { λ r. ⌜ slipGps r ≡ utcToGps (t .0) (now (days .entry)) (now (offsets .entry)) last ⌝ }
 {
     match by_list(Time::Utc(t), days, offsets, last) {
-        DatedTai::At(c) => inner::to_gps(c),
+        DatedTai::At(c) => via_tai::inner::to_gps(c),
         DatedTai::Refused(f) => DatedGps::Refused(f),
     }
 }
@@ -68,7 +68,7 @@ pub fn tai_to_utc(t: Tai, days: &[i64], offsets: &[u64], last: i64) -> DatedUtc
     ensures { λ r. ⌜ slipUtc r ≡ taiToUtc (t .0) (now (days .entry)) (now (offsets .entry)) last ⌝ }
 {
     match by_list(Time::Tai(t), days, offsets, last) {
-        DatedTai::At(c) => inner::to_utc(c, days, offsets, last),
+        DatedTai::At(c) => via_tai::inner::to_utc(c, days, offsets, last),
         DatedTai::Refused(f) => DatedUtc::Refused(f),
     }
 }
@@ -77,7 +77,7 @@ pub fn gps_to_utc(t: Gps, days: &[i64], offsets: &[u64], last: i64) -> DatedUtc
     ensures { λ r. ⌜ slipUtc r ≡ gpsToUtc (t .0) (now (days .entry)) (now (offsets .entry)) last ⌝ }
 {
     match by_list(Time::Gps(t), days, offsets, last) {
-        DatedTai::At(c) => inner::to_utc(c, days, offsets, last),
+        DatedTai::At(c) => via_tai::inner::to_utc(c, days, offsets, last),
         DatedTai::Refused(f) => DatedUtc::Refused(f),
     }
 }

@@ -18,8 +18,8 @@ use Rattle.leap.specs.Meaning.{accepted, isExpiredTai, utcOf}
 use Rattle.leap.specs.Steps.{Steps, steps}
 use Rattle.leap.specs.Back.{back, forth, none-before}
 use Rattle.leap.specs.Whole.{taiAt, offset-small, known-before, before-known}
-use Rattle.changes.specs.Meaning.{toScale}
-use Rattle.changes.specs.Ways.{OnTheWay, expires}
+use Rattle.via_tai.specs.Meaning.{toScale}
+use Rattle.via_tai.specs.Ways.{OnTheWay, expires}
 use Rattle.leap_laws.proofs.Stands.{moment, onTai, Known, Stands, spans, inside, one}
 
 -- the moment of a count of whole days and microseconds

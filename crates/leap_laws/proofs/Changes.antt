@@ -20,7 +20,7 @@ use Rattle.leap.specs.Meaning.{accepted}
 use Rattle.leap.specs.Steps.{steps}
 use Rattle.leap.specs.Back.{forth}
 use Rattle.leap.specs.Whole.{taiAt, tai-later, before-known}
-use Rattle.changes.specs.Meaning.{fromScale, toScale, ofCount}
+use Rattle.via_tai.specs.Meaning.{fromScale, toScale, ofCount}
 use Rattle.leap_laws.proofs.Stands.{moment, onTai, Stands, inside, leaves, left}
 use Rattle.leap_laws.proofs.Arrives.{on-the-way, arrives, found}
 

@@ -25,8 +25,9 @@ use Rattle.leap.specs.Steps.{Steps, steps, parts, usable}
 use Rattle.leap.specs.Force.{offset-mono}
 use Rattle.leap.specs.Back.{said-nothing}
 use Rattle.leap.specs.Whole.{expired-at, taiAt, offset-small}
-use Rattle.changes.specs.Meaning.{fromScale, toScale, settled, moving}
-use Rattle.changes.specs.Ways.{expires}
+use Rattle.via_tai.specs.Meaning.{fromScale, toScale}
+use Rattle.via_tai.specs.Ways.{expires}
+use Rattle.changes.specs.Meaning.{settled, moving}
 use Rattle.leap_laws.proofs.Stands.{moment, onTai}
 
 -- ---- days later than the day at place x

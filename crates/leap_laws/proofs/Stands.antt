@@ -19,8 +19,8 @@ use Rattle.leap.specs.Meaning.{seconds, accepted, taiOf, isStep, hasMicro, isEx
 use Rattle.leap.specs.Places.{tai-at}
 use Rattle.leap.specs.Back.{Real}
 use Rattle.leap.specs.Whole.{expired-at, taiAt}
-use Rattle.changes.specs.Meaning.{fromScale}
-use Rattle.changes.specs.Ways.{has-plain, has-sixty}
+use Rattle.via_tai.specs.Meaning.{fromScale}
+use Rattle.via_tai.specs.Ways.{has-plain, has-sixty}
 
 abbrev pub moment : ℕ → ℕ → Moment
 moment a u = record { day = dayAt a; micro = u }

@@ -15,7 +15,8 @@ use Rattle.scales.specs.declared.Scale.the-variants as S
 use Rattle.handed.specs.declared.Handed.the-variants as H
 use Rattle.calendar.specs.Meaning.{leap, monthLength, lengthOf, firstDay, dayAfter, daysTo, walk, isFirst, allFirsts}
 use Rattle.leap.specs.Meaning.{seconds, areSteps, begins, risesFrom, rises, countsFrom, countsUp, endsIn, noneLater, accepted, through, offsetOn, taiOf, isStep, hasMicro, isExpiredDay, publishedDays, publishedOffsets, publishedLast}
-use Rattle.changes.specs.Meaning.{fromTai, fromUtc, toTai, toGps, toUtc, ofCount, moving, taiToGps, gpsToTai, utcToTai, utcToGps, taiToUtc, gpsToUtc, changeOf}
+use Rattle.via_tai.specs.Meaning.{fromTai, fromUtc, toTai, toGps, toUtc, ofCount}
+use Rattle.changes.specs.Meaning.{moving, taiToGps, gpsToTai, utcToTai, utcToGps, taiToUtc, gpsToUtc, changeOf}
 use Rattle.ground_laws.proofs.Desks.{answered, empty, byNumber, byMicro, refusesAll, dayZero}
 
 -- ---- is_accepted

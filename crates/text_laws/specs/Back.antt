@@ -31,7 +31,8 @@ use Rattle.calendar_laws.specs.Undo.{day-of-date}
 use Rattle.handed.proofs.Ways.{kept-decimal}
 use Rattle.handed.specs.Meaning.{scaleOf, isFinite, isInSpan, dayOf, microOf, momentIn}
 use Rattle.leap.specs.Meaning.{accepted, isExpiredDay, hasMicro}
-use Rattle.changes.specs.Meaning.{isUtc, asked}
+use Rattle.via_tai.specs.Meaning.{isUtc}
+use Rattle.changes.specs.Meaning.{asked}
 use Rattle.changes.specs.Asked.{sound}
 use Rattle.text_read.specs.Meaning as R
 use Rattle.text_read.specs.Meaning.{inLimits, isBody, hasMarks, stampIn, scaleIn, bodyIn, isPrefixed, isPlain, isPrefixRight, hasPrefix, stampMoment, stampSpans, datedIn, readText}

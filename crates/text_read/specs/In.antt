@@ -15,7 +15,8 @@ use Rattle.handed.specs.declared.Taken.{Taken}
 use Rattle.handed.specs.declared.Taken.the-variants as K
 use Rattle.handed.specs.Meaning.{takenScale}
 use Rattle.leap.specs.Meaning.{seconds, accepted, taiOf, hasMicro, isExpiredDay}
-use Rattle.changes.specs.Meaning.{ofCount, settled, moving, asked}
+use Rattle.via_tai.specs.Meaning.{ofCount}
+use Rattle.changes.specs.Meaning.{settled, moving, asked}
 use Rattle.changes.specs.Asked.{takenAsked, list-passes}
 use Rattle.text_read.specs.Meaning.{scaleIn, reading, readingIn}
 use Rattle.text_read.specs.Stage.{ParsesText}

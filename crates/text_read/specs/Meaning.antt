@@ -11,7 +11,8 @@ use Rattle.scales.specs.Meaning.{andThen, inSpan, Judged, given, gives, Outcome
 use Rattle.scales.specs.declared.Scale.{Scale}
 use Rattle.scales.specs.declared.Scale.the-variants as S
 use Rattle.calendar.specs.Meaning.{isDate, dayOfDate}
-use Rattle.changes.specs.Meaning.{isUtc, moving, asked}
+use Rattle.via_tai.specs.Meaning.{isUtc}
+use Rattle.changes.specs.Meaning.{moving, asked}
 use Rattle.text_fields.specs.declared.Stamp.{Stamp}
 use Rattle.text_fields.specs.Meaning.{letter, prefixOf}
 

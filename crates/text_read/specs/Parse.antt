@@ -22,7 +22,7 @@ use Rattle.handed.specs.declared.Taken.{Taken}
 use Rattle.handed.specs.declared.Taken.the-variants as K
 use Rattle.handed.specs.Meaning.{Took}
 use Rattle.handed.specs.Told.{took-scale}
-use Rattle.changes.specs.Meaning.{isUtc}
+use Rattle.via_tai.specs.Meaning.{isUtc}
 use Rattle.changes.specs.Asked.{took-is}
 use Rattle.text_read.specs.Meaning.{hasMarks, stampIn, inLimits, isBody, isPrefixed, isPlain, hasPrefix, prefixScale, scaleIn, bodyIn, isPrefixRight, stampMicro, reading}
 use Rattle.text_read.specs.Stage.{Parses, bodyChain, ParsesBody, ParsesText}

@@ -14,7 +14,8 @@ use Rattle.handed.specs.declared.Handed.{Handed}
 use Rattle.calendar.specs.Meaning.{dateOfDay}
 use Rattle.calendar.specs.declared.Date.{Date}
 use Rattle.handed.specs.Meaning.{scaleOf, isFinite, isInSpan, momentIn}
-use Rattle.changes.specs.Meaning.{isUtc, asked}
+use Rattle.via_tai.specs.Meaning.{isUtc}
+use Rattle.changes.specs.Meaning.{asked}
 use Rattle.text_fields.specs.declared.Stamp.{Stamp}
 use Rattle.text_fields.specs.Meaning.{letter, prefixOf}
 use Rattle.text_write.specs.declared.Form.{Form}

@@ -28,7 +28,7 @@ use Rattle.handed.specs.declared.Taken.the-variants as K
 use Rattle.handed.specs.Meaning.{scaleOf, Took, takenScale}
 use Rattle.handed.specs.Told.{took-scale}
 use Rattle.leap.specs.Meaning.{accepted, hasMicro, isExpiredDay}
-use Rattle.changes.specs.Meaning.{isUtc}
+use Rattle.via_tai.specs.Meaning.{isUtc}
 use Rattle.changes.specs.Asked.{timeUsesList, takenAsked, list-lacks, handedAsked, took-is, asked-sound, slip-answer, slip-refused, lacking}
 use Rattle.text_write.specs.Meaning.{stampOf, hasImage, fullText, imaging, writeText}
 use Rattle.text_write.specs.Stage.{putting, imaged, writtenOf}

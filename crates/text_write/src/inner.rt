@@ -3,7 +3,7 @@ ghost use mathlib.Core.Path.{_≡_};
 ghost use mathlib.Core.Bool.{true, _||_};
 ghost use Rattle.scales.specs.Meaning.{wrote, inSpan, recordMoment};
 ghost use Rattle.leap.specs.Meaning.{accepted};
-ghost use Rattle.changes.specs.Meaning.{isUtc};
+ghost use Rattle.via_tai.specs.Meaning.{isUtc};
 ghost use Rattle.changes.specs.Asked.{timeUsesList};
 ghost use Rattle.text_write.specs.Meaning.{showsScale, hasImage};
 ghost use Rattle.text_write.specs.Stage.{imaged, writtenOf};

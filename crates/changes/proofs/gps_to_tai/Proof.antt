@@ -1,7 +1,8 @@
 -- `changes::gps_to_tai` meets its contract: by way of the TAI count. Assumes nothing.
 use Rattle.scales.specs.declared.Scale.the-variants as S
-use Rattle.changes.specs.Meaning.{toTai, gpsToTai}
-use Rattle.changes.specs.Ways.{way-on, way-out, way-held}
+use Rattle.via_tai.specs.Meaning.{toTai}
+use Rattle.via_tai.specs.Ways.{way-on, way-out, way-held}
+use Rattle.changes.specs.Meaning.{gpsToTai}
 use borrow.Author.Needs.{needs}
 use Rattle.changes.proofs.gps_to_tai.Statement.{statement}
 use Rattle.changes.proofs.gps_to_tai.Tie as tie

@@ -1,7 +1,8 @@
 -- `changes::tai_to_gps` meets its contract: by way of the TAI count. Assumes nothing.
 use Rattle.scales.specs.declared.Scale.the-variants as S
-use Rattle.changes.specs.Meaning.{toGps, taiToGps}
-use Rattle.changes.specs.Ways.{way-on, way-out, way-held}
+use Rattle.via_tai.specs.Meaning.{toGps}
+use Rattle.via_tai.specs.Ways.{way-on, way-out, way-held}
+use Rattle.changes.specs.Meaning.{taiToGps}
 use borrow.Author.Needs.{needs}
 use Rattle.changes.proofs.tai_to_gps.Statement.{statement}
 use Rattle.changes.proofs.tai_to_gps.Tie as tie

@@ -5,7 +5,7 @@ use borrow.Author.Tests.{eq-eqb, ne-eqb}
 use Rattle.scales.specs.Meaning.{codeOf, slip, timeScale, timeCount}
 use Rattle.scales.specs.declared.Record.{Record}
 use Rattle.scales.specs.declared.Dated.the-variants as D
-use Rattle.changes.specs.Ways.{way-held}
+use Rattle.via_tai.specs.Ways.{way-held}
 use Rattle.changes.specs.General.{uses-from, uses-to, move-stays, move-goes, move-out}
 use borrow.Author.Needs.{needs}
 use Rattle.changes.proofs.inner.change.Statement.{statement}

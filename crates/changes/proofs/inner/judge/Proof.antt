@@ -9,7 +9,8 @@ use Rattle.scales.specs.Meaning.{outcome, dated, timeScale, timeCount}
 use Rattle.scales.specs.declared.Scale.{Scale}
 use Rattle.handed.specs.declared.Taken.{Taken}
 use Rattle.handed.specs.Meaning.{takenScale}
-use Rattle.changes.specs.Meaning.{ofCount, moving}
+use Rattle.via_tai.specs.Meaning.{ofCount}
+use Rattle.changes.specs.Meaning.{moving}
 use borrow.Author.Needs.{needs}
 use Rattle.changes.proofs.inner.judge.Statement.{statement}
 use Rattle.changes.proofs.inner.judge.Tie as tie

@@ -1,6 +1,6 @@
 -- `changes::inner::time_uses_list` meets its contract: by the scale of what was taken. Assumes nothing.
 use mathlib.Core.Path.{sym, ap, _∙_}
-use Rattle.changes.specs.Meaning.{isUtc}
+use Rattle.via_tai.specs.Meaning.{isUtc}
 use borrow.Author.Needs.{needs}
 use Rattle.changes.proofs.inner.time_uses_list.Statement.{statement}
 use Rattle.changes.proofs.inner.time_uses_list.Tie as tie

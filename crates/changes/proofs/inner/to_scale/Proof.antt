@@ -1,7 +1,7 @@
 -- `changes::inner::to_scale` meets its contract, by the scale. Assumes nothing.
 use mathlib.Core.Path.{ap, _∙_}
 use mir.Facts.{toZ-ofZ}
-use Rattle.changes.specs.Meaning.{isUtc}
+use Rattle.via_tai.specs.Meaning.{isUtc}
 use borrow.Author.Needs.{needs}
 use Rattle.changes.proofs.inner.to_scale.Statement.{statement}
 use Rattle.changes.proofs.inner.to_scale.Tie as tie

@@ -7,7 +7,8 @@ use mir.Facts.{toZ-ofZ}
 use Rattle.scales.specs.Meaning.{outcome, dated, timeScale, timeCount}
 use Rattle.handed.specs.declared.Taken.{Taken}
 use Rattle.leap.specs.Meaning.{accepted}
-use Rattle.changes.specs.Meaning.{ofCount, moving}
+use Rattle.via_tai.specs.Meaning.{ofCount}
+use Rattle.changes.specs.Meaning.{moving}
 use Rattle.text_read.specs.In.{timeIn, in-outside, in-at}
 use borrow.Author.Needs.{needs}
 use Rattle.text_read.proofs.inner.time_in.Statement.{statement}

@@ -1,8 +1,8 @@
--- `changes::inner::to_gps` meets its contract. Assumes nothing.
-use Rattle.changes.specs.Ways.{gps-early, gps-late, gps-in}
+-- `via_tai::inner::to_gps` meets its contract. Assumes nothing.
 use borrow.Author.Needs.{needs}
-use Rattle.changes.proofs.inner.to_gps.Statement.{statement}
-use Rattle.changes.proofs.inner.to_gps.Tie as tie
+use Rattle.via_tai.proofs.inner.to_gps.Statement.{statement}
+use Rattle.via_tai.proofs.inner.to_gps.Tie as tie
+use Rattle.via_tai.specs.Ways.{gps-early, gps-late, gps-in}
 
 returns : tie.Need-returns
 returns c = let b = c .before .before in gps-early (b .args .c .0) (b .pre) (c .if1 .taken)

@@ -1,10 +1,10 @@
--- `changes::inner::has_micro` meets its contract. Assumes nothing.
+-- `via_tai::inner::has_micro` meets its contract. Assumes nothing.
 use mathlib.Core.Path.{_∙_}
 use Rattle.axis.specs.Meaning.{dayAt}
-use Rattle.changes.specs.Ways.{has-plain, has-sixty}
 use borrow.Author.Needs.{needs}
-use Rattle.changes.proofs.inner.has_micro.Statement.{statement}
-use Rattle.changes.proofs.inner.has_micro.Tie as tie
+use Rattle.via_tai.proofs.inner.has_micro.Statement.{statement}
+use Rattle.via_tai.proofs.inner.has_micro.Tie as tie
+use Rattle.via_tai.specs.Ways.{has-plain, has-sixty}
 
 returns : tie.Need-returns
 returns c = let a = c .before .args in has-plain (a .days .now) (dayAt (a .day)) (a .micro) (c .if1 .taken)

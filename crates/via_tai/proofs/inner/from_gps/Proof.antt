@@ -1,12 +1,12 @@
--- `changes::inner::from_gps` meets its contract. Assumes nothing.
+-- `via_tai::inner::from_gps` meets its contract. Assumes nothing.
 use mathlib.Core.Path.{refl}
 use Prim.Native.Nat.{_+_}
 use Rattle.scales.specs.declared.Scale.the-variants as S
-use Rattle.changes.specs.Meaning.{fromGps}
-use Rattle.changes.specs.Ways.{left-early, left-late, left-gps}
 use borrow.Author.Needs.{needs}
-use Rattle.changes.proofs.inner.from_gps.Statement.{statement}
-use Rattle.changes.proofs.inner.from_gps.Tie as tie
+use Rattle.via_tai.proofs.inner.from_gps.Statement.{statement}
+use Rattle.via_tai.proofs.inner.from_gps.Tie as tie
+use Rattle.via_tai.specs.Meaning.{fromGps}
+use Rattle.via_tai.specs.Ways.{left-early, left-late, left-gps}
 
 returns : tie.Need-returns
 returns c = left-early S.Gps (c .before .args .t .0) fromGps refl (c .if1 .taken)

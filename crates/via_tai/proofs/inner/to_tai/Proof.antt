@@ -1,7 +1,7 @@
--- `changes::inner::to_tai` meets its contract. Assumes nothing.
-use Rattle.changes.specs.Ways.{tai-late, tai-in}
-use Rattle.changes.proofs.inner.to_tai.Statement.{statement}
-use Rattle.changes.proofs.inner.to_tai.Tie as tie
+-- `via_tai::inner::to_tai` meets its contract. Assumes nothing.
+use Rattle.via_tai.proofs.inner.to_tai.Statement.{statement}
+use Rattle.via_tai.proofs.inner.to_tai.Tie as tie
+use Rattle.via_tai.specs.Ways.{tai-late, tai-in}
 
 returns : tie.Need-returns
 returns c = let b = c .before .before in tai-late (b .args .c .0) (b .pre) (c .if1 .taken)

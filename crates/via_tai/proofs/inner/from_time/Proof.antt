@@ -1,12 +1,12 @@
--- `changes::inner::from_time` meets its contract, by the scale. Assumes nothing.
+-- `via_tai::inner::from_time` meets its contract, by the scale. Assumes nothing.
 use mathlib.Core.Path.{ap}
 use mir.Facts.{toZ-ofZ}
 use Rattle.scales.specs.Meaning.{timeScale}
 use Rattle.scales.specs.declared.Time.{Time}
-use Rattle.changes.specs.Meaning.{isUtc}
 use borrow.Author.Needs.{needs}
-use Rattle.changes.proofs.inner.from_time.Statement.{statement}
-use Rattle.changes.proofs.inner.from_time.Tie as tie
+use Rattle.via_tai.proofs.inner.from_time.Statement.{statement}
+use Rattle.via_tai.proofs.inner.from_time.Tie as tie
+use Rattle.via_tai.specs.Meaning.{isUtc}
 
 from-utc-requires : tie.Need-from-utc-requires
 from-utc-requires c κs =

@@ -1,4 +1,4 @@
--- `changes::inner::from_utc` meets its contract. Assumes nothing.
+-- `via_tai::inner::from_utc` meets its contract. Assumes nothing.
 use mathlib.Core.Path.{_≡_, refl, sym, ap, _∙_}
 use Prim.Native.Nat.{ℕ, _+_, _*_, _/_, _%_, _<_}
 use native.Mathlib.Omega.{arith}
@@ -8,11 +8,11 @@ use Rattle.axis.specs.Meaning.{placeOfDay}
 use Rattle.scales.specs.declared.Scale.the-variants as S
 use Rattle.leap.specs.Steps.{usable}
 use Rattle.leap.specs.Whole.{offset-small}
-use Rattle.changes.specs.Meaning.{fromUtc}
-use Rattle.changes.specs.Ways.{left-early, left-late, left-expired, left-second, left-utc}
 use borrow.Author.Needs.{needs}
-use Rattle.changes.proofs.inner.from_utc.Statement.{statement}
-use Rattle.changes.proofs.inner.from_utc.Tie as tie
+use Rattle.via_tai.proofs.inner.from_utc.Statement.{statement}
+use Rattle.via_tai.proofs.inner.from_utc.Tie as tie
+use Rattle.via_tai.specs.Meaning.{fromUtc}
+use Rattle.via_tai.specs.Ways.{left-early, left-late, left-expired, left-second, left-utc}
 
 returns : tie.Need-returns
 returns c = let a = c .before .before .before .before .args in left-early S.Utc (a .t .0) (fromUtc (a .days .now) (a .offsets .now) (a .last)) refl (c .if1 .taken)

@@ -1,10 +1,10 @@
--- `changes::inner::from_tai` meets its contract. Assumes nothing.
+-- `via_tai::inner::from_tai` meets its contract. Assumes nothing.
 use mathlib.Core.Path.{refl}
 use Rattle.scales.specs.declared.Scale.the-variants as S
-use Rattle.changes.specs.Meaning.{fromTai}
-use Rattle.changes.specs.Ways.{left-early, left-late, left-tai}
-use Rattle.changes.proofs.inner.from_tai.Statement.{statement}
-use Rattle.changes.proofs.inner.from_tai.Tie as tie
+use Rattle.via_tai.proofs.inner.from_tai.Statement.{statement}
+use Rattle.via_tai.proofs.inner.from_tai.Tie as tie
+use Rattle.via_tai.specs.Meaning.{fromTai}
+use Rattle.via_tai.specs.Ways.{left-early, left-late, left-tai}
 
 returns : tie.Need-returns
 returns c = left-early S.Tai (c .before .before .args .t .0) fromTai refl (c .if1 .taken)

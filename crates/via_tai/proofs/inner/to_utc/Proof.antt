@@ -1,4 +1,4 @@
--- `changes::inner::to_utc` meets its contract. Assumes nothing.
+-- `via_tai::inner::to_utc` meets its contract. Assumes nothing.
 use mathlib.Core.Path.{_≡_, ap, _∙_}
 use Prim.Native.Nat.{ℕ, _+_, _*_, _≤_}
 use native.Mathlib.Omega.{arith}
@@ -7,10 +7,10 @@ use Rattle.axis.specs.Meaning.{placeOfDay, dayAt}
 use Rattle.leap.specs.Meaning.{offsetOn}
 use Rattle.leap.specs.Steps.{steps, usable}
 use Rattle.leap.specs.Whole.{taiAt, offset-small}
-use Rattle.changes.specs.Ways.{utc-expired, utc-early, utc-in}
 use borrow.Author.Needs.{needs}
-use Rattle.changes.proofs.inner.to_utc.Statement.{statement}
-use Rattle.changes.proofs.inner.to_utc.Tie as tie
+use Rattle.via_tai.proofs.inner.to_utc.Statement.{statement}
+use Rattle.via_tai.proofs.inner.to_utc.Tie as tie
+use Rattle.via_tai.specs.Ways.{utc-expired, utc-early, utc-in}
 
 -- the callee read the last day from its bits, and it lies in the span
 known : (c : tie.After-place-of-day) → (c .place-of-day .result ≡ placeOfDay (c .before .before .args .last)) × (c .place-of-day .result ≤ 76524)
