@@ -14,12 +14,10 @@ use scales::Dated;
 use scales::DatedGps;
 use scales::DatedTai;
 use scales::DatedUtc;
-use scales::Gps;
 use scales::Refusal;
 use scales::Scale;
 use scales::Tai;
 use scales::Time;
-use scales::Utc;
 
 // ---- a time and a scale that are known only when the program runs
 
