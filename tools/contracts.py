@@ -25,6 +25,7 @@ from tally import Tally
 PAGE = "docs/CONTRACTS.md"
 VIEWS = "tools/views.txt"
 _SPECS = re.compile(r"Rattle·(\w+?)(·specs)?\.specs\.(.+)")
+_REQUIRED = re.compile(r"\s*⌜([^⌜⌝]*)⌝\s*")
 
 HEAD = """# Contracts
 
@@ -38,7 +39,8 @@ function returns.
 INNER = """
 ## Inner functions
 
-Shared between our own crates: they may require what their callers have judged, and nobody else calls them.
+Shared between our own crates: they may require what their callers have judged, and nobody else calls them. What each
+requires stands here as in its source.
 """
 
 
@@ -146,6 +148,8 @@ def judge(repository, function):
     """What the contract of a function cites; Refused where it has another form."""
     if function.requires and not function.inner:
         raise Refused("it has a requires, and stands in no module inner")
+    if not all(map(_REQUIRED.fullmatch, function.requires)):
+        raise Refused("a requires is not of the form ⌜ .. ⌝")
     if not function.ensures:
         raise Refused("it has no ensures")
     names = [param.name for param in function.params]
@@ -192,17 +196,25 @@ def check(root):
     return report
 
 
+def required(function):
+    """What a function requires, as its source has it, for a cell of a table: there a stroke would end the cell."""
+    found = [" ".join(_REQUIRED.fullmatch(clause)[1].split()) for clause in function.requires]
+    return f"`{'; '.join(found)}`".replace("|", "\\|") if found else "nothing"
+
+
 def page(report):
     def cell(items):
         return ", ".join(dict.fromkeys(f"`{item}`" for item in items))
 
     def table(inner):
-        lines = ["", "| Function | View | Meaning | File of the meaning |", "|---|---|---|---|"]
+        heads = ["Function", *(["Requires"] if inner else []), "View", "Meaning", "File of the meaning"]
+        lines = ["", f"| {' | '.join(heads)} |", "|---" * len(heads) + "|"]
         for function, cited in report.rows:
             if function.inner == inner:
                 names = [name for one in cited for name in (one.meaning, *one.others)]
-                views = "; ".join(one.view for one in cited)
-                cells = [f"`{function.title}`", views, cell(name for name, _ in names), cell(file for _, file in names)]
+                cells = [f"`{function.title}`", *([required(function)] if inner else [])]
+                cells += ["; ".join(one.view for one in cited)]
+                cells += [cell(name for name, _ in names), cell(file for _, file in names)]
                 lines.append(f"| {' | '.join(cells)} |")
         return "\n".join(lines) + "\n" if len(lines) > 3 else ""
 

@@ -10,7 +10,8 @@ import sys
 sys.dont_write_bytecode = True
 
 import contracts
-from source import NAME, Unreadable, antt_code, closing, crates, read
+from names import Names
+from source import Unreadable, closing, crates, read
 from tally import Tally
 
 PAGE = "docs/WRONG.md"
@@ -29,8 +30,6 @@ TOLD = [
     "a step on E+1 dropped as expired",
     "the ignored window",
 ]
-_USE = re.compile(r"^use Rattle·(\w+)(?:·\w+)?\.(specs|proofs)\.([^\s{}]+?)(?:\.\{([^}]*)\}| as (\w+))\s*$", re.M)
-_WORD = re.compile(rf"(?<![^\s(){{}};,@]){NAME}(?:\.{NAME})*")
 # A theorem may be one for each value of a variable: (s : Scale) → ShutOut ..
 _SHUT = re.compile(r"\s*(?:\([^()]*:[^()]*\)\s*→\s*)*(ShutOut|ShutTake|ShutWrite)\s+")
 _LAWS = re.compile(r"crates/(\w+_laws)/(specs|proofs)/(\w+)\.antt")
@@ -54,38 +53,13 @@ def tables(text):
 
 
 class Laws:
-    """The files of the laws crates: what a word of theirs stands for, and what a theorem says."""
+    """The files of the laws crates, and what a theorem of theirs says."""
 
     def __init__(self, root):
-        self.root, self.crates, self._read = root, crates(root), {}
+        self.root, self.crates, self.names = root, crates(root), Names(root)
 
-    def _file(self, path):
-        if path not in self._read:
-            code = antt_code(read(os.path.join(self.root, path)))
-            names, others = {}, {}
-            for crate, folder, module, items, alias in _USE.findall(code):
-                file = f"crates/{crate}/{folder}/{module.replace('.', '/')}.antt"
-                others[alias] = file
-                names |= {item.strip(): (item.strip(), file) for item in items.split(",")}
-            self._read[path] = code, names, others
-        return self._read[path]
-
-    def cited(self, path, text, seen):
-        """The definitions (name, file) that a text of a file cites, also through the definitions of laws crates."""
-        _, names, others = self._file(path)
-        found = set()
-        for word in _WORD.findall(text):
-            head, _, rest = word.partition(".")
-            known = (rest, others[head]) if rest and head in others else names.get(word, (word, path))
-            if known in seen:
-                continue
-            seen.add(known)
-            found.add(known)
-            if _LAWS.fullmatch(known[1]):
-                body = rf"^( *){re.escape(known[0])}(?: [^\n=]*)? =(.*(?:\n\1 +.*)*)"
-                for _, stated in re.findall(body, self._file(known[1])[0], re.M):
-                    found |= self.cited(known[1], stated, seen)
-        return found
+    def _bodies(self, known):
+        return self.names.bodies(known) if _LAWS.fullmatch(known[1]) else []
 
     def theorem(self, path, name):
         """The definitions that the right side of a theorem cites; or Unreadable."""
@@ -95,7 +69,7 @@ class Laws:
             raise Unreadable(f"'{path}' is no file of a laws crate")
         if f"pub mod {laws[3]}" not in read(os.path.join(self.root, root)).splitlines():
             raise Unreadable(f"{root} does not declare {path}")
-        code, names, _ = self._file(path)
+        code = self.names.code(path)
         stated = re.search(rf"^( *)pub {re.escape(name)} :(.*(?:\n\1 +.*)*)", code, re.M) if name else None
         if not stated:
             raise Unreadable(f"{path} has no pub {name}")
@@ -105,12 +79,12 @@ class Laws:
             if not holder or not re.search(rf"^pub \S+ : {re.escape(holder[-1])}$", code, re.M):
                 raise Unreadable(f"{name} is a field of a record that no theorem of {path} proves")
         shut = _SHUT.match(stated[2])
-        if not shut or shut[1] == "ShutOut" and names.get("ShutOut") != SHUT_OUT:
+        if not shut or shut[1] == "ShutOut" and self.names.known(path, "ShutOut") != SHUT_OUT:
             raise Unreadable(f"the type of {name} does not begin with ShutOut")
         rest = stated[2][shut.end() :]
         right = rest[: closing(rest, 0) + 1] if rest[0] == "(" else rest.split()[0]
         # Another form than ShutOut cites the relation that it is about.
-        return self.cited(path, right if shut[1] == "ShutOut" else shut[1], set())
+        return self.names.cited(path, right if shut[1] == "ShutOut" else shut[1], self._bodies)
 
 
 def _wrong(laws, public, row):

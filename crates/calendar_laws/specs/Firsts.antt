@@ -1,6 +1,7 @@
 -- The firsts of months are the 1,537 first days that the rule gives, and no others. Assumes nothing.
-use mathlib.Core.Path.{_≡_, sym, ap, _∙_}
+use mathlib.Core.Path.{_≡_, refl, sym, ap, _∙_}
 use mathlib.Core.Bool.{true}
+use mathlib.Core.List.{List, [], _∷_}
 use Prim.Native.Nat.{ℕ, _+_, _-_, _<_, _≤_}
 use native.Mathlib.Omega.{arith}
 use lib.Dec.{eqb}
@@ -9,7 +10,8 @@ use borrow.Author.Tests.{eq-eqb, eqb-true}
 use Rattle.axis.specs.Meaning.{placeOfDay, dayAt}
 use Rattle.axis.specs.Axis.{place-day, day-place}
 use Rattle.axis.specs.Diff.{Way, way, below, above}
-use Rattle.calendar.specs.Meaning.{leap, monthLength, lengthOf, firstDay, dayAfter, walk, isFirst}
+use Rattle.scales.specs.Place.{and-both}
+use Rattle.calendar.specs.Meaning.{leap, monthLength, lengthOf, firstDay, dayAfter, walk, isFirst, allFirsts}
 use Rattle.calendar.specs.Gregorian.{first-end, first-mono, length-bounds}
 use Rattle.calendar.specs.Walk.{spotted, walk-at, walk-end}
 use Rattle.calendar.specs.Days.{after-at, first-within}
@@ -61,3 +63,24 @@ month-of-first d e = go (placeOfDay d - 29773) (first-span d e) (omega (arith, f
 
 pub month-of-first-instance : FirstOf (pos 36525)
 month-of-first-instance = month-of-first (pos 36525) first-of-month-instance
+
+-- ---- of a list of days: all are firsts exactly when each is the first of a month
+pub data FirstsOf : List ℤ → Type 0 where
+  none : FirstsOf []
+  more : {d : ℤ} {ds : List ℤ} → FirstOf d → FirstsOf ds → FirstsOf (d ∷ ds)
+
+pub all-of-months : {ds : List ℤ} → FirstsOf ds → allFirsts ds ≡ true
+all-of-months none = refl
+all-of-months (more f r) = rw (ap isFirst (f .is) ∙ first-of-month (f .month) (f .early)) (all-of-months r)
+
+pub months-of-all : (ds : List ℤ) → allFirsts ds ≡ true → FirstsOf ds
+months-of-all [] e = none
+months-of-all (d ∷ ds) e =
+    let k = and-both (isFirst d) (allFirsts ds) e in
+    more (month-of-first d (k .0)) (months-of-all ds (k .1))
+
+pub all-of-months-instance : allFirsts (pos 36525 ∷ []) ≡ true
+all-of-months-instance = all-of-months (more month-of-first-instance none)
+
+pub months-of-all-instance : FirstsOf (pos 36525 ∷ [])
+months-of-all-instance = months-of-all (pos 36525 ∷ []) all-of-months-instance

@@ -1,14 +1,15 @@
 -- Wrong desks over any correlated counter: a chain with a part to choose, and the wrong parts. What shuts each out is computed where a
 -- counter is given. Assumes nothing.
+use mathlib.Core.Path.{_≡_}
 use mathlib.Core.Bool.{Bool, true, cond}
 use Prim.Native.Nat.{ℕ, suc, _*_, _/_}
 use lib.IntN.{ℤ, pos, negsuc, subℕ, _-ℤ_}
-use Rattle.axis.specs.Meaning.{floorZ, modZ}
-use Rattle.scales.specs.Meaning.{sameScale, Slip, dated, given, gives, Outcome, outcome, resulting}
+use Rattle.axis.specs.Meaning.{floorZ, modZ, Moment}
+use Rattle.scales.specs.Meaning.{inSpan, sameScale, Slip, dated, given, gives, Outcome, outcome, resulting}
 use Rattle.scales.specs.declared.Scale.{Scale}
 use Rattle.handed.specs.declared.Handed.{Handed}
 use Rattle.handed.specs.Meaning.{scaleOf, isFinite, isInSpan, microOf}
-use Rattle.clock.specs.Meaning.{Clock, instant, momentAfter, plainMicro, receivable, time, inWindow, covers, inForce, lastCount, countAt, instantOf, hasImage}
+use Rattle.clock.specs.Meaning.{Clock, instant, momentAfter, plainMicro, receivable, elapsed, time, inWindow, covers, inForce, lastCount, countAt, instantOf, hasImage}
 use Rattle.clock_laws.proofs.Wider.{widened}
 
 -- ---- dates: a desk with another rule of force, another elapsed count, or another time of it
@@ -27,6 +28,13 @@ windowIgnored c k z = covers c z
 -- the receipt ignored
 abbrev pub receiptIgnored : Clock → ℤ → ℤ → Bool
 receiptIgnored c k z = inWindow c k
+
+-- what `Dates` tells of an answered date, but for its receipt: the desk that ignores the receipt meets it
+pub record WithoutReceipt (accepted : Bool) (c : Clock) (t : ℕ) (m : Moment) : Type 0 where
+  pub accepts : accepted ≡ true
+  pub window : inWindow c (elapsed c t) ≡ true
+  pub span : inSpan (c .scale) (m .day) (m .micro) ≡ true
+  pub is : momentAfter (c .scale) (time c (elapsed c t)) ≡ m
 
 -- back and ahead in each other's place
 abbrev pub swapped : Clock → ℤ → ℤ → Bool

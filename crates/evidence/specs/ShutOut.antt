@@ -8,6 +8,10 @@ use lib.ListN.{getD}
 abbrev pub ShutOut : {A : Type 0} → A → A → A → A → Type 0
 ShutOut right a wrong b = (right ≡ a) × (wrong ≡ b) × (right ≡ wrong → ⊥)
 
+-- a wrong program meets an older statement, and does not meet the one that stands in its place
+abbrev pub Outgrown : Type 0 → Type 0 → Type 0
+Outgrown old new = old × (new → ⊥)
+
 -- two answers are not the same where a number read off them differs
 pub differ : {A : Type 0} {x y : A} (f : A → ℕ) → (f x ≡ f y → ⊥) → x ≡ y → ⊥
 differ f d e = d (ap f e)

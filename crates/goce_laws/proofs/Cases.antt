@@ -13,7 +13,7 @@ use Rattle.scales.specs.declared.Scale.the-variants as S
 use Rattle.handed.specs.declared.Handed.{Handed}
 use Rattle.handed.specs.declared.Handed.the-variants as H
 use Rattle.scales.specs.Order.{no-answer}
-use Rattle.clock.specs.Meaning.{clock, time, inWindow, within, covers, elapsed, latest}
+use Rattle.clock.specs.Meaning.{receivable, clock, time, inWindow, within, covers, elapsed, latest}
 use Rattle.goce.specs.Meaning.{accepted, clockOf, dating, turning}
 use Rattle.goce.specs.declared.Correlation.{Correlation}
 use Rattle.goce_laws.proofs.Counts.{elapsed-one}
@@ -96,7 +96,10 @@ wide = refl
 pub sum : since (pos 0) 91 ≡ floorZ (pos 3 *ℤ pos 1000000000 +ℤ pos 3 *ℤ pos 1000000000) 65536000
 sum = exact (moved 0 3 (pos 0) 10) 3 (pos 0) 91 (at (pos 0) 91) (either-side .0)
 
--- an answer's receipt was covered, and a time that was turned back lay in the cover
+-- an answer's receipt was one of its scale and covered, and a time that was turned back lay in the cover
+pub receipt-received : receivable S.Utc (pos 0) 0 ≡ true
+receipt-received = dates (zero 10) 281474976710655 (pos 0) 0 (at (negsuc 0) 86399999984) (either-side .1) .received
+
 pub receipt-covered : covers (clockOf (zero 10)) (since (pos 0) 0) ≡ true
 receipt-covered = dates (zero 10) 281474976710655 (pos 0) 0 (at (negsuc 0) 86399999984) (either-side .1) .cover
 

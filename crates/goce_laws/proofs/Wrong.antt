@@ -1,11 +1,11 @@
 -- Wrong programs, each shut out by an input at which its answer is not the meaning's. Assumes nothing.
 use mathlib.Core.Path.{_≡_, refl}
-use mathlib.Core.Bool.{Bool, true, cond, _&&_}
+use mathlib.Core.Bool.{Bool, true, cond, _&&_, false≢true}
 use Prim.Native.Nat.{ℕ, suc, _*_, _%_, _^_}
 use native.Mathlib.Omega.{arith}
 use lib.Dec.{ltb}
 use lib.IntN.{ℤ, pos, negsuc, natAbs, _+ℤ_, _-ℤ_, _*ℤ_}
-use Rattle.evidence.specs.ShutOut.{ShutOut, differ}
+use Rattle.evidence.specs.ShutOut.{ShutOut, Outgrown, differ}
 use Rattle.axis.specs.Meaning.{floorZ}
 use Rattle.scales.specs.Meaning.{Slip, Outcome, answer, refused, given, gives, outcome, recordOf, Valued, valued}
 use Rattle.scales.specs.declared.Scale.the-variants as S
@@ -13,10 +13,11 @@ use Rattle.handed.specs.declared.Handed.{Handed}
 use Rattle.handed.specs.declared.Handed.the-variants as H
 use Rattle.handed.specs.Meaning.{isFinite, isInSpan}
 use Rattle.clock.specs.Meaning.{Clock, elapsed, clock, time, inWindow, within, covers, inForce, latest, lastCount, countAt, instantOf, hasImage}
-use Rattle.clock_laws.proofs.Desks.{dateBy, windowIgnored, receiptIgnored, unsigned, towardsZero, countBy, scaleIgnored, secondIgnored}
+use Rattle.clock_laws.proofs.Answers.{Dates}
+use Rattle.clock_laws.proofs.Desks.{dateBy, windowIgnored, receiptIgnored, WithoutReceipt, unsigned, towardsZero, countBy, scaleIgnored, secondIgnored}
 use Rattle.goce.specs.Meaning.{inLimits, isOffset, accepted, clockOf, dateOf, obtOf}
 use Rattle.goce.specs.declared.Correlation.{Correlation}
-use Rattle.goce_laws.proofs.Cases.{moved, zero, utc}
+use Rattle.goce_laws.proofs.Cases.{moved, zero, at, utc}
 use Rattle.ground_laws.proofs.Desks.{answered, empty, byNumber, byMicro}
 
 -- ---- date: a wrong desk at a correlation
@@ -103,6 +104,13 @@ pub receipt-ignored :
     (dateOn (dateBy receiptIgnored elapsed time) (zero 10) 5 (pos 1) 0) (answered S.Utc (pos 0) 76)
 unfolding dateOf accepted clock inWindow within
 receipt-ignored = (refl, refl, byNumber (λ e. omega arith))
+
+-- that date tells all that an answer tells but its receipt, and is no answer's: the receipt was not covered
+pub receipt-untold :
+    Outgrown (WithoutReceipt (accepted (zero 10)) (clockOf (zero 10)) 5 (at (pos 0) 76))
+    (Dates (accepted (zero 10)) (clockOf (zero 10)) 5 (pos 1) 0 (at (pos 0) 76))
+unfolding accepted clock inWindow within
+receipt-untold = (record { accepts = refl; window = refl; span = refl; is = refl }, λ q. false≢true (q .cover))
 
 -- a reference past the span's end accepted: UTC0 at the beginning of day 36525, the count before it
 abbrev spanIgnored : Correlation → ℕ → ℤ → ℕ → Slip

@@ -5,7 +5,7 @@ use Prim.Native.Nat.{ℕ, _≤_}
 use lib.IntN.{ℤ, pos, _*ℤ_}
 use lib.Ieee.{Float}
 use Rattle.axis.specs.Meaning.{dayMicros, Moment, momentOf}
-use Rattle.scales.specs.Meaning.{first, inSpan, momentAt, timeScale, timeCount, timeAt}
+use Rattle.scales.specs.Meaning.{first, inSpan, Judged, given, gives, refused, answer, Slip, dated, momentAt, timeScale, timeCount, timeAt}
 use Rattle.scales.specs.Place.{countOf}
 use Rattle.scales.specs.declared.Scale.{Scale}
 use Rattle.double.specs.Meaning.{Exact, finite, exactOf, under, signedOver, before, nearest}
@@ -57,6 +57,18 @@ takenOf h =
     (K.At (timeAt (scaleOf h) (countOf (scaleOf h) (dayOf h) (microOf h))))
     (K.Outside (scaleOf h)))
     (K.NotFinite (scaleOf h))
+
+-- the paper's number and values for each case: 4, then 7, or the time at its count
+abbrev pub taking : Handed → Judged Moment
+taking h =
+    given (isFinite h) 4
+    (given (isInSpan h) 7
+    (gives (momentIn h)))
+
+abbrev pub takenSlip : Taken → Slip
+takenSlip (K.NotFinite z) = dated z (refused 4)
+takenSlip (K.Outside z) = dated z (refused 7)
+takenSlip (K.At t) = dated (timeScale t) (answer (momentAt (timeScale t) (timeCount t)))
 
 -- the scale that a handed time has, whatever it is taken for
 abbrev pub takenScale : Taken → Scale

@@ -7,7 +7,7 @@ use lib.IntN.{ℤ}
 use lib.Ieee.{nan, inf, fin}
 use Rattle.axis.specs.Meaning.{placeOfDay, Moment}
 use Rattle.axis.specs.Axis.{day-place}
-use Rattle.scales.specs.Meaning.{bound, inSpan, momentAt, timeScale, timeCount, timeAt, recordOf, recordAt}
+use Rattle.scales.specs.Meaning.{bound, inSpan, answer, outcome, dated, momentAt, timeScale, timeCount, timeAt, recordOf, recordAt}
 use Rattle.scales.specs.Place.{firstAt, apart, Placed, placed, day-part, micro-part, countOf}
 use Rattle.scales.specs.Same.{time-scale, time-count}
 use Rattle.scales.specs.declared.Scale.{Scale}
@@ -18,7 +18,7 @@ use Rattle.handed.specs.declared.Handed.the-variants as H
 use Rattle.handed.specs.Signs.{place-from, place-to, day-at, micro-at}
 use Rattle.handed.specs.declared.Taken.{Taken}
 use Rattle.handed.specs.declared.Taken.the-variants as K
-use Rattle.handed.specs.Meaning.{scaleOf, isFinite, isInSpan, dayOf, microOf, takenOf, Kept, Took, takenScale}
+use Rattle.handed.specs.Meaning.{scaleOf, isFinite, isInSpan, dayOf, microOf, takenOf, Kept, Took, takenScale, takenSlip, taking}
 
 -- Any two answers that the contract of `take` allows are equal.
 pub took-one : (h : Handed) (s t : Taken) → Took h s → Took h t → s ≡ t
@@ -114,3 +114,11 @@ pub took-scale : (h : Handed) (t : Taken) → Took h t → takenScale t ≡ scal
 took-scale h (K.NotFinite z) w = told-nothing h (K.NotFinite z) w z refl .1
 took-scale h (K.Outside z) w = told-outside h (K.Outside z) w z refl .2
 took-scale h (K.At t) w = told-scale h t (told-at h (K.At t) w t refl)
+
+-- the number and the values of what was taken are those of the chain that judges it
+pub taken-is : (h : Handed) (t : Taken) → Took h t → takenSlip t ≡ dated (scaleOf h) (outcome (taking h))
+taken-is h (K.NotFinite z) w = let x = told-nothing h (K.NotFinite z) w z refl in rw (x .0, x .1)
+taken-is h (K.Outside z) w = let x = told-outside h (K.Outside z) w z refl in rw (x .0, x .1, x .2)
+taken-is h (K.At t) w =
+    let x = told-at h (K.At t) w t refl in
+    rw (x .finite, x .inside) (ap₂ (λ (s : Scale) (m : Moment). dated s (answer m)) (told-scale h t x) (told-moment h t x))

@@ -1,10 +1,11 @@
--- The published list is accepted with E = 6209 too, and what the desk hands back about its last steps is computed; the marked
+-- The published list is accepted with E = 6209 too, and its first 27 steps with E = 6000; what the desk hands back about its last steps is computed; the marked
 -- cases stand in the crate `marked`. Assumes nothing.
 use mathlib.Core.Path.{_≡_, refl}
 use mathlib.Core.Bool.{true}
 use mathlib.Core.List.{List, [], _∷_}
 use Prim.Native.Nat.{ℕ}
 use lib.IntN.{ℤ, pos, negsuc}
+use lib.ListN.{take}
 use Rattle.scales.specs.Meaning.{Slip, recordOf}
 use Rattle.scales.specs.declared.Scale.{Scale}
 use Rattle.scales.specs.declared.Scale.the-variants as S
@@ -22,6 +23,24 @@ published-6209 = refl
 pub extended : Extends publishedDays publishedOffsets (pos 6209) publishedDays publishedOffsets publishedLast
 unfolding allLater
 extended = record { moreDays = []; moreOffsets = []; days = refl; offsets = refl; further = refl; ends = refl }
+
+-- ---- the list as it was before its last step, with E = 6000: the published one extends it by a step
+abbrev pub earlierDays : List ℤ
+earlierDays = take 27 publishedDays
+
+abbrev pub earlierOffsets : List ℕ
+earlierOffsets = take 27 publishedOffsets
+
+abbrev pub earlierLast : ℤ
+earlierLast = pos 6000
+
+pub earlier : accepted earlierDays earlierOffsets earlierLast ≡ true
+unfolding leap monthLength lengthOf firstDay dayAfter daysTo walk isFirst begins risesFrom rises countsFrom countsUp noneLater accepted
+earlier = refl
+
+pub step-more : Extends earlierDays earlierOffsets earlierLast publishedDays publishedOffsets publishedLast
+unfolding allLater
+step-more = record { moreDays = pos 6210 ∷ []; moreOffsets = 37 ∷ []; days = refl; offsets = refl; further = refl; ends = refl }
 
 -- ---- what the desk hands back of a record under the published steps
 abbrev pub asked : ℤ → Scale → ℤ → ℕ → Scale → Slip

@@ -3,6 +3,8 @@ pub mod Order
 pub mod Stands
 pub mod Arrives
 pub mod Changes
+pub mod Functions
+pub mod Never
 pub mod Fresh
 pub mod Promises
 pub mod Wrong

@@ -1,7 +1,7 @@
 -- Any line of any bytes gets exactly one line of output. Assumes nothing.
 use mathlib.Core.Path.{_≡_, refl, ap, _∙_}
 use mathlib.Core.Bool.{Bool, true, false, cond, not, _&&_}
-use mathlib.Core.List.{List, [], _∷_, append-nil, append-assoc}
+use mathlib.Core.List.{List, [], _∷_, _++_, append-nil, append-assoc}
 use Prim.Native.Nat.{ℕ, zero, suc, _+_, _-_, _*_, _/_, _%_}
 use native.Mathlib.Omega.{arith}
 use lib.Dec.{eqb, ltb}
@@ -49,25 +49,39 @@ told-clean (refused n) = go (ltb n 10)
     go false = rw (from-48 (n / 10 % 10), from-48 (n % 10))
 told-clean (answer m) = simp (from-48, letters)
 
+-- ---- a desk that tells an outcome for each line: the lines of what it prints are what it tells, in order
+module _ (tells : List ℕ → Outcome Moment) where
+  abbrev pub printedBy : List (List ℕ) → List ℕ
+  printedBy [] = []
+  printedBy (l ∷ ls) = (told (tells l) ++ (10 ∷ [])) ++ printedBy ls
+
+  abbrev pub textsBy : List (List ℕ) → List (List ℕ)
+  textsBy [] = []
+  textsBy (l ∷ ls) = told (tells l) ∷ textsBy ls
+
+  pub each-by : (ls : List (List ℕ)) → linesOf (printedBy ls) ≡ textsBy ls
+  unfolding linesOf
+  each-by [] = refl
+  each-by (l ∷ ls) =
+      let t = told (tells l) in
+      ap linesOf (append-assoc t (10 ∷ []) (printedBy ls))
+      ∙ begun-lines t (10 ∷ printedBy ls) (begun t (told-clean (tells l)))
+      ∙ before-first t [] (linesOf (printedBy ls))
+      ∙ ap (λ (x : List ℕ). x ∷ linesOf (printedBy ls)) (append-nil t)
+      ∙ ap (λ (x : List (List ℕ)). t ∷ x) (each-by ls)
+
 -- ---- the lines of the output are what is printed for the lines of the input, in order
 abbrev pub texts : List (List ℕ) → List (List ℕ)
-texts [] = []
-texts (l ∷ ls) = told (dates l) ∷ texts ls
+texts ls = textsBy dates ls
 
-each : (ls : List (List ℕ)) → linesOf (printed ls) ≡ texts ls
-unfolding linesOf answers answerTo
-each [] = refl
-each (l ∷ ls) =
-    let t = told (dates l) in
-    ap linesOf (append-assoc t (10 ∷ []) (printed ls))
-    ∙ begun-lines t (10 ∷ printed ls) (begun t (told-clean (dates l)))
-    ∙ before-first t [] (linesOf (printed ls))
-    ∙ ap (λ (x : List ℕ). x ∷ linesOf (printed ls)) (append-nil t)
-    ∙ ap (λ (x : List (List ℕ)). t ∷ x) (each ls)
+printed-by : (ls : List (List ℕ)) → printed ls ≡ printedBy dates ls
+unfolding answers answerTo
+printed-by [] = refl
+printed-by (l ∷ ls) = ap (λ (x : List ℕ). (told (dates l) ++ (10 ∷ [])) ++ x) (printed-by ls)
 
 pub one-each : (input : List ℕ) → linesOf (desk input) ≡ texts (linesOf input)
 unfolding desk
-one-each input = each (linesOf input)
+one-each input = ap linesOf (printed-by (linesOf input)) ∙ each-by dates (linesOf input)
 
 pub as-many : (input : List ℕ) → length (linesOf (desk input)) ≡ length (linesOf input)
 as-many input = ap length (one-each input) ∙ same (linesOf input)

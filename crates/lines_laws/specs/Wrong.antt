@@ -1,17 +1,27 @@
 -- Wrong programs for a block of lines and for what is kept between two, each shut out by an input at which its answer is not the
 -- meaning's. Assumes nothing.
-use mathlib.Core.Path.{refl}
+use mathlib.Core.Path.{_≡_, refl, sym, _∙_}
 use mathlib.Core.List.{List, [], _∷_, _++_}
 use Prim.Native.Nat.{ℕ, _-_}
 use native.Mathlib.Omega.{arith}
-use lib.ListN.{length, getD}
+use lib.ListN.{length, getD, take}
 use lib.Seq.{slice}
-use Rattle.evidence.specs.ShutOut.{ShutOut, differ}
+use Rattle.evidence.specs.ShutOut.{ShutOut, Outgrown, differ}
+use Rattle.axis.specs.Meaning.{Moment}
 use Rattle.octets.specs.Meaning.{onto}
+use Rattle.scales.specs.Meaning.{Judged, given, gives, Outcome, refused, outcome}
+use Rattle.scales.specs.declared.Scale.{Scale}
 use Rattle.ground_laws.proofs.Desks.{sevens}
-use Rattle.leap.specs.Meaning.{publishedDays, publishedOffsets, publishedLast}
+use Rattle.calendar.specs.Meaning.{leap, monthLength, lengthOf, firstDay, isDate, dayAfter, dayOfDate}
+use Rattle.leap.specs.Meaning.{isStep, publishedDays, publishedOffsets, publishedLast}
+use Rattle.leap.specs.Published.{published}
+use Rattle.text_fields.specs.Meaning.{names, letter, prefixOf}
+use Rattle.text_fields.specs.declared.Stamp.{Stamp}
+use Rattle.text_read.specs.Meaning.{digitOf, twoOf, fourOf, sixOf, isNamed, seek, monthNamed, hasMarks, microIn, stampIn, inLimits, hasPrefix, scaleIn, bodyIn, isPrefixRight, isBody, stampMoment, stampSpans}
 use Rattle.lines.specs.Meaning.{linesOf, refusedText, answerTo, answers, wholeIn, bytesIn, Done, roomFor, dateLines, kept, Kept, moved, keep}
 use Rattle.lines_laws.specs.Computed.{one, refusedOne}
+use Rattle.lines_laws.specs.Each.{printedBy, textsBy, each-by}
+use Rattle.lines_laws.specs.First.{textJudging, lineJudging, hasList, isCurrent, hasSecond, inTai, resultInSpan}
 
 -- ---- date_lines: a desk with another choice of the lines that it dates
 abbrev dateBy : (List ℕ → ℕ → List (List ℕ)) → List ℕ → List ℕ → Done
@@ -49,6 +59,52 @@ pub lines-nothing-written :
     (writesNothing one (sevens 32)) (record { consumed = 2; written = 10; bytes = sevens 32 })
 unfolding dateLines roomFor wholeIn bytesIn answers answerTo refusedText onto
 lines-nothing-written = (refl, refl, differ (λ (d : Done). getD (d .bytes) 0 0) (λ e. omega arith))
+
+-- the second judged before the list's last day: 31-DEC-2025 23:59:60 has no second 60, and its day is after E = 9131
+abbrev secondFirst : Scale → Stamp → Judged Moment
+secondFirst z t =
+    given (hasList publishedDays publishedOffsets publishedLast z) 5
+    (given (stampSpans z t) 7
+    (given (hasSecond publishedDays publishedOffsets publishedLast z (stampMoment t)) 10
+    (given (isCurrent publishedDays publishedOffsets publishedLast z (stampMoment t)) 9
+    (given (resultInSpan publishedDays publishedOffsets publishedLast z (stampMoment t)) 11
+    (gives (inTai publishedDays publishedOffsets publishedLast z (stampMoment t)))))))
+
+abbrev another : List ℕ → Outcome Moment
+another s = outcome (textJudging secondFirst s)
+
+-- where there is room for all lines
+abbrev dateAnother : List ℕ → List ℕ → Done
+dateAnother input out =
+    let a = printedBy another (wholeIn input) in
+    record { consumed = bytesIn (wholeIn input); written = length a; bytes = onto a out }
+
+abbrev late : List ℕ
+late = 51 ∷ 49 ∷ 45 ∷ 68 ∷ 69 ∷ 67 ∷ 45 ∷ 50 ∷ 48 ∷ 50 ∷ 53 ∷ 32 ∷ 50 ∷ 51 ∷ 58 ∷ 53 ∷ 57 ∷ 58 ∷ 54 ∷ 48 ∷ 10 ∷ []
+
+-- 9 is the first that applies, and it prints 10
+pub prints-another :
+    ShutOut (dateLines late (sevens 32)) (record { consumed = 21; written = 10; bytes = refusedText 9 ++ (10 ∷ sevens 22) })
+    (dateAnother late (sevens 32)) (record { consumed = 21; written = 11; bytes = refusedText 10 ++ (10 ∷ sevens 21) })
+unfolding dateLines roomFor wholeIn bytesIn answers answerTo refusedText onto isPrefixRight isBody scaleIn bodyIn hasPrefix prefixOf hasMarks stampIn microIn inLimits digitOf twoOf fourOf sixOf monthNamed seek isNamed letter names isDate dayOfDate dayAfter firstDay lengthOf monthLength leap isStep
+prints-another = (rw published, rw published, differ (λ (d : Done). d .written) (rw published (λ e. omega arith)))
+
+-- it too answers each line by one line, and its number is not the first that applies
+abbrev lateLine : List ℕ
+lateLine = take 20 late
+
+late-another : another lateLine ≡ refused 10
+unfolding isPrefixRight isBody scaleIn bodyIn hasPrefix prefixOf hasMarks stampIn microIn inLimits digitOf twoOf fourOf sixOf monthNamed seek isNamed letter names isDate dayOfDate dayAfter firstDay lengthOf monthLength leap isStep
+late-another = rw published
+
+late-first : outcome (lineJudging publishedDays publishedOffsets publishedLast lateLine) ≡ refused 9
+unfolding isPrefixRight isBody scaleIn bodyIn hasPrefix prefixOf hasMarks stampIn microIn inLimits digitOf twoOf fourOf sixOf monthNamed seek isNamed letter names isDate dayOfDate dayAfter firstDay lengthOf monthLength leap isStep
+late-first = rw published
+
+pub another-number :
+    Outgrown ((ls : List (List ℕ)) → linesOf (printedBy another ls) ≡ textsBy another ls)
+    ((s : List ℕ) → outcome (lineJudging publishedDays publishedOffsets publishedLast s) ≡ another s)
+another-number = (each-by another, λ w. let q = sym late-first ∙ w lateLine ∙ late-another in let z : _≡_ {A = ℕ} 9 10 = cc in omega arith)
 
 -- ---- keep
 -- a line that has begun is kept whole, however long: the next block finds no room

@@ -1,6 +1,9 @@
--- The marked cases hold, all in one computation. Assumes nothing.
+-- The marked cases hold, all in one computation, and they are the paper's ten. Assumes nothing.
 use mathlib.Core.Path.{_≡_, refl}
-use mathlib.Core.List.{map}
+use mathlib.Core.Bool.{cond}
+use mathlib.Core.List.{List, [], _∷_, map}
+use Prim.Native.Nat.{ℕ}
+use lib.Dec.{eqb}
 use Rattle.decimal.specs.Meaning.{readOf}
 use Rattle.clock.specs.Meaning.{inWindow, within, clock}
 use Rattle.sbt.specs.Meaning.{dateOf, accepted}
@@ -17,3 +20,13 @@ use Rattle.marked.specs.Table.{Row, table}
 pub marked : map (λ (r : Row). r .meaning) table ≡ map (λ (r : Row). r .paper) table
 unfolding number Cuc.read Proteus.read Siral.read readOf dateOf accepted inWindow within clock changeOf L.accepted begins risesFrom rises countsFrom countsUp noneLater through isStep isFirst walk daysTo dayAfter firstDay lengthOf monthLength leap
 marked = refl
+
+-- ---- no case is left out: a case's rows stand together, and a number beside the same one is a repeat
+abbrev pub withoutRepeats : List ℕ → List ℕ
+withoutRepeats [] = []
+withoutRepeats (n ∷ []) = n ∷ []
+withoutRepeats (n ∷ m ∷ ns) = cond (eqb n m) (withoutRepeats (m ∷ ns)) (n ∷ withoutRepeats (m ∷ ns))
+
+-- "The ten marked cases", in the paper's order
+pub ten-cases : withoutRepeats (map (λ (r : Row). r .case) table) ≡ 1 ∷ 2 ∷ 3 ∷ 4 ∷ 5 ∷ 6 ∷ 7 ∷ 8 ∷ 9 ∷ 10 ∷ []
+ten-cases = refl

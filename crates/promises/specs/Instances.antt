@@ -1,7 +1,7 @@
 -- Each theorem with hypotheses at an input that meets them, where the conclusion is an answer. Assumes nothing.
 use mathlib.Core.Path.{_≡_, refl, sym, ap, _∙_}
 use mathlib.Core.Bool.{true}
-use mathlib.Core.List.{[], _∷_}
+use mathlib.Core.List.{List, [], _∷_}
 use lib.ListN.{drop}
 use Prim.Native.Nat.{ℕ}
 use native.Mathlib.Omega.{arith}
@@ -13,22 +13,24 @@ use Rattle.scales.specs.Meaning.{Outcome, answer, dated, order, recordOf, value
 use Rattle.scales.specs.declared.Scale.the-variants as S
 use Rattle.double.specs.Meaning.{plusZero}
 use Rattle.handed.specs.declared.Handed.the-variants as H
-use Rattle.leap.specs.Meaning.{publishedDays, publishedOffsets, publishedLast}
+use Rattle.calendar.specs.Meaning.{leap, monthLength, lengthOf, firstDay, dayAfter, daysTo, walk, isDate, dateOfDay, dayOfDate}
+use Rattle.leap.specs.Meaning.{through, isStep, publishedDays, publishedOffsets, publishedLast}
+use Rattle.leap.specs.Walk.{or-false}
 use Rattle.leap.specs.Published.{published}
-use Rattle.changes.specs.Meaning.{changeOf}
-use Rattle.leap_laws.proofs.Computed.{published-6209, extended, computed}
+use Rattle.leap_laws.proofs.Computed.{earlierDays, earlierOffsets, earlierLast, earlier, step-more}
 use Rattle.layout_times.specs.Cuc as Cuc
 use Rattle.layout_times.specs.Cryosat as Cryosat
-use Rattle.text_read.specs.Meaning.{readText}
-use Rattle.text_write.specs.Meaning.{writeText}
-use Rattle.text_laws.specs.Computed.{reads, sixty, read-early, blank, write-early}
+use Rattle.text_fields.specs.Meaning.{names, letter, prefixOf}
+use Rattle.text_read.specs.Meaning.{digitOf, twoOf, fourOf, sixOf, isNamed, seek, monthNamed, hasMarks, microIn, stampIn, inLimits, hasPrefix, scaleIn, bodyIn, isPrefixRight, isBody, readText}
+use Rattle.text_write.specs.Meaning.{textOf}
+use Rattle.text_laws.specs.Computed.{blank}
 use Rattle.sbt.specs.Meaning as Sbt
 use Rattle.sbt_laws.proofs.Cases.{marked, either-side}
 use Rattle.sbt_laws.proofs.Wider.{widened}
 use Rattle.goce.specs.Meaning as Goce
 use Rattle.goce_laws.proofs.Cases as GoceCases
 use Rattle.goce_laws.proofs.Wider as GoceWider
-use Rattle.promises.specs.Meaning.{lengthIsNone}
+use Rattle.promises.specs.Conditions.{lengthIsNone}
 use Rattle.promises.specs.First.{exactly}
 use Rattle.promises.specs.One.{cuc-read, cuc-write}
 use Rattle.promises.specs.Two.{cuc-time, proteus-time, cryosat-time, siral-time}
@@ -46,9 +48,11 @@ pub refusal-instance : Cuc.read [] ≡ record { number = 1; scale = S.Gps; day =
 unfolding Cuc.read
 refusal-instance = cuc-read [] .empty (λ q. omega arith)
 
-pub exactly-instance : lengthIsNone (Cuc.reading []) ≡ true
-unfolding Cuc.read
-exactly-instance = exactly (cuc-read []) [] (drop 1 order) 1 refl .0 refl .1
+-- "1 input length is none of the layout's": given exactly then
+pub exactly-instance : (s : List ℕ) → (Cuc.read s .number ≡ 1 → lengthIsNone 6 s ≡ true) × (lengthIsNone 6 s ≡ true → Cuc.read s .number ≡ 1)
+exactly-instance s =
+    let k = exactly (cuc-read s) [] (drop 1 order) 1 refl in
+    (λ q. sym (or-false (lengthIsNone 6 s)) ∙ k .0 q .1, λ q. k .1 refl (or-false (lengthIsNone 6 s) ∙ q))
 
 pub kept-instance : Cuc.write (H.Record (recordOf S.Tai (pos 0) 0)) (9 ∷ []) ≡ record { number = 12; length = 0; lent = 9 ∷ [] }
 unfolding Cuc.write
@@ -72,7 +76,7 @@ pub siral-time-instance : since (pos 2) 32 ≡ since Cryosat.epoch 172800000032
 unfolding number
 siral-time-instance = siral-time (0 ∷ 1 ∷ 5 ∷ 38 ∷ 91 ∷ 255 ∷ 3 ∷ 231 ∷ 0 ∷ 16 ∷ []) (record { day = pos 2; micro = 32 }) refl
 
--- ---- demand 3: the published steps with E = 6209 and with E = 9131, and windows of 10 ticks and 10 counts widened
+-- ---- demand 3: the first 27 steps with E = 6000 and the published list, and windows of 10 ticks and 10 counts widened
 accepts : Sbt.accepted (marked 10) ≡ true
 unfolding Sbt.accepted
 accepts = refl
@@ -89,47 +93,58 @@ goce-wider : Goce.accepted (GoceWider.widened (GoceCases.zero 10) 11 12) ≡ tru
 unfolding Goce.accepted
 goce-wider = refl
 
-pub paper-instance : FreshPaper publishedDays publishedOffsets (pos 6209) publishedDays publishedOffsets publishedLast (marked 10) 11 12 (GoceCases.zero 10) 11 12
+pub paper-instance : FreshPaper earlierDays earlierOffsets earlierLast publishedDays publishedOffsets publishedLast (marked 10) 11 12 (GoceCases.zero 10) 11 12
 paper-instance =
-    old-dates-stay publishedDays publishedOffsets (pos 6209) publishedDays publishedOffsets publishedLast published-6209 published extended
+    old-dates-stay earlierDays earlierOffsets earlierLast publishedDays publishedOffsets publishedLast earlier published step-more
     (marked 10) 11 12 (lit≤ tt) (lit≤ tt) accepts wider (GoceCases.zero 10) 11 12 (lit≤ tt) (lit≤ tt) goce-accepts goce-wider
 
--- UTC=31-DEC-2016 23:59:60.000000 was an answer, and stays
-pub sixty-instance : reads sixty ≡ dated S.Utc (answer (record { day = pos 6209; micro = 86400000000 }))
-sixty-instance = paper-instance .texts .read sixty (λ q. let z : _≡_ {A = ℕ} 0 9 = (λ i. sym read-early i .number) ∙ q in omega arith) ∙ read-early
+-- UTC=30-JUN-2015 23:59:60.000000, the last second 60 of the 27 steps
+abbrev june : List ℕ
+june =
+    85 ∷ 84 ∷ 67 ∷ 61 ∷ 51 ∷ 48 ∷ 45 ∷ 74 ∷ 85 ∷ 78 ∷ 45 ∷ 50 ∷ 48 ∷ 49 ∷ 53 ∷ 32 ∷ 50 ∷ 51 ∷ 58 ∷ 53 ∷ 57 ∷ 58 ∷ 54 ∷ 48 ∷ 46 ∷ 48 ∷ 48 ∷ 48 ∷ 48 ∷ 48
+    ∷ 48 ∷ []
+
+read-earlier : readText june earlierDays earlierOffsets earlierLast ≡ dated S.Utc (answer (record { day = pos 5659; micro = 86400000000 }))
+unfolding readText isPrefixRight isBody scaleIn bodyIn hasPrefix prefixOf hasMarks stampIn microIn inLimits digitOf twoOf fourOf sixOf monthNamed seek isNamed letter names isDate dayOfDate dayAfter firstDay lengthOf monthLength leap isStep
+read-earlier = rw earlier
+
+-- it was an answer, and stays
+pub sixty-instance : readText june publishedDays publishedOffsets publishedLast ≡ dated S.Utc (answer (record { day = pos 5659; micro = 86400000000 }))
+sixty-instance = paper-instance .texts .read june (λ q. let z : _≡_ {A = ℕ} 0 9 = (λ i. sym read-earlier i .number) ∙ q in omega arith) ∙ read-earlier
 
 -- ---- the same for C
 abbrev handed : ℕ → ℤ → ℕ → VrkHanded
 handed scale d u = record { kind = 0; scale = scale; day = d; micro = u; decimal = plusZero }
 
 -- the last microsecond of that second 60, in TAI
-changed-early : CApi.changed (handed 1 (pos 6209) 86400999999) 0 publishedDays publishedOffsets (pos 6209) ≡ record { refusal = 0; scale = 0; day = pos 6210; micro = 36999999 }
-unfolding CApi.changed changeOf
-changed-early = ap CApi.timeOut (computed .last-second)
+changed-earlier : CApi.changed (handed 1 (pos 5659) 86400999999) 0 earlierDays earlierOffsets earlierLast ≡ record { refusal = 0; scale = 0; day = pos 5660; micro = 35999999 }
+unfolding CApi.changed through isStep
+changed-earlier = rw earlier
 
 pub change-for-c-instance :
-    CApi.changed (handed 1 (pos 6209) 86400999999) 0 publishedDays publishedOffsets publishedLast ≡ record { refusal = 0; scale = 0; day = pos 6210; micro = 36999999 }
+    CApi.changed (handed 1 (pos 5659) 86400999999) 0 publishedDays publishedOffsets publishedLast ≡ record { refusal = 0; scale = 0; day = pos 5660; micro = 35999999 }
 change-for-c-instance =
-    change-for-c publishedDays publishedOffsets (pos 6209) publishedDays publishedOffsets publishedLast published-6209 published extended (handed 1 (pos 6209) 86400999999) 0
-    (λ q. let z : _≡_ {A = ℕ} 0 9 = (λ i. sym changed-early i .refusal) ∙ q in omega arith)
-    ∙ changed-early
+    change-for-c earlierDays earlierOffsets earlierLast publishedDays publishedOffsets publishedLast earlier published step-more (handed 1 (pos 5659) 86400999999) 0
+    (λ q. let z : _≡_ {A = ℕ} 0 9 = (λ i. sym changed-earlier i .refusal) ∙ q in omega arith)
+    ∙ changed-earlier
 
-pub text-read-for-c-instance : CApi.timeOut (reads sixty) ≡ CApi.timeOut (readText sixty publishedDays publishedOffsets (pos 6209))
+pub text-read-for-c-instance : CApi.timeOut (readText june publishedDays publishedOffsets publishedLast) ≡ record { refusal = 0; scale = 1; day = pos 5659; micro = 86400000000 }
 text-read-for-c-instance =
-    text-read-for-c publishedDays publishedOffsets (pos 6209) publishedDays publishedOffsets publishedLast published-6209 published extended sixty
-    (λ q. let z : _≡_ {A = ℕ} 0 9 = (λ i. sym read-early i .number) ∙ q in omega arith)
+    text-read-for-c earlierDays earlierOffsets earlierLast publishedDays publishedOffsets publishedLast earlier published step-more june
+    (λ q. let z : _≡_ {A = ℕ} 0 9 = (λ i. sym read-earlier i .number) ∙ q in omega arith)
+    ∙ ap CApi.timeOut read-earlier
 
 -- the second 60 itself, written in the longest form
-written-early : Bytes.writes (Bytes.handedWriting (Texts.textWriting 31 publishedDays publishedOffsets (pos 6209)) (handed 1 (pos 6209) 86400000000)) blank ≡ record { number = 0; length = 31; lent = sixty }
-unfolding Bytes.writes writeText
-written-early = write-early
+written-earlier : Bytes.writes (Bytes.handedWriting (Texts.textWriting 31 earlierDays earlierOffsets earlierLast) (handed 1 (pos 5659) 86400000000)) blank ≡ record { number = 0; length = 31; lent = june }
+unfolding Bytes.writes textOf prefixOf letter names dateOfDay daysTo dayAfter walk firstDay lengthOf monthLength leap isStep
+written-earlier = rw earlier
 
 pub text-write-for-c-instance :
-    Bytes.writes (Bytes.handedWriting (Texts.textWriting 31 publishedDays publishedOffsets publishedLast) (handed 1 (pos 6209) 86400000000)) blank ≡ record { number = 0; length = 31; lent = sixty }
+    Bytes.writes (Bytes.handedWriting (Texts.textWriting 31 publishedDays publishedOffsets publishedLast) (handed 1 (pos 5659) 86400000000)) blank ≡ record { number = 0; length = 31; lent = june }
 text-write-for-c-instance =
-    text-write-for-c publishedDays publishedOffsets (pos 6209) publishedDays publishedOffsets publishedLast published-6209 published extended (handed 1 (pos 6209) 86400000000) 31 blank
-    (λ q. let z : _≡_ {A = ℕ} 0 9 = (λ i. sym written-early i .number) ∙ q in omega arith)
-    ∙ written-early
+    text-write-for-c earlierDays earlierOffsets earlierLast publishedDays publishedOffsets publishedLast earlier published step-more (handed 1 (pos 5659) 86400000000) 31 blank
+    (λ q. let z : _≡_ {A = ℕ} 0 9 = (λ i. sym written-earlier i .number) ∙ q in omega arith)
+    ∙ written-earlier
 
 -- marked case 8: tick 0 adds 3,906, and the time gives the tick
 abbrev reference : VrkSbtCorrelation

@@ -1,8 +1,14 @@
 pub mod Meaning
 pub mod First
+pub mod Conditions
+pub mod Rows
+pub mod Judging
 pub mod One
 pub mod OneForC
+pub mod Refusals
+pub mod Never
 pub mod Two
 pub mod Three
+pub mod Wrong
 pub mod Instances
 pub mod All

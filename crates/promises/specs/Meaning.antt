@@ -1,5 +1,6 @@
--- Demand 1, said once for every function: its number is that of the first row of the slip that applies, and a number other than 0
--- comes with the empty values and the same lent bytes. Assumes nothing.
+-- Demand 1, said once for every function: what it judges are these rows, each a number and a condition on what is handed in; its number
+-- is that of the first row that applies in the slip's order, and a number other than 0 comes with the empty values and the same lent
+-- bytes. Assumes nothing.
 use mathlib.Core.Path.{_≡_}
 use mathlib.Core.Bool.{Bool, false, cond, not, _&&_, _||_}
 use mathlib.Core.List.{List, [], _∷_}
@@ -7,70 +8,15 @@ use Prim.Native.Nat.{ℕ}
 use lib.Dec.{eqb}
 use Rattle.scales.specs.Meaning.{Judged, given, gives, Outcome, refused, answer, order}
 
--- ---- the rows of the slip, each as a condition on what a function judges
--- a test beside the number n fails
-abbrev pub applies : {A : Type 0} → Judged A → ℕ → Bool
-applies (given t m rest) n = (eqb m n && not t) || applies rest n
-applies (gives a) n = false
+-- ---- what a function judges, as rows: each test's number, and whether the test fails
+abbrev pub tests : {A : Type 0} → Judged A → List (ℕ × Bool)
+tests (given t n rest) = (n, not t) ∷ tests rest
+tests (gives a) = []
 
-module _ {A : Type 0} (j : Judged A) where
-  -- "1 input length is none of the layout's"
-  abbrev pub lengthIsNone : Bool
-  lengthIsNone = applies j 1
-
-  -- "2 marker byte or zero bits wrong"
-  abbrev pub markerWrong : Bool
-  markerWrong = applies j 2
-
-  -- "3 a field over its limit, bad character, date not in the calendar"
-  abbrev pub fieldOver : Bool
-  fieldOver = applies j 3
-
-  -- "4 decimal day infinite or not a number"
-  abbrev pub decimalNotFinite : Bool
-  decimalNotFinite = applies j 4
-
-  -- "5 leap list not accepted, where one is used"
-  abbrev pub listNotAccepted : Bool
-  listNotAccepted = applies j 5
-
-  -- "6 correlation not accepted"
-  abbrev pub correlationNotAccepted : Bool
-  correlationNotAccepted = applies j 6
-
-  -- "7 input time or receipt outside its span"
-  abbrev pub outsideSpan : Bool
-  outsideSpan = applies j 7
-
-  -- "8 correlation not in force"
-  abbrev pub notInForce : Bool
-  notInForce = applies j 8
-
-  -- "9 leap list expired"
-  abbrev pub listExpired : Bool
-  listExpired = applies j 9
-
-  -- "10 UTC second that its day lacks"
-  abbrev pub secondLacking : Bool
-  secondLacking = applies j 10
-
-  -- "11 result outside its scale's span"
-  abbrev pub resultOutside : Bool
-  resultOutside = applies j 11
-
-  -- "12 time has no image"
-  abbrev pub noImage : Bool
-  noImage = applies j 12
-
-  -- "13 output slice shorter than the image"
-  abbrev pub outputShorter : Bool
-  outputShorter = applies j 13
-
-  -- the table, row by row
-  abbrev pub rows : List Bool
-  rows =
-      lengthIsNone ∷ markerWrong ∷ fieldOver ∷ decimalNotFinite ∷ listNotAccepted ∷ correlationNotAccepted ∷ outsideSpan ∷ notInForce ∷ listExpired ∷ secondLacking
-      ∷ resultOutside ∷ noImage ∷ outputShorter ∷ []
+-- a row with the number n applies
+abbrev pub applies : List (ℕ × Bool) → ℕ → Bool
+applies [] n = false
+applies (r ∷ rs) n = (eqb (r .0) n && r .1) || applies rs n
 
 -- ---- the first of some numbers that applies, and 0 where none does
 abbrev pub firstOf : List ℕ → (ℕ → Bool) → ℕ
@@ -82,7 +28,24 @@ pub record Kind {A R : Type 0} (hand : Outcome A → R) (number : R → ℕ) : T
   pub of-refusal : (n : ℕ) → number (hand (refused n)) ≡ n
   pub of-answer : (a : A) → number (hand (answer a)) ≡ 0
 
--- the promise: of what r is handed back for a function that judges j
-pub record Promise {A R : Type 0} (hand : Outcome A → R) (number : R → ℕ) (r : R) (j : Judged A) : Type 0 where
-  pub first : number r ≡ firstOf order (applies j)
+-- the promise: of what r is handed back for a function that judges j, by its rows
+pub record Promise {A R : Type 0} (hand : Outcome A → R) (number : R → ℕ) (r : R) (j : Judged A) (rows : List (ℕ × Bool)) : Type 0 where
+  pub judges : tests j ≡ rows
+  pub first : number r ≡ firstOf order (applies rows)
   pub empty : (number r ≡ 0 → ⊥) → r ≡ hand (refused (number r))
+
+-- ---- the numbers of some rows, without repeats and in the slip's order: what a function can refuse with
+abbrev pub member : ℕ → List ℕ → Bool
+member n [] = false
+member n (o ∷ os) = eqb n o || member n os
+
+abbrev pub numbersIn : List (ℕ × Bool) → List ℕ
+numbersIn [] = []
+numbersIn (r ∷ rs) = r .0 ∷ numbersIn rs
+
+abbrev pub among : List ℕ → List ℕ → List ℕ
+among [] ns = []
+among (o ∷ os) ns = cond (member o ns) (o ∷ among os ns) (among os ns)
+
+abbrev pub refusals : List (ℕ × Bool) → List ℕ
+refusals rows = among order (numbersIn rows)

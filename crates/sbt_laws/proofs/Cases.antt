@@ -13,7 +13,7 @@ use Rattle.scales.specs.declared.Scale.the-variants as S
 use Rattle.handed.specs.declared.Handed.{Handed}
 use Rattle.handed.specs.declared.Handed.the-variants as H
 use Rattle.scales.specs.Order.{no-answer}
-use Rattle.clock.specs.Meaning.{clock, time, inWindow, within, covers, elapsed, latest}
+use Rattle.clock.specs.Meaning.{receivable, clock, time, inWindow, within, covers, elapsed, latest}
 use Rattle.sbt.specs.Meaning.{accepted, clockOf, dating, turning}
 use Rattle.sbt.specs.declared.Correlation.{Correlation}
 use Rattle.sbt_laws.proofs.Counts.{elapsed-one}
@@ -91,9 +91,12 @@ wide : accepted (widened (marked 10) 11 12) ≡ true
 unfolding accepted
 wide = refl
 
--- an answer is time(k); its receipt was covered, and a time that was turned back lay in the cover
+-- an answer is time(k); its receipt was one of its scale and covered, and a time that was turned back lay in the cover
 pub exactly-time : since (negsuc 0) 86399996093 ≡ time (clockOf (marked 10)) (elapsed (clockOf (marked 10)) 4294967294)
 exactly-time = exact (marked 10) 4294967294 (pos 0) 0 (at (negsuc 0) 86399996093) (either-side .1)
+
+pub receipt-received : receivable S.Tai (pos 0) 0 ≡ true
+receipt-received = dates (marked 10) 4294967294 (pos 0) 0 (at (negsuc 0) 86399996093) (either-side .1) .received
 
 pub receipt-covered : covers (clockOf (marked 10)) (since (pos 0) 0) ≡ true
 receipt-covered = dates (marked 10) 4294967294 (pos 0) 0 (at (negsuc 0) 86399996093) (either-side .1) .cover

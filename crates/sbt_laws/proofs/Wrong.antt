@@ -1,19 +1,20 @@
 -- Wrong programs, each shut out by an input at which its answer is not the meaning's. Assumes nothing.
 use mathlib.Core.Path.{_≡_, refl}
-use mathlib.Core.Bool.{Bool}
+use mathlib.Core.Bool.{Bool, false≢true}
 use Prim.Native.Nat.{ℕ}
 use native.Mathlib.Omega.{arith}
 use lib.IntN.{ℤ, pos, negsuc}
-use Rattle.evidence.specs.ShutOut.{ShutOut, differ}
+use Rattle.evidence.specs.ShutOut.{ShutOut, Outgrown, differ}
 use Rattle.scales.specs.Meaning.{Slip, Outcome, answer, refused, recordOf, Valued, valued}
 use Rattle.scales.specs.declared.Scale.the-variants as S
 use Rattle.handed.specs.declared.Handed.{Handed}
 use Rattle.handed.specs.declared.Handed.the-variants as H
 use Rattle.clock.specs.Meaning.{Clock, elapsed, clock, time, inWindow, within, inForce, latest}
-use Rattle.clock_laws.proofs.Desks.{dateBy, windowIgnored, receiptIgnored, swapped, unsigned, towardsZero, countBy, scaleIgnored, secondIgnored, forceFirst}
+use Rattle.clock_laws.proofs.Answers.{Dates}
+use Rattle.clock_laws.proofs.Desks.{dateBy, windowIgnored, receiptIgnored, WithoutReceipt, swapped, unsigned, towardsZero, countBy, scaleIgnored, secondIgnored, forceFirst}
 use Rattle.sbt.specs.Meaning.{accepted, clockOf, dateOf, tickOf}
 use Rattle.sbt.specs.declared.Correlation.{Correlation}
-use Rattle.sbt_laws.proofs.Cases.{marked, autumn, utc}
+use Rattle.sbt_laws.proofs.Cases.{marked, at, autumn, utc}
 use Rattle.ground_laws.proofs.Desks.{answered, empty, byNumber, byMicro}
 
 -- ---- date: a wrong desk at a correlation
@@ -33,6 +34,13 @@ pub receipt-ignored :
     (dateOn (dateBy receiptIgnored elapsed time) autumn 4078800897 (pos 3356) 9600000000) (answered S.Tai (pos 3161) 80384000000)
 unfolding dateOf accepted clock inWindow within
 receipt-ignored = (refl, refl, byNumber (λ e. omega arith))
+
+-- that date tells all that an answer tells but its receipt, and is no answer's: the receipt was not covered
+pub receipt-untold :
+    Outgrown (WithoutReceipt (accepted autumn) (clockOf autumn) 4078800897 (at (pos 3161) 80384000000))
+    (Dates (accepted autumn) (clockOf autumn) 4078800897 (pos 3356) 9600000000 (at (pos 3161) 80384000000))
+unfolding accepted clock inWindow within
+receipt-untold = (record { accepts = refl; window = refl; span = refl; is = refl }, λ q. false≢true (q .cover))
 
 -- the elapsed count from 0 to 2^32 - 1: the tick before the reference is refused
 pub count-unsigned :

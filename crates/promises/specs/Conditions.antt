@@ -1,0 +1,184 @@
+-- The rows of the refusal slip as conditions on what is handed in, in the paper's words: each says when its number is due. Assumes
+-- nothing.
+use mathlib.Core.Bool.{Bool, not, _&&_, _||_}
+use mathlib.Core.List.{List}
+use Prim.Native.Nat.{ℕ, _/_, _%_, _^_}
+use lib.Dec.{eqb, leb, ltb}
+use lib.IntN.{ℤ, pos, negsuc}
+use lib.Ieee.{Float}
+use lib.ListN.{length}
+use lib.Signed.{leZ}
+use Rattle.axis.specs.Meaning.{Moment, dayMicros}
+use Rattle.scales.specs.Meaning.{inSpan, sameScale, first, last}
+use Rattle.scales.specs.declared.Scale.{Scale}
+use Rattle.scales.specs.declared.Scale.the-variants as S
+use Rattle.calendar.specs.Meaning.{isDate, dayOfDate}
+use Rattle.calendar.specs.declared.Date.{Date}
+use Rattle.double.specs.Meaning.{finite, exactOf}
+use Rattle.handed.specs.declared.Handed.{Handed}
+use Rattle.handed.specs.Meaning.{spans, scaleOf, isFinite, isInSpan, dayOf, microOf}
+use Rattle.leap.specs.Meaning as Leap
+use Rattle.clock.specs.Meaning.{Clock, receivable, elapsed, instant, instantOf, inWindow, covers, plainMicro}
+use Rattle.sbt.specs.Meaning as Sbt
+use Rattle.sbt.specs.declared.Correlation.{Correlation}
+use Rattle.goce.specs.Meaning as Goce
+use Rattle.goce.specs.declared.Correlation as GoceDeclared
+use Rattle.layout_fields.specs.Meaning.{part}
+use Rattle.text_read.specs.Meaning.{isPrefixRight, scaleIn, bodyIn, hasMarks, stampIn, inLimits, stampMoment}
+use Rattle.text_write.specs.Meaning.{showsScale, hasMicros}
+use Rattle.text_write.specs.declared.Form.{Form}
+use Rattle.c_api.specs.declared.VrkHanded.{VrkHanded}
+
+-- ---- "1 input length is none of the layout's"
+abbrev pub lengthIsNone : ℕ → List ℕ → Bool
+lengthIsNone n s = not (eqb (length s) n)
+
+-- "(20 characters), with .uuuuuu (27), with RRR= before either (24, 31)"
+abbrev pub textLengthIsNone : List ℕ → Bool
+textLengthIsNone s = not ((eqb (length s) 24 || eqb (length s) 31) || (eqb (length s) 20 || eqb (length s) 27))
+
+-- ---- "2 marker byte or zero bits wrong"
+-- "one byte equal to 66 hexadecimal"
+abbrev pub markerWrong : List ℕ → Bool
+markerWrong s = not (eqb (part s 0 1) 102)
+
+-- "week 12 bits, three zero bits, H3"
+abbrev pub zeroBitsWrong : List ℕ → Bool
+zeroBitsWrong s = not (eqb (part s 0 2 / 2 % 8) 0)
+
+-- ---- "3 a field over its limit, bad character, date not in the calendar"
+-- "second of week .. (at most 604,799)"; a week of 12 bits
+abbrev pub secondOver : ℕ → Bool
+secondOver second = not (leb second 604799)
+
+abbrev pub weekOver : ℕ → ℕ → Bool
+weekOver week second = not (ltb week (2 ^ 12) && leb second 604799)
+
+-- "millisecond .. (below 86,400,000), microsecond .. (below 1,000)"
+abbrev pub dayTimeOver : ℕ → ℕ → Bool
+dayTimeOver milli micro = not (ltb milli 86400000 && ltb micro 1000)
+
+-- "kept as a 48-bit count", "kept as a 56-bit count"
+abbrev pub countOver : ℕ → ℕ → Bool
+countOver bits n = not (ltb n (2 ^ bits))
+
+abbrev pub noDate : Date → Bool
+noDate t = not (isDate t)
+
+-- another prefix, a mark that is none, a field that is no number or over its limit, a date that the Gregorian rule lacks
+abbrev pub textWrong : List ℕ → Bool
+textWrong s =
+    let body = bodyIn s in
+    not (isPrefixRight s && (hasMarks body && (inLimits (scaleIn s) (stampIn body) && isDate (stampIn body .date))))
+
+-- for C: a code that stands for nothing, or a number that its field cannot hold
+abbrev pub scaleUnknown : ℕ → Bool
+scaleUnknown c = not (leb c 2)
+
+abbrev pub handedUnknown : VrkHanded → Bool
+handedUnknown h = not (leb (h .scale) 2 && leb (h .kind) 1)
+
+abbrev pub changeUnknown : ℕ → VrkHanded → Bool
+changeUnknown c h = not (leb c 2 && (leb (h .scale) 2 && leb (h .kind) 1))
+
+abbrev pub formUnknown : ℕ → Bool
+formUnknown n = not (eqb n 20 || (eqb n 24 || (eqb n 27 || eqb n 31)))
+
+abbrev pub bitUnknown : ℕ → Bool
+bitUnknown b = not (leb b 1)
+
+abbrev pub fits : ℕ → Bool
+fits n = ltb n (2 ^ 16)
+
+-- ---- "4 decimal day infinite or not a number"
+abbrev pub notFinite : Float → Bool
+notFinite x = not (finite x)
+
+abbrev pub decimalNotFinite : Handed → Bool
+decimalNotFinite h = not (isFinite h)
+
+-- ---- "5 leap list not accepted, where one is used"
+abbrev pub listNotAccepted : Bool → List ℤ → List ℕ → ℤ → Bool
+listNotAccepted used ds os e = used && not (Leap.accepted ds os e)
+
+-- ---- "6 correlation not accepted"
+abbrev pub sbtNotAccepted : Correlation → Bool
+sbtNotAccepted c = not (Sbt.accepted c)
+
+abbrev pub goceNotAccepted : GoceDeclared.Correlation → Bool
+goceNotAccepted c = not (Goce.accepted c)
+
+-- ---- "7 input time or receipt outside its span"
+abbrev pub outsideSpan : Scale → Moment → Bool
+outsideSpan s m = not (inSpan s (m .day) (m .micro))
+
+abbrev pub timeOutside : Handed → Bool
+timeOutside h = not (isInSpan h)
+
+-- "The span is judged on the exact value before rounding"
+abbrev pub doubleOutside : Float → Scale → Bool
+doubleOutside x s = not (spans s (exactOf x))
+
+abbrev pub dayOutside : ℤ → Bool
+dayOutside d = not (leZ (first S.Tai) d && leZ d (last S.Tai))
+
+abbrev pub yearOutside : Date → Bool
+yearOutside t = not (leb 1972 (t .year) && leb (t .year) 2099)
+
+-- "a real date outside the span gets 7": one outside the calendar's has no day
+abbrev pub textOutside : List ℕ → Bool
+textOutside s =
+    let t = stampIn (bodyIn s) in
+    not (eqb (dayOfDate (t .date) .number) 0 && inSpan (scaleIn s) (stampMoment t .day) (stampMoment t .micro))
+
+-- "a day and a microsecond below 86,400,000,000 in the correlation's scale (7 otherwise)"
+abbrev pub receiptOutside : Clock → ℤ → ℕ → Bool
+receiptOutside c d u = not (receivable (c .scale) d u)
+
+-- ---- "8 correlation not in force": "in force when k is from -b to a and the receipt is from time(-b) to time(a)"
+abbrev pub notInForce : Clock → ℕ → ℤ → ℕ → Bool
+notInForce c t d u = not (inWindow c (elapsed c t) && covers c (instant (c .scale) d u))
+
+-- "A time of another scale, or in second 60, gets 12, and 8 is not judged for it"
+abbrev pub noCount : Clock → Handed → Bool
+noCount c h = not (sameScale (scaleOf h) (c .scale) && plainMicro (scaleOf h) (microOf h))
+
+abbrev pub notCovered : Clock → Handed → Bool
+notCovered c h = not (noCount c h) && not (covers c (instantOf h))
+
+-- ---- "9 leap list expired", where one is used
+abbrev pub dayExpired : Bool → ℤ → Moment → Bool
+dayExpired used e m = used && Leap.isExpiredDay e (m .day)
+
+abbrev pub taiExpired : List ℤ → List ℕ → ℤ → ℤ → Bool
+taiExpired ds os e c = Leap.isExpiredTai ds os e c
+
+-- ---- "10 UTC second that its day lacks"
+abbrev pub secondLacking : Bool → List ℤ → Moment → Bool
+secondLacking used ds m = used && not (Leap.hasMicro ds (m .day) (m .micro))
+
+-- ---- "11 result outside its scale's span"
+abbrev pub resultOutside : Scale → Moment → Bool
+resultOutside s m = not (inSpan s (m .day) (m .micro))
+
+-- ---- "12 time has no image: wrong scale, leap second in Proteus, decimal or a UTC correlation, microseconds in a short text, day or
+-- week the field cannot hold"
+abbrev pub wrongScale : Scale → Handed → Bool
+wrongScale s h = not (sameScale s (scaleOf h))
+
+abbrev pub noWeek : Handed → Bool
+noWeek h = not (sameScale S.Utc (scaleOf h) && (leZ (negsuc 7299) (dayOf h) && (leZ (dayOf h) (pos 21371) && ltb (microOf h) dayMicros)))
+
+abbrev pub noDay : Handed → Bool
+noDay h = not (sameScale S.Tai (scaleOf h) && leZ (pos 0) (dayOf h))
+
+abbrev pub inSecond60 : Handed → Bool
+inSecond60 h = not (ltb (microOf h) dayMicros)
+
+-- unprefixed forms are UTC; "A nonzero microsecond is not written to a form without one"
+abbrev pub noText : Form → Handed → Bool
+noText f h = not ((showsScale f || sameScale (scaleOf h) S.Utc) && (hasMicros f || eqb (microOf h % 1000000) 0))
+
+-- ---- "13 output slice shorter than the image"
+abbrev pub outputShorter : ℕ → List ℕ → Bool
+outputShorter n out = not (leb n (length out))

@@ -1,0 +1,118 @@
+-- The tests of a chain are the rows of `Rows` where they are not so by computing: a chain asks the opposite of a row's condition, or
+-- something by scale or by form. Assumes nothing.
+use mathlib.Core.Path.{_≡_, refl, ap, ap₂, _∙_}
+use mathlib.Core.Bool.{Bool, true, false, cond, not, _&&_, _||_}
+use mathlib.Core.List.{List, [], _∷_, _++_}
+use Prim.Native.Nat.{ℕ, _+_}
+use lib.IntN.{ℤ, _+ℤ_}
+use lib.ListN.{length, length-append}
+use Rattle.axis.specs.Meaning.{Moment, since}
+use Rattle.scales.specs.Meaning.{Judged, gives, sameScale, inSpan, momentAt}
+use Rattle.scales.specs.declared.Scale.{Scale}
+use Rattle.scales.specs.declared.Scale.the-variants as S
+use Rattle.handed.specs.declared.Handed.{Handed}
+use Rattle.handed.specs.Meaning.{scaleOf, isInSpan, momentIn}
+use Rattle.leap.specs.Meaning.{seconds, accepted, isExpiredDay, isExpiredTai}
+use Rattle.via_tai.specs.Meaning.{isUtc, ofCount}
+use Rattle.changes.specs.Meaning as Changes
+use Rattle.clock.specs.Meaning as Clock
+use Rattle.text_fields.specs.Meaning.{prefixOf}
+use Rattle.text_read.specs.Meaning as TextRead
+use Rattle.text_write.specs.Meaning as TextWrite
+use Rattle.text_write.specs.Image.{prefix-length}
+use Rattle.text_write.specs.declared.Form.{Form}
+use Rattle.text_write.specs.declared.Form.the-variants as F
+use Rattle.lines_laws.specs.First.{inTai, lineJudging}
+use Rattle.promises.specs.Meaning.{tests}
+use Rattle.promises.specs.Conditions as C
+use Rattle.promises.specs.Rows as Rows
+
+not-not : (b : Bool) → not (not b) ≡ b
+not-not true = refl
+not-not false = refl
+
+image-length : (f : Form) (z : Scale) (m : Moment) → length (TextWrite.imageOf f z m) ≡ Rows.formLength f
+unfolding TextWrite.textOf
+image-length F.Plain z m = refl
+image-length F.Micros z m = refl
+image-length F.Prefixed z m = length-append (prefixOf z) _ ∙ ap (λ (n : ℕ). n + 20) (prefix-length z)
+image-length F.PrefixedMicros z m = length-append (prefixOf z) _ ∙ ap (λ (n : ℕ). n + 27) (prefix-length z)
+
+module _ (ds : List ℤ) (os : List ℕ) (e : ℤ) where
+  -- ---- the nine changes
+  moving-rows : (s to : Scale) (inside : Bool) (m : Moment) → tests (Changes.moving s to ds os e inside m) ≡ Rows.moving s to ds os e (not inside) m
+  moving-rows S.Tai S.Tai inside m = refl
+  moving-rows S.Tai S.Utc inside m = rw (not-not (isExpiredTai ds os e (since (m .day) (m .micro))))
+  moving-rows S.Tai S.Gps inside m = refl
+  moving-rows S.Utc S.Tai inside m = rw (not-not (isExpiredDay e (m .day)))
+  moving-rows S.Utc S.Utc inside m = rw (not-not (isExpiredDay e (m .day)))
+  moving-rows S.Utc S.Gps inside m = rw (not-not (isExpiredDay e (m .day)))
+  moving-rows S.Gps S.Tai inside m = refl
+  moving-rows S.Gps S.Utc inside m = rw (not-not (isExpiredTai ds os e (since (m .day) (m .micro) +ℤ seconds 19)))
+  moving-rows S.Gps S.Gps inside m = refl
+
+  list-row : (used : Bool) → not (not used || accepted ds os e) ≡ C.listNotAccepted used ds os e
+  list-row true = refl
+  list-row false = refl
+
+  pub change-rows : (h : Handed) (to : Scale) → tests (Changes.changing h to ds os e) ≡ Rows.change h to ds os e
+  change-rows h to =
+      ap₂ (λ (b : Bool) (rs : List (ℕ × Bool)). (4, C.decimalNotFinite h) ∷ (5, b) ∷ rs)
+      (list-row (isUtc (scaleOf h) || isUtc to)) (moving-rows (scaleOf h) to (isInSpan h) (momentIn h))
+
+  -- ---- the four by a list
+  pub list-rows : (s to : Scale) (n : ℕ)
+      → tests (Changes.withList ds os e (ofCount s n (Changes.moving s to ds os e))) ≡ Rows.byList s to n ds os e
+  list-rows s to n =
+      let m = momentAt s n in
+      ap (λ (rs : List (ℕ × Bool)). (5, C.listNotAccepted true ds os e) ∷ rs) (moving-rows s to (inSpan s (m .day) (m .micro)) m)
+
+  -- ---- what a list is asked for a time that stays in its scale
+  asked-rows : {A : Type 0} (z : Scale) (inside : Bool) (m : Moment) (rest : Judged A)
+      → tests (Changes.asked z ds os e inside m rest) ≡ Rows.asked z ds os e (not inside) m ++ tests rest
+  asked-rows S.Tai inside m rest = refl
+  asked-rows S.Utc inside m rest = rw (not-not (isExpiredDay e (m .day)))
+  asked-rows S.Gps inside m rest = refl
+
+  -- ---- texts
+  pub text-read-rows : (s : List ℕ) → tests (TextRead.reading s ds os e) ≡ Rows.textRead s ds os e
+  unfolding TextRead.isBody
+  text-read-rows s =
+      let t = TextRead.stampIn (TextRead.bodyIn s) in
+      let z = TextRead.scaleIn s in
+      ap (λ (rs : List (ℕ × Bool)). (1, C.textLengthIsNone s) ∷ (3, C.textWrong s) ∷ rs)
+      (asked-rows z (TextRead.stampSpans z t) (TextRead.stampMoment t) (gives (TextRead.stampMoment t)))
+
+  -- a line is judged by the same tests, and then by its TAI result
+  pub line-rows : (s : List ℕ) → tests (lineJudging ds os e s) ≡ Rows.line ds os e s
+  unfolding TextRead.isBody
+  line-rows s =
+      let t = TextRead.stampIn (TextRead.bodyIn s) in
+      let z = TextRead.scaleIn s in
+      ap₂ (λ (rs : List (ℕ × Bool)) (b : Bool). (1, C.textLengthIsNone s) ∷ (3, C.textWrong s) ∷ (rs ++ ((11, b) ∷ [])))
+      (asked-rows z (TextRead.stampSpans z t) (TextRead.stampMoment t) (gives (TextRead.stampMoment t)))
+      (go z (inTai ds os e z (TextRead.stampMoment t)))
+    where
+      go : (z : Scale) (m : Moment) → not (sameScale z S.Tai || inSpan S.Tai (m .day) (m .micro)) ≡ not (sameScale z S.Tai) && C.resultOutside S.Tai m
+      go S.Tai m = refl
+      go S.Utc m = refl
+      go S.Gps m = refl
+
+  pub text-write-rows : (h : Handed) (f : Form) (out : List ℕ) → tests (TextWrite.writing h f ds os e out) ≡ Rows.textWrite h f ds os e out
+  text-write-rows h f out =
+      let z = scaleOf h in
+      let m = momentIn h in
+      ap (λ (rs : List (ℕ × Bool)). (4, C.decimalNotFinite h) ∷ rs)
+      (asked-rows z (isInSpan h) m (TextWrite.imaging f z m out)
+      ∙ ap (λ (n : ℕ). Rows.asked z ds os e (C.timeOutside h) m ++ ((12, C.noText f h) ∷ (13, C.outputShorter n out) ∷ [])) (image-length f z m))
+
+-- ---- back to a count: 8 is judged of a time that has an image
+pub turning-rows : (accepted : Bool) (c : Clock.Clock) (h : Handed)
+    → tests (Clock.turning accepted c h) ≡ (4, C.decimalNotFinite h) ∷ (6, not accepted) ∷ Rows.turning c h
+turning-rows accepted c h =
+    ap (λ (b : Bool). (4, C.decimalNotFinite h) ∷ (6, not accepted) ∷ (7, C.timeOutside h) ∷ (8, b) ∷ (12, C.noCount c h) ∷ [])
+    (go (Clock.hasImage (c .scale) h) (Clock.covers c (Clock.instantOf h)))
+  where
+    go : (has covered : Bool) → not (cond has covered true) ≡ not (not has) && not covered
+    go true covered = refl
+    go false covered = refl
