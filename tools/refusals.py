@@ -38,7 +38,7 @@ class Refuses:
     numbers: tuple  # in the order of judging
 
 
-def _lines(root, file):
+def lines(root, file):
     """The lines with their numbers, comments taken off."""
     for number, line in enumerate(read(os.path.join(root, file)).splitlines(), 1):
         line = re.sub(r"(^|\s)#.*", "", line).strip()
@@ -49,7 +49,7 @@ def _lines(root, file):
 def refusals(root):
     """The refusals, in the order of their places."""
     found = []
-    for where, line in _lines(root, LIST):
+    for where, line in lines(root, LIST):
         match = re.fullmatch(r"(\d+)\s+(\d+)\s+(\w+)(?:\s+(.*))?", line)
         if not match or not re.fullmatch(r"(?:[A-Z][a-z0-9]+)+", match[3]):
             raise Unreadable(f"{where}: a number, a place, a name such as NotInForce and words are due, not '{line}'")
@@ -88,7 +88,7 @@ def _image(where, text, function):
 def by_function(root, interface, listed):
     """Each function's Refuses, in the order of the table."""
     places, found = {one.number: one.place for one in listed}, {}
-    for where, line in _lines(root, TABLE):
+    for where, line in lines(root, TABLE):
         match = re.fullmatch(r"(\w+)\s+(\S+)\s+(-|\d+(?:\s+\d+)*)", line)
         if not match:
             raise Unreadable(f"{where}: a function, its image and its refusals are due, not '{line}'")

@@ -7,12 +7,8 @@ from itertools import zip_longest
 from refusals import refusals
 from source import read
 
-CODE, MEANING, PROMISES = "crates/scales/src/lib.rt", "crates/scales/specs/Meaning.antt", "crates/promises/specs/Meaning.antt"
+CODE, MEANING, CONDITIONS = "crates/scales/src/lib.rt", "crates/scales/specs/Meaning.antt", "crates/promises/specs/Conditions.antt"
 README, RULES = "README.md", "docs/RULES.md"
-
-
-def _small(name):
-    return name[0].lower() + name[1:]
 
 
 def _below(heading, page):
@@ -23,7 +19,7 @@ def _below(heading, page):
 
 def found(texts, listed):
     """What the files say: a title, what stands there and what is due. The list is in the order of the numbers."""
-    code, meaning, promises, readme, rules = texts
+    code, meaning, conditions, readme, rules = texts
     judged = sorted(listed, key=lambda one: one.place)
     cases = re.search(r"pub enum Refusal \{(.*?)\}", code, re.S)
     yield "the cases of Refusal", re.findall(r"\w+", cases[1]) if cases else [], [one.name for one in listed]
@@ -32,14 +28,10 @@ def found(texts, listed):
     yield "numberOf", re.findall(r"^numberOf R\.(\w+) = (\d+)$", meaning, re.M), numbers
     order = re.search(r"^order = (.*) ∷ \[\]$", meaning, re.M)
     yield "the order", order[1].split(" ∷ ") if order else [], [str(one.number) for one in judged]
-    rows = re.findall(r"^  -- \"(\d+) (.*)\"\n  abbrev pub (\w+) : Bool\n  (\w+) = applies j (\d+)$", promises, re.M)
-    # The paper's words may say more than the list's.
-    short = [(number, words.split(", where")[0], *rest) for number, words, *rest in rows]
-    due = [(str(one.number), one.words, _small(one.name), _small(one.name), str(one.number)) for one in listed]
-    yield "the rows of the slip", short, due
-    table = re.search(r"^  rows =\s(.*?) ∷ \[\]$", promises, re.M | re.S)
-    yield "their table", re.split(r"\s+∷\s+", table[1].strip()) if table else [], [_small(one.name) for one in judged]
     said = [(str(one.number), one.words) for one in judged]
+    # The paper's words may say more than the list's.
+    heads = re.findall(r"^-- ---- \"(\d+) ([^\":\n]+)", conditions, re.M)
+    yield "the conditions of the slip", [(number, words.split(", where")[0]) for number, words in heads], said
     # Two columns, of which the left one comes first; words have single spaces between.
     block = re.findall(r"^    .*", _below("The refusals", readme), re.M)
     lines = [re.findall(r" (\d+)  (\S+(?: \S+)*)", line) for line in block]
@@ -54,8 +46,8 @@ FAULTS = {
     "another number of the meaning": (1, r"(numberOf R.NotInForce = )8", r"\g<1>9"),
     "another order": (1, r"order = 1 ∷ 2", "order = 2 ∷ 1"),
     "other words": (2, r"correlation not in force", "correlation out of force"),
-    "another row": (2, r"(notInForce = applies j )8", r"\g<1>9"),
-    "a row less in the table": (2, r"lengthIsNone ∷ markerWrong", "markerWrong"),
+    "another number of the conditions": (2, r"(-- ---- \")8 ", r"\g<1>9 "),
+    "no condition": (2, r"-- ---- \"9 leap list expired\".*\n", ""),
     "a refusal less in the list": (3, r" 8  correlation not in force\n", "\n"),
     "other words in the list": (3, r"leap list expired\n", "leap list ended\n"),
     "another number in the list": (3, r" 9  leap list expired\n", " 8  leap list expired\n"),
@@ -66,7 +58,7 @@ FAULTS = {
 
 def check(tally, root):
     listed = sorted(refusals(root), key=lambda one: one.number)
-    texts = [read(os.path.join(root, path)) for path in (CODE, MEANING, PROMISES, README, RULES)]
+    texts = [read(os.path.join(root, path)) for path in (CODE, MEANING, CONDITIONS, README, RULES)]
     for title, have, due in found(texts, listed):
         tally.expect(f"refusals: {title} is that of refusals.txt", have == due, str(have))
     for what, (at, pattern, new) in FAULTS.items():

@@ -4,10 +4,9 @@ use mathlib.Core.Path.{_≡_, refl, sym, ap, subst, _∙_}
 use mathlib.Core.Bool.{true}
 use mathlib.Core.List.{List}
 use Prim.Native.Nat.{ℕ, _+_, _*_, _/_, _<_, _≤_}
-use lib.Dec.{lit<}
 use lib.IntN.{ℤ}
 use Rattle.axis.specs.Meaning.{placeOfDay, Moment, dayMicros}
-use Rattle.scales.specs.Meaning.{andThen, Judged, Outcome, refused, answer, outcome, Slip, dated, recordAt, momentAt}
+use Rattle.scales.specs.Meaning.{andThen, Judged, answer, outcome, Slip, dated, recordAt, momentAt}
 use Rattle.scales.specs.Order.{numbered}
 use Rattle.scales.specs.declared.Scale.{Scale}
 use Rattle.scales.specs.declared.Scale.the-variants as S

@@ -1,13 +1,13 @@
 -- A TAI count from the first step on that is not expired has its UTC in the span, and so has every GPS time: GPS to UTC is never refused
 -- 11. Assumes nothing.
 use mathlib.Core.Path.{_≡_, sym, ap, _∙_}
-use mathlib.Core.Bool.{Bool, true, false}
+use mathlib.Core.Bool.{true, false}
 use mathlib.Core.List.{List}
 use Prim.Native.Nat.{ℕ, _+_, _*_, _<_, _≤_}
 use native.Mathlib.Omega.{arith}
 use lib.IntN.{ℤ, _+ℤ_}
 use borrow.Author.Tests.{leb-false}
-use Rattle.axis.specs.Meaning.{placeOfDay, dayAt, microsAt, Moment, dayMicros, since}
+use Rattle.axis.specs.Meaning.{placeOfDay, microsAt, Moment, dayMicros, since}
 use Rattle.axis.specs.Axis.{since-at, micros-add, day-place}
 use Rattle.scales.specs.Meaning.{inSpan}
 use Rattle.scales.specs.declared.Scale.the-variants as S

@@ -1,24 +1,32 @@
--- Every theorem that docs/PROMISES.md names, and no other: a name that is not proved is refused here. Assumes nothing.
-use Rattle.calendar_laws.specs.Firsts.{first-of-month, month-of-first}
+-- Made by tools/promises.py --write: every theorem that docs/PROMISES.md names. One that is not proved is refused here.
+use Rattle.leap.specs.Published.{published}
+use Rattle.calendar_laws.specs.Firsts.{all-of-months, months-of-all}
 use Rattle.calendar_laws.specs.Undo.{date-of-day, day-of-date, has-date}
 use Rattle.decimal_laws.proofs.Trip.{later as decimal-laws-trip-later, trip}
-use Rattle.decimal_laws.proofs.Unique.{nearest-one}
-use Rattle.leap.specs.Published.{published}
-use Rattle.leap_laws.proofs.Changes.{later as leap-laws-changes-later, only, round, the-one}
+use Rattle.decimal_laws.proofs.Unique.{wrote-one}
+use Rattle.leap_laws.proofs.Functions.{later as leap-laws-functions-later, only, the-one, undoes}
 use Rattle.sbt_laws.proofs.Answers.{dates as sbt-laws-answers-dates, exact as sbt-laws-answers-exact, turns as sbt-laws-answers-turns}
+use Rattle.sbt_laws.proofs.Cases.{night, receipt-covered as sbt-laws-cases-receipt-covered, receipt-received as sbt-laws-cases-receipt-received}
+use Rattle.sbt_laws.proofs.Night.{no-wrap as sbt-laws-night-no-wrap, received-after as sbt-laws-night-received-after, received-before as sbt-laws-night-received-before}
 use Rattle.sbt_laws.proofs.Trips.{little-earlier as sbt-laws-trips-little-earlier, never-later as sbt-laws-trips-never-later, record-back as sbt-laws-trips-record-back, same-tick}
 use Rattle.goce_laws.proofs.Answers.{dates as goce-laws-answers-dates, exact as goce-laws-answers-exact, turns as goce-laws-answers-turns}
+use Rattle.goce_laws.proofs.Cases.{receipt-covered as goce-laws-cases-receipt-covered, receipt-received as goce-laws-cases-receipt-received}
+use Rattle.goce_laws.proofs.Night.{no-wrap as goce-laws-night-no-wrap, received-after as goce-laws-night-received-after, received-before as goce-laws-night-received-before}
 use Rattle.goce_laws.proofs.Trips.{little-earlier as goce-laws-trips-little-earlier, never-later as goce-laws-trips-never-later, record-back as goce-laws-trips-record-back, same-count}
 use Rattle.layout_laws.proofs.Back.{cryosat-again, cuc-again, proteus-again, siral-again}
 use Rattle.layout_laws.proofs.Fields.{cryosat-exact, cuc-exact, goce-exact, obet-exact, proteus-exact, sbt-exact, siral-exact}
 use Rattle.layout_laws.proofs.Times.{cryosat-same, cuc-last, proteus-last, siral-same}
 use Rattle.text_laws.specs.Back.{none-refused, read-back}
+use Rattle.lines_laws.specs.Calls.{dated, kept-for}
 use Rattle.lines_laws.specs.Each.{one-each}
-use Rattle.lines_laws.specs.Run.{any-blocks, block, kept-is}
-use Rattle.marked.proofs.Marked.{marked}
+use Rattle.lines_laws.specs.First.{line-outcome}
+use Rattle.lines_laws.specs.Run.{any-blocks}
+use Rattle.c_api_laws.proofs.One.{decimal-one}
+use Rattle.marked.proofs.Marked.{marked, ten-cases}
 use Rattle.promises.specs.First.{exactly, first-is, first-then, promised, then-first}
 use Rattle.promises.specs.Instances.{change-for-c-instance, cryosat-time-instance, cuc-time-instance, date-for-c-instance, exactly-instance, goce-count-for-c-instance, goce-date-for-c-instance, kept-instance, paper-instance, proteus-time-instance, refusal-instance, siral-time-instance, sixty-instance, text-read-for-c-instance, text-write-for-c-instance, tick-for-c-instance}
-use Rattle.promises.specs.One.{change as promises-one-change, cryosat-fields-read as promises-one-cryosat-fields-read, cryosat-fields-write as promises-one-cryosat-fields-write, cryosat-read as promises-one-cryosat-read, cryosat-write as promises-one-cryosat-write, cuc-fields-read as promises-one-cuc-fields-read, cuc-fields-write as promises-one-cuc-fields-write, cuc-read as promises-one-cuc-read, cuc-write as promises-one-cuc-write, date-of, day-of, decimal-read as promises-one-decimal-read, decimal-write, goce-count as promises-one-goce-count, goce-date as promises-one-goce-date, goce-read as promises-one-goce-read, goce-write, gps-to-tai, gps-to-utc, obet-read as promises-one-obet-read, obet-write, proteus-fields-read as promises-one-proteus-fields-read, proteus-fields-write as promises-one-proteus-fields-write, proteus-read as promises-one-proteus-read, proteus-write as promises-one-proteus-write, record-judged, sbt-date as promises-one-sbt-date, sbt-read as promises-one-sbt-read, sbt-tick as promises-one-sbt-tick, sbt-write, siral-fields-read as promises-one-siral-fields-read, siral-fields-write as promises-one-siral-fields-write, siral-read as promises-one-siral-read, siral-write as promises-one-siral-write, tai-to-gps, tai-to-utc, text-read as promises-one-text-read, text-write as promises-one-text-write, utc-to-gps, utc-to-tai}
-use Rattle.promises.specs.OneForC.{change as promises-one-for-c-change, cryosat-fields-read as promises-one-for-c-cryosat-fields-read, cryosat-fields-write as promises-one-for-c-cryosat-fields-write, cryosat-read as promises-one-for-c-cryosat-read, cryosat-write as promises-one-for-c-cryosat-write, cuc-fields-read as promises-one-for-c-cuc-fields-read, cuc-fields-write as promises-one-for-c-cuc-fields-write, cuc-read as promises-one-for-c-cuc-read, cuc-write as promises-one-for-c-cuc-write, decimal-read as promises-one-for-c-decimal-read, goce-count as promises-one-for-c-goce-count, goce-date as promises-one-for-c-goce-date, goce-read as promises-one-for-c-goce-read, obet-read as promises-one-for-c-obet-read, proteus-fields-read as promises-one-for-c-proteus-fields-read, proteus-fields-write as promises-one-for-c-proteus-fields-write, proteus-read as promises-one-for-c-proteus-read, proteus-write as promises-one-for-c-proteus-write, sbt-date as promises-one-for-c-sbt-date, sbt-read as promises-one-for-c-sbt-read, sbt-tick as promises-one-for-c-sbt-tick, siral-fields-read as promises-one-for-c-siral-fields-read, siral-fields-write as promises-one-for-c-siral-fields-write, siral-read as promises-one-for-c-siral-read, siral-write as promises-one-for-c-siral-write, text-read as promises-one-for-c-text-read, text-write as promises-one-for-c-text-write}
+use Rattle.promises.specs.Never.{gps-to-utc-never-11, handed-gps-to-utc-never-11, line-never-5, proteus-read-never-7, without-list-never-5}
+use Rattle.promises.specs.One.{change as promises-one-change, cryosat-fields-read as promises-one-cryosat-fields-read, cryosat-fields-write as promises-one-cryosat-fields-write, cryosat-read as promises-one-cryosat-read, cryosat-write as promises-one-cryosat-write, cuc-fields-read as promises-one-cuc-fields-read, cuc-fields-write as promises-one-cuc-fields-write, cuc-read as promises-one-cuc-read, cuc-write as promises-one-cuc-write, date-of, day-of, decimal-read as promises-one-decimal-read, decimal-write as promises-one-decimal-write, goce-count as promises-one-goce-count, goce-date as promises-one-goce-date, goce-read as promises-one-goce-read, goce-write, gps-to-tai, gps-to-utc, line, obet-read as promises-one-obet-read, obet-write, proteus-fields-read as promises-one-proteus-fields-read, proteus-fields-write as promises-one-proteus-fields-write, proteus-read as promises-one-proteus-read, proteus-write as promises-one-proteus-write, record-judged, sbt-date as promises-one-sbt-date, sbt-read as promises-one-sbt-read, sbt-tick as promises-one-sbt-tick, sbt-write, siral-fields-read as promises-one-siral-fields-read, siral-fields-write as promises-one-siral-fields-write, siral-read as promises-one-siral-read, siral-write as promises-one-siral-write, tai-to-gps, tai-to-utc, take, text-read as promises-one-text-read, text-write as promises-one-text-write, utc-to-gps, utc-to-tai}
+use Rattle.promises.specs.OneForC.{change as promises-one-for-c-change, cryosat-fields-read as promises-one-for-c-cryosat-fields-read, cryosat-fields-write as promises-one-for-c-cryosat-fields-write, cryosat-read as promises-one-for-c-cryosat-read, cryosat-write as promises-one-for-c-cryosat-write, cuc-fields-read as promises-one-for-c-cuc-fields-read, cuc-fields-write as promises-one-for-c-cuc-fields-write, cuc-read as promises-one-for-c-cuc-read, cuc-write as promises-one-for-c-cuc-write, decimal-read as promises-one-for-c-decimal-read, decimal-write as promises-one-for-c-decimal-write, goce-count as promises-one-for-c-goce-count, goce-date as promises-one-for-c-goce-date, goce-read as promises-one-for-c-goce-read, obet-read as promises-one-for-c-obet-read, proteus-fields-read as promises-one-for-c-proteus-fields-read, proteus-fields-write as promises-one-for-c-proteus-fields-write, proteus-read as promises-one-for-c-proteus-read, proteus-write as promises-one-for-c-proteus-write, sbt-date as promises-one-for-c-sbt-date, sbt-read as promises-one-for-c-sbt-read, sbt-tick as promises-one-for-c-sbt-tick, siral-fields-read as promises-one-for-c-siral-fields-read, siral-fields-write as promises-one-for-c-siral-fields-write, siral-read as promises-one-for-c-siral-read, siral-write as promises-one-for-c-siral-write, text-read as promises-one-for-c-text-read, text-write as promises-one-for-c-text-write}
 use Rattle.promises.specs.Three.{change-for-c, date-for-c, goce-count-for-c, goce-date-for-c, old-dates-stay, text-read-for-c, text-write-for-c, tick-for-c}
 use Rattle.promises.specs.Two.{cryosat-time, cuc-time, proteus-time, siral-time}

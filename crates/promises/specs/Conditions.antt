@@ -140,11 +140,11 @@ abbrev pub notInForce : Clock → ℕ → ℤ → ℕ → Bool
 notInForce c t d u = not (inWindow c (elapsed c t) && covers c (instant (c .scale) d u))
 
 -- "A time of another scale, or in second 60, gets 12, and 8 is not judged for it"
-abbrev pub noCount : Clock → Handed → Bool
-noCount c h = not (sameScale (scaleOf h) (c .scale) && plainMicro (scaleOf h) (microOf h))
+abbrev pub hasCount : Clock → Handed → Bool
+hasCount c h = sameScale (scaleOf h) (c .scale) && plainMicro (scaleOf h) (microOf h)
 
 abbrev pub notCovered : Clock → Handed → Bool
-notCovered c h = not (noCount c h) && not (covers c (instantOf h))
+notCovered c h = hasCount c h && not (covers c (instantOf h))
 
 -- ---- "9 leap list expired", where one is used
 abbrev pub dayExpired : Bool → ℤ → Moment → Bool
@@ -171,6 +171,9 @@ noWeek h = not (sameScale S.Utc (scaleOf h) && (leZ (negsuc 7299) (dayOf h) && (
 
 abbrev pub noDay : Handed → Bool
 noDay h = not (sameScale S.Tai (scaleOf h) && leZ (pos 0) (dayOf h))
+
+abbrev pub noCount : Clock → Handed → Bool
+noCount c h = not (hasCount c h)
 
 abbrev pub inSecond60 : Handed → Bool
 inSecond60 h = not (ltb (microOf h) dayMicros)

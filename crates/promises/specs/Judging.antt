@@ -113,6 +113,6 @@ turning-rows accepted c h =
     ap (λ (b : Bool). (4, C.decimalNotFinite h) ∷ (6, not accepted) ∷ (7, C.timeOutside h) ∷ (8, b) ∷ (12, C.noCount c h) ∷ [])
     (go (Clock.hasImage (c .scale) h) (Clock.covers c (Clock.instantOf h)))
   where
-    go : (has covered : Bool) → not (cond has covered true) ≡ not (not has) && not covered
+    go : (has covered : Bool) → not (cond has covered true) ≡ has && not covered
     go true covered = refl
     go false covered = refl

@@ -1,16 +1,16 @@
 -- Numbers that stand in a chain and never come. Assumes nothing.
 use mathlib.Core.Path.{_≡_, refl, sym, ap, subst, _∙_}
-use mathlib.Core.Bool.{Bool, true, false, not, _||_, false≢true}
-use mathlib.Core.List.{List}
+use mathlib.Core.Bool.{Bool, true, false, not, _||_, true≢false, false≢true}
+use mathlib.Core.List.{List, [], _∷_}
 use Prim.Native.Nat.{ℕ, _+_, _*_, _/_, _<_, _≤_}
 use native.Mathlib.Omega.{arith}
 use lib.Dec.{eqb, leb, lit≤}
 use lib.IntN.{ℤ, _+ℤ_}
-use lib.ListN.{length}
+use lib.ListN.{length, drop}
 use borrow.Author.Tests.{eqb-true, leb-true, not-true}
 use Rattle.axis.specs.Meaning.{placeOfDay, Moment, since}
 use Rattle.octets.specs.Field.{Bytes}
-use Rattle.scales.specs.Meaning.{inSpan, Judged, given, gives, Outcome, refused, answer, outcome, dated, momentAt, resulting}
+use Rattle.scales.specs.Meaning.{inSpan, Judged, given, gives, Outcome, refused, answer, outcome, dated, order, momentAt, resulting}
 use Rattle.scales.specs.Place.{firstAt, apart, in-span, placed}
 use Rattle.scales.specs.declared.Scale.{Scale}
 use Rattle.scales.specs.declared.Scale.the-variants as S
@@ -34,7 +34,11 @@ use Rattle.text_read.specs.Meaning.{scaleIn}
 use Rattle.lines.specs.Meaning.{lineDating}
 use Rattle.lines_laws.specs.First.{lineJudging, line-outcome}
 use Rattle.c_api.specs.Bytes.{proteusOut}
-use Rattle.promises.specs.First.{numberIn, given-applies}
+use Rattle.promises.specs.Meaning.{applies}
+use Rattle.promises.specs.First.{numberIn, given-applies, exactly}
+use Rattle.promises.specs.Conditions as C
+use Rattle.promises.specs.Rows as Rows
+use Rattle.promises.specs.One.{change}
 
 -- a test that holds wherever those before it do: its number does not come
 module _ {A : Type 0} where
@@ -100,9 +104,9 @@ module _ (ds : List ℤ) (os : List ℕ) (e : ℤ) where
       (moving-never (m .day) (m .micro) (inSpan S.Gps (m .day) (m .micro)) (λ i. let w = placed S.Gps (m .day) (m .micro) i in (w .from, omega (arith, w .to, apart S.Gps .to))))
       (sym (number-is S.Utc (outcome (withList ds os e (gpsInUtc ds os e n)))) ∙ q)
 
-  pub change-never-11 : (h : Handed) → scaleOf h ≡ S.Gps → changeOf h S.Utc ds os e .number ≡ 11 → ⊥
+  pub handed-gps-to-utc-never-11 : (h : Handed) → scaleOf h ≡ S.Gps → changeOf h S.Utc ds os e .number ≡ 11 → ⊥
   unfolding changeOf
-  change-never-11 h g q =
+  handed-gps-to-utc-never-11 h g q =
       behind 11 (isFinite h) 4 (from (scaleOf h)) (λ z. omega arith) (λ f r. gps f (ap (λ (s : Scale). numberIn (outcome (from s))) (sym g) ∙ r)) (sym (number-is S.Utc (outcome (changing h S.Utc ds os e))) ∙ q)
     where
       from : Scale → Judged Moment
@@ -112,6 +116,20 @@ module _ (ds : List ℤ) (os : List ℕ) (e : ℤ) where
       gps f =
           behind 11 (accepted ds os e) 5 (moving S.Gps S.Utc ds os e (isInSpan h) (momentIn h)) (λ z. omega arith)
           (moving-never (dayOf h) (microOf h) (isInSpan h) (λ i. let w = loose h f i in (subst (λ (s : Scale). firstAt s ≤ placeOfDay (dayOf h)) g (w .from), omega (arith, w .to))))
+
+-- ---- 5 where no list is used: "leap list not accepted, where one is used"
+pub without-list-never-5 : (h : Handed) (to : Scale) (ds : List ℤ) (os : List ℕ) (e : ℤ) → changeUsesList (scaleOf h) to ≡ false → changeOf h to ds os e .number ≡ 5 → ⊥
+without-list-never-5 h to ds os e u q = absurd (go (scaleOf h) to u (exactly (change h to ds os e) (1 ∷ 2 ∷ 3 ∷ 4 ∷ []) (drop 5 order) 5 refl .0 q .1))
+  where
+    go : (s to : Scale) → changeUsesList s to ≡ false
+        → applies ((4, C.decimalNotFinite h) ∷ (5, C.listNotAccepted (changeUsesList s to) ds os e) ∷ Rows.moving s to ds os e (C.timeOutside h) (momentIn h)) 5 ≡ true → ⊥
+    go S.Tai S.Tai u k = false≢true k
+    go S.Tai S.Gps u k = false≢true k
+    go S.Gps S.Tai u k = false≢true k
+    go S.Gps S.Gps u k = false≢true k
+    go S.Tai S.Utc u k = true≢false u
+    go S.Gps S.Utc u k = true≢false u
+    go S.Utc to u k = true≢false u
 
 -- ---- 5 of the line program: the published list is accepted
 pub line-never-5 : (s : List ℕ) → outcome (lineDating publishedDays publishedOffsets publishedLast s) ≡ refused 5 → ⊥

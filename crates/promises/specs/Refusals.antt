@@ -6,7 +6,7 @@ use mathlib.Core.List.{List, [], _∷_, _++_}
 use Prim.Native.Nat.{ℕ}
 use lib.Ieee.{Float}
 use lib.IntN.{ℤ}
-use Rattle.scales.specs.Meaning.{Judged, Outcome, Valued}
+use Rattle.scales.specs.Meaning.{codeOf, Judged, Outcome, Valued}
 use Rattle.scales.specs.declared.Scale.{Scale}
 use Rattle.scales.specs.declared.Scale.the-variants as S
 use Rattle.c_api.specs.Meaning as CApi
@@ -15,8 +15,6 @@ use Rattle.c_api.specs.declared.VrkDecimal.{VrkDecimal}
 use Rattle.c_api.specs.declared.VrkSbtCorrelation.{VrkSbtCorrelation}
 use Rattle.c_api.specs.declared.counts.VrkGoceCorrelation.{VrkGoceCorrelation}
 use Rattle.promises.specs.Meaning.{Promise, refusals}
-use Rattle.promises.specs.Conditions as C
-use Rattle.promises.specs.Rows as Rows
 use Rattle.promises.specs.One.{Allows}
 use Rattle.promises.specs.One as One
 use Rattle.promises.specs.OneForC as OneForC
@@ -28,8 +26,15 @@ rowsOf {rows} p = rows
 abbrev rowsAllowed : {w : Valued Float} {j : Judged ℤ} {rows : List (ℕ × Bool)} → Allows w j rows → List (ℕ × Bool)
 rowsAllowed {rows} p = rows
 
+-- of a change: over both kinds of what is handed in, its scales and the scales to change to
+abbrev handedAs : ℕ → Scale → VrkHanded → VrkHanded
+handedAs k s h = record { kind = k; scale = codeOf s; day = h .day; micro = h .micro; decimal = h .decimal }
+
 abbrev overScales : (Scale → List (ℕ × Bool)) → List (ℕ × Bool)
 overScales f = f S.Tai ++ (f S.Utc ++ f S.Gps)
+
+abbrev overAll : (ℕ → Scale → Scale → List (ℕ × Bool)) → List (ℕ × Bool)
+overAll f = overScales (λ (s : Scale). overScales (λ (to : Scale). f 0 s to)) ++ overScales (λ (s : Scale). overScales (λ (to : Scale). f 1 s to))
 
 pub decimal-read : (x : Float) (c : ℕ) → refusals (rowsOf (OneForC.decimal-read x c)) ≡ 3 ∷ 4 ∷ 7 ∷ []
 decimal-read x c = refl
@@ -49,8 +54,9 @@ goce-date t c d u = refl
 pub goce-count : (h : VrkHanded) (c : VrkGoceCorrelation) → refusals (rowsOf (OneForC.goce-count h c)) ≡ 3 ∷ 4 ∷ 6 ∷ 7 ∷ 8 ∷ 12 ∷ []
 goce-count h c = refl
 
-pub change : (h : VrkHanded) (c : ℕ) (ds : List ℤ) (os : List ℕ) (e : ℤ) → refusals ((3, C.changeUnknown c h) ∷ overScales (λ (s : Scale). overScales (λ (to : Scale). Rows.changeFrom s (CApi.handedOf h) to ds os e))) ≡ 3 ∷ 4 ∷ 5 ∷ 7 ∷ 9 ∷ 10 ∷ 11 ∷ []
-change h c ds os e = refl
+pub change : (h : VrkHanded) (ds : List ℤ) (os : List ℕ) (e : ℤ)
+    → refusals (overAll (λ (k : ℕ) (s to : Scale). rowsOf (OneForC.change (handedAs k s h) (codeOf to) ds os e))) ≡ 3 ∷ 4 ∷ 5 ∷ 7 ∷ 9 ∷ 10 ∷ 11 ∷ []
+change h ds os e = refl
 
 pub cuc-read : (s : List ℕ) → refusals (rowsOf (OneForC.cuc-read s)) ≡ 1 ∷ 7 ∷ []
 cuc-read s = refl

@@ -79,14 +79,11 @@ moving S.Gps S.Utc ds os e outside m = (7, outside) ∷ intoUtc ds os e (since (
 moving S.Gps S.Gps ds os e outside m = (7, outside) ∷ []
 
 -- a list is used where UTC stands on either side
-abbrev pub changeFrom : Scale → Handed → Scale → List ℤ → List ℕ → ℤ → List (ℕ × Bool)
-changeFrom s h to ds os e =
-    (4, C.decimalNotFinite h)
-    ∷ (5, C.listNotAccepted (isUtc s || isUtc to) ds os e)
-    ∷ moving s to ds os e (C.timeOutside h) (momentIn h)
-
 abbrev pub change : Handed → Scale → List ℤ → List ℕ → ℤ → List (ℕ × Bool)
-change h to ds os e = changeFrom (scaleOf h) h to ds os e
+change h to ds os e =
+    (4, C.decimalNotFinite h)
+    ∷ (5, C.listNotAccepted (isUtc (scaleOf h) || isUtc to) ds os e)
+    ∷ moving (scaleOf h) to ds os e (C.timeOutside h) (momentIn h)
 
 -- the six, of a count of each scale: two without a list, four with one
 abbrev pub taiToGps : ℕ → List (ℕ × Bool)
