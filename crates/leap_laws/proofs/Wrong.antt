@@ -10,7 +10,7 @@ use lib.ListN.{length, getD, take}
 use borrow.Author.Tests.{ltb-false, le-ltb}
 use Rattle.evidence.specs.ShutOut.{ShutOut, Outgrown, differ}
 use Rattle.axis.specs.Meaning.{placeOfDay, Moment, since, momentOf}
-use Rattle.scales.specs.Meaning.{andThen, inSpan, Judged, given, gives, outcome, Slip, dated, recordOf, resulting}
+use Rattle.scales.specs.Meaning.{andThen, inSpan, Judged, given, gives, answer, outcome, Slip, dated, recordOf, momentAt, resulting}
 use Rattle.scales.specs.declared.Scale.{Scale}
 use Rattle.scales.specs.declared.Scale.the-variants as S
 use Rattle.handed.specs.declared.Handed.the-variants as H
@@ -20,6 +20,8 @@ use Rattle.via_tai.specs.Meaning.{fromTai, fromUtc, toTai, toGps, toUtc, ofCoun
 use Rattle.changes.specs.Meaning.{moving, taiToGps, gpsToTai, utcToTai, utcToGps, taiToUtc, gpsToUtc, changeOf}
 use Rattle.leap.specs.Published.{published}
 use Rattle.leap_laws.proofs.Computed.{published-6209, earlierDays, earlierOffsets, earlierLast, earlier}
+use Rattle.leap_laws.proofs.Changes as C
+use Rattle.leap_laws.proofs.Functions as F
 use Rattle.ground_laws.proofs.Desks.{answered, empty, byNumber, byMicro, refusesAll, dayZero}
 
 -- ---- is_accepted
@@ -281,3 +283,19 @@ last-offset = (same, changed)
     changed w =
         let q = w (pos 5999) 0 (λ n. let z : _≡_ {A = ℕ} 0 9 = (λ i. sym by-last-earlier i .number) ∙ n in omega arith) in
         byMicro (λ z. omega arith) (sym by-last-published ∙ q ∙ by-last-earlier)
+
+-- ---- TAI to GPS that gives day 0 for everything: laws of counts say nothing of it
+abbrev lostGps : ℕ → Slip
+lostGps n = F.answered S.Gps 3456000000000000
+
+day-zero-back : gpsToTai 3456000000000000 ≡ answered S.Tai (pos 0) 19000000
+unfolding gpsToTai
+day-zero-back = refl
+
+pub functions-unsaid :
+    Outgrown ((n k : ℕ) → C.changed S.Tai S.Gps publishedDays publishedOffsets publishedLast n ≡ answer (momentAt S.Gps k) → C.changed S.Gps S.Tai publishedDays publishedOffsets publishedLast k ≡ answer (momentAt S.Tai n))
+    ((n k : ℕ) → lostGps n ≡ F.answered S.Gps k → F.function F.named F.gpsTai publishedDays publishedOffsets publishedLast k ≡ F.answered S.Tai n)
+functions-unsaid = (
+  C.round publishedDays publishedOffsets publishedLast published S.Tai S.Gps,
+  λ w. byMicro (λ z. omega arith) (sym day-zero-back ∙ w 3456000000000000 3456000000000000 refl),
+)

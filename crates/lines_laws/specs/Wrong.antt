@@ -1,10 +1,10 @@
 -- Wrong programs for a block of lines and for what is kept between two, each shut out by an input at which its answer is not the
 -- meaning's. Assumes nothing.
-use mathlib.Core.Path.{_≡_, refl, sym, _∙_}
+use mathlib.Core.Path.{_≡_, refl, sym, ap, _∙_}
 use mathlib.Core.List.{List, [], _∷_, _++_}
 use Prim.Native.Nat.{ℕ, _-_}
 use native.Mathlib.Omega.{arith}
-use lib.ListN.{length, getD, take}
+use lib.ListN.{length, getD, take, drop}
 use lib.Seq.{slice}
 use Rattle.evidence.specs.ShutOut.{ShutOut, Outgrown, differ}
 use Rattle.axis.specs.Meaning.{Moment}
@@ -18,7 +18,8 @@ use Rattle.leap.specs.Published.{published}
 use Rattle.text_fields.specs.Meaning.{names, letter, prefixOf}
 use Rattle.text_fields.specs.declared.Stamp.{Stamp}
 use Rattle.text_read.specs.Meaning.{digitOf, twoOf, fourOf, sixOf, isNamed, seek, monthNamed, hasMarks, microIn, stampIn, inLimits, hasPrefix, scaleIn, bodyIn, isPrefixRight, isBody, stampMoment, stampSpans}
-use Rattle.lines.specs.Meaning.{linesOf, refusedText, answerTo, answers, wholeIn, bytesIn, Done, roomFor, dateLines, kept, Kept, moved, keep}
+use Rattle.lines.specs.Meaning.{linesOf, refusedText, answerTo, answers, desk, wholeIn, bytesIn, Done, roomFor, linesDated, dateLines, kept, Kept, moved, keep}
+use Rattle.lines_laws.specs.Run.{printed, block}
 use Rattle.lines_laws.specs.Computed.{one, refusedOne}
 use Rattle.lines_laws.specs.Each.{printedBy, textsBy, each-by}
 use Rattle.lines_laws.specs.First.{textJudging, lineJudging, hasList, isCurrent, hasSecond, inTai, resultInSpan}
@@ -105,6 +106,16 @@ pub another-number :
     Outgrown ((ls : List (List ℕ)) → linesOf (printedBy another ls) ≡ textsBy another ls)
     ((s : List ℕ) → outcome (lineJudging publishedDays publishedOffsets publishedLast s) ≡ another s)
 another-number = (each-by another, λ w. let q = sym late-first ∙ w lateLine ∙ late-another in let z : _≡_ {A = ℕ} 9 10 = cc in omega arith)
+
+-- a call that consumes its lines and writes nothing: what is said of the lines alone says nothing of it
+abbrev lost : List ℕ → List ℕ → Done
+lost input out = record { consumed = length input; written = 0; bytes = out }
+
+pub call-lost :
+    Outgrown ((s t : List ℕ) (room : ℕ) → let ls = linesDated publishedDays publishedOffsets publishedLast s room in desk (s ++ t) ≡ printed ls ++ desk (drop (bytesIn ls) s ++ t))
+    ((s t out : List ℕ) → let d = lost s out in desk (s ++ t) ≡ take (d .written) (d .bytes) ++ desk (drop (d .consumed) s ++ t))
+unfolding desk linesOf answers answerTo refusedText
+call-lost = (block, λ w. let z : _≡_ {A = ℕ} 10 0 = ap length (w (10 ∷ []) [] []) in omega arith)
 
 -- ---- keep
 -- a line that has begun is kept whole, however long: the next block finds no room

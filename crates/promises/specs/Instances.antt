@@ -1,7 +1,7 @@
 -- Each theorem with hypotheses at an input that meets them, where the conclusion is an answer. Assumes nothing.
 use mathlib.Core.Path.{_≡_, refl, sym, ap, _∙_}
 use mathlib.Core.Bool.{true}
-use mathlib.Core.List.{List, [], _∷_}
+use mathlib.Core.List.{List, [], _∷_, _++_}
 use lib.ListN.{drop}
 use Prim.Native.Nat.{ℕ}
 use native.Mathlib.Omega.{arith}
@@ -11,8 +11,14 @@ use Rattle.axis.specs.Meaning.{Moment, since}
 use Rattle.octets.specs.Meaning.{number}
 use Rattle.scales.specs.Meaning.{Outcome, answer, dated, order, recordOf, valued}
 use Rattle.scales.specs.declared.Scale.the-variants as S
+use Rattle.scales.specs.declared.Refusal.the-variants as R
 use Rattle.double.specs.Meaning.{plusZero}
+use Rattle.handed.specs.Meaning.{takenOf, takenSlip, Took}
+use Rattle.handed.specs.declared.Handed.{Handed}
 use Rattle.handed.specs.declared.Handed.the-variants as H
+use Rattle.handed.specs.declared.Taken.the-variants as K
+use Rattle.decimal.specs.Meaning.{decimalSlip}
+use Rattle.decimal.specs.declared.Decimal.the-variants as D
 use Rattle.calendar.specs.Meaning.{leap, monthLength, lengthOf, firstDay, dayAfter, daysTo, walk, isDate, dateOfDay, dayOfDate}
 use Rattle.leap.specs.Meaning.{through, isStep, publishedDays, publishedOffsets, publishedLast}
 use Rattle.leap.specs.Walk.{or-false}
@@ -30,9 +36,13 @@ use Rattle.sbt_laws.proofs.Wider.{widened}
 use Rattle.goce.specs.Meaning as Goce
 use Rattle.goce_laws.proofs.Cases as GoceCases
 use Rattle.goce_laws.proofs.Wider as GoceWider
-use Rattle.promises.specs.Conditions.{lengthIsNone}
+use Rattle.lines.specs.Meaning.{refusedText, answerTo}
+use Rattle.promises.specs.Meaning.{applies, firstOf}
+use Rattle.promises.specs.Conditions.{lengthIsNone, handedUnknown}
+use Rattle.promises.specs.Rows as Rows
 use Rattle.promises.specs.First.{exactly}
-use Rattle.promises.specs.One.{cuc-read, cuc-write}
+use Rattle.promises.specs.One.{take, decimal-write, cuc-read, cuc-write, line}
+use Rattle.promises.specs.OneForC as OneForC
 use Rattle.promises.specs.Two.{cuc-time, proteus-time, cryosat-time, siral-time}
 use Rattle.c_api.specs.Meaning as CApi
 use Rattle.c_api.specs.Bytes as Bytes
@@ -57,6 +67,34 @@ exactly-instance s =
 pub kept-instance : Cuc.write (H.Record (recordOf S.Tai (pos 0) 0)) (9 ∷ []) ≡ record { number = 12; length = 0; lent = 9 ∷ [] }
 unfolding Cuc.write
 kept-instance = cuc-write (H.Record (recordOf S.Tai (pos 0) 0)) (9 ∷ []) .empty (λ q. omega arith)
+
+-- TAI day 40000 is taken for outside: 7; second 60 has no decimal day: 12; for C scale 9 stands for nothing: 3; and an empty line is
+-- refused 1
+abbrev late : Handed
+late = H.Record (recordOf S.Tai (pos 40000) 0)
+
+late-taken : Took late (K.Outside S.Tai)
+unfolding takenOf
+late-taken = record { is = refl; kept = lit≤ tt }
+
+pub take-instance : takenSlip (K.Outside S.Tai) .number ≡ 7
+take-instance = take late (K.Outside S.Tai) late-taken .first
+
+pub decimal-write-instance : decimalSlip (D.Refused R.NoImage) .number ≡ 12
+decimal-write-instance = decimal-write (H.Record (recordOf S.Utc (pos 0) 86400000000)) (D.Refused R.NoImage) (refl, refl) .first
+
+abbrev unknown : VrkHanded
+unknown = record { kind = 0; scale = 9; day = pos 0; micro = 0; decimal = plusZero }
+
+unknown-wrote : CApi.DecimalWrote unknown (record { refusal = 3; day = plusZero })
+unfolding CApi.DecimalWrote
+unknown-wrote = (refl, refl)
+
+pub decimal-write-for-c-instance : _≡_ {A = ℕ} 3 (firstOf order (applies ((3, handedUnknown unknown) ∷ Rows.decimalWrite (CApi.handedOf unknown))))
+decimal-write-for-c-instance = OneForC.decimal-write unknown (record { refusal = 3; day = plusZero }) unknown-wrote .first
+
+pub line-instance : answerTo publishedDays publishedOffsets publishedLast [] ≡ refusedText 1 ++ (10 ∷ [])
+line-instance = line publishedDays publishedOffsets publishedLast [] .printed (λ q. omega arith)
 
 -- ---- demand 2: "CUC 00 00 00 01 00 01: GPS day -7300, 1,000,015", and so of the other readings
 pub cuc-time-instance : since (negsuc 7299) 1000015 ≡ since Cuc.epoch 1000015
