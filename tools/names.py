@@ -108,6 +108,17 @@ class Names:
                 return one, around
         return None
 
+    def theorem(self, name):
+        """The file of a public theorem CRATE.Module.name, and its statement; None where nothing proves it."""
+        crate, module, word = name.split(".")
+        paths = [f"crates/{crate}/{kind}/{module}.antt" for kind in ("specs", "proofs")]
+        there = [path for path in paths if self.code(path)]
+        stated = self.stated((word, there[0])) if len(there) == 1 else None
+        if not stated or stated[0].marks != "pub ":
+            return None
+        # The parameters of its modules are part of a statement; its proof is not.
+        return there[0], f"{stated[1]} {stated[0].text}"
+
     def bodies(self, known):
         """What a definition says: the right sides of its equations, or the fields of a record."""
         stated = self.stated(known)

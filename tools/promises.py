@@ -23,7 +23,7 @@ JUDGED = ("Judged", "crates/scales/specs/Meaning.antt")
 THEOREM = re.compile(r"`([a-z_]+\.[A-Z][A-Za-z]*\.[a-z][a-z0-9-]*)`")
 ROW = re.compile(r"^\| `([a-z_]+::[A-Za-z_:]+)` \|(.*)\|$", re.M)
 _SPECS = re.compile(r"crates/\w+/specs/.+")
-_LAWS = re.compile(r"crates/(?:\w+_laws|promises)/(?:specs|proofs)/.+")
+_LAWS = re.compile(r"crates/(?:\w+_laws|promises|marked)/(?:specs|proofs)/.+")
 
 
 def imports(root, page):
@@ -90,20 +90,11 @@ class Subjects:
                 self.names.cited(known[1], body, self._meant, below)
         return {known for known in below if self._is_chain(known)}
 
-    def _cites(self, theorem):
-        crate, module, name = theorem.split(".")
-        paths = [f"crates/{crate}/{kind}/{module}.antt" for kind in ("specs", "proofs")]
-        there = [path for path in paths if self.names.code(path)]
-        stated = self.names.stated((name, there[0])) if len(there) == 1 else None
-        if not stated or stated[0].marks != "pub ":
-            return None
-        # The parameters of its modules are part of a statement; its proof is not.
-        return self.names.cited(there[0], f"{stated[1]} {stated[0].text}", self._told)
-
     def said(self, theorem):
         """The definitions that a statement cites, also by way of the laws' definitions and records; None of no theorem."""
         if theorem not in self._said:
-            self._said[theorem] = self._cites(theorem)
+            found = self.names.theorem(theorem)
+            self._said[theorem] = self.names.cited(*found, self._told) if found else None
         return self._said[theorem]
 
 

@@ -7,7 +7,7 @@ use Prim.Native.Nat.{ℕ}
 use native.Mathlib.Omega.{arith}
 use lib.Dec.{eqb}
 use lib.IntN.{pos}
-use lib.ListN.{length, take, drop, replicate}
+use lib.ListN.{length, take, drop}
 use Rattle.axis.specs.Meaning.{Moment}
 use Rattle.evidence.specs.ShutOut.{ShutOut}
 use Rattle.scales.specs.Meaning.{Outcome, refused, answer, outcome}
@@ -18,7 +18,6 @@ use Rattle.text_fields.specs.Meaning.{names, letter, prefixOf}
 use Rattle.text_read.specs.Meaning.{digitOf, twoOf, fourOf, sixOf, isNamed, seek, monthNamed, hasMarks, microIn, stampIn, inLimits, hasPrefix, scaleIn, bodyIn, isPrefixRight, isBody}
 use Rattle.text_write.specs.Meaning.{textOf}
 use Rattle.text_laws.specs.Computed.{sixty}
-use Rattle.lines_laws.specs.Run.{kept-is}
 use Rattle.lines.specs.Meaning.{linesOf, refusedText, told, lineDating, answerTo, answers, desk, wholeIn}
 
 abbrev pub dates : List ℕ → Outcome Moment
@@ -112,8 +111,3 @@ return-taken = (refl, dos-dates, λ q. let z : _≡_ {A = ℕ} 0 1 = ap kind (q 
     kind : Outcome Moment → ℕ
     kind (refused n) = 0
     kind (answer m) = 1
-
--- ---- a line of 40 bytes that has begun: 32 of them are enough
-pub kept-instance : desk (replicate 40 120 ++ (10 ∷ [])) ≡ desk (replicate 32 120 ++ (10 ∷ []))
-unfolding wholeIn
-kept-instance = kept-is (replicate 40 120) (10 ∷ []) refl
