@@ -8,5 +8,6 @@ pub mod Never
 pub mod Fresh
 pub mod Promises
 pub mod Wrong
+pub mod Outgrown
 pub mod Instances
 pub mod Asked

@@ -1,16 +1,15 @@
 -- Wrong programs for the leap list and the changes, each shut out by an input at which its answer is not the meaning's.
 -- Assumes nothing.
-use mathlib.Core.Path.{_≡_, refl, sym, _∙_}
+use mathlib.Core.Path.{refl}
 use mathlib.Core.Bool.{Bool, true, false, cond, not, _&&_}
 use mathlib.Core.List.{List, [], _∷_}
 use Prim.Native.Nat.{ℕ, _+_, _-_, _*_}
 use native.Mathlib.Omega.{arith}
 use lib.IntN.{ℤ, pos, negsuc, _+ℤ_, _-ℤ_}
-use lib.ListN.{length, getD, take}
-use borrow.Author.Tests.{ltb-false, le-ltb}
-use Rattle.evidence.specs.ShutOut.{ShutOut, Outgrown, differ}
+use lib.ListN.{getD, take}
+use Rattle.evidence.specs.ShutOut.{ShutOut, differ}
 use Rattle.axis.specs.Meaning.{placeOfDay, Moment, since, momentOf}
-use Rattle.scales.specs.Meaning.{andThen, inSpan, Judged, given, gives, answer, outcome, Slip, dated, recordOf, momentAt, resulting}
+use Rattle.scales.specs.Meaning.{andThen, Judged, given, gives, outcome, Slip, dated, recordOf, resulting}
 use Rattle.scales.specs.declared.Scale.{Scale}
 use Rattle.scales.specs.declared.Scale.the-variants as S
 use Rattle.handed.specs.declared.Handed.the-variants as H
@@ -18,10 +17,6 @@ use Rattle.calendar.specs.Meaning.{leap, monthLength, lengthOf, firstDay, dayAf
 use Rattle.leap.specs.Meaning.{seconds, areSteps, begins, risesFrom, rises, countsFrom, countsUp, endsIn, noneLater, accepted, through, offsetOn, taiOf, isStep, hasMicro, isExpiredDay, publishedDays, publishedOffsets, publishedLast}
 use Rattle.via_tai.specs.Meaning.{fromTai, fromUtc, toTai, toGps, toUtc, ofCount}
 use Rattle.changes.specs.Meaning.{moving, taiToGps, gpsToTai, utcToTai, utcToGps, taiToUtc, gpsToUtc, changeOf}
-use Rattle.leap.specs.Published.{published}
-use Rattle.leap_laws.proofs.Computed.{published-6209, earlierDays, earlierOffsets, earlierLast, earlier}
-use Rattle.leap_laws.proofs.Changes as C
-use Rattle.leap_laws.proofs.Functions as F
 use Rattle.ground_laws.proofs.Desks.{answered, empty, byNumber, byMicro, refusesAll, dayZero}
 
 -- ---- is_accepted
@@ -236,66 +231,3 @@ wrong-rest =
       all-refused = (refl, refl, byNumber (λ e. omega arith));
       all-day-zero = (refl, refl, byMicro (λ e. omega arith));
     }
-
--- ---- demand 3: the last step's offset for every day. Where the fresh list has the old one's steps no answer changes, and where it has one
--- more every old date does
-abbrev lastOf : List ℕ → ℕ
-lastOf os = getD os (length os - 1) 0
-
-abbrev byLast : List ℤ → List ℕ → ℤ → ℤ → ℕ → Slip
-byLast ds os e d u =
-    made S.Tai
-    (given (accepted ds os e) 5
-    (given (inSpan S.Utc d u) 7
-    (given (not (isExpiredDay e d)) 9
-    (given (hasMicro ds d u) 10
-    (resulting S.Tai (momentOf (since d u +ℤ seconds (lastOf os))))))))
-
-abbrev Stays : List ℤ → List ℕ → ℤ → Type 0
-Stays ds os e = (d : ℤ) (u : ℕ) → (byLast ds os e d u .number ≡ 9 → ⊥) → byLast publishedDays publishedOffsets publishedLast d u ≡ byLast ds os e d u
-
-expired-later : (d : ℤ) → isExpiredDay (pos 6209) d ≡ false → isExpiredDay publishedLast d ≡ false
-expired-later (pos n) e = le-ltb 9131 n (omega (arith, ltb-false 6209 n e))
-expired-later (negsuc n) e = refl
-
-by-last-earlier : byLast earlierDays earlierOffsets earlierLast (pos 5999) 0 ≡ answered S.Tai (pos 5999) 36000000
-by-last-earlier = rw earlier
-
-by-last-published : byLast publishedDays publishedOffsets publishedLast (pos 5999) 0 ≡ answered S.Tai (pos 5999) 37000000
-by-last-published = rw published
-
-pub last-offset : Outgrown (Stays publishedDays publishedOffsets (pos 6209)) (Stays earlierDays earlierOffsets earlierLast)
-last-offset = (same, changed)
-  where
-    same : Stays publishedDays publishedOffsets (pos 6209)
-    same d u k = rw (published, published-6209) (go (inSpan S.Utc d u) (isExpiredDay (pos 6209) d) (expired-later d) (rw published-6209 at k))
-      where
-        rest : Judged Moment
-        rest = given (hasMicro publishedDays d u) 10 (resulting S.Tai (momentOf (since d u +ℤ seconds 37)))
-
-        go : (i x : Bool) → (x ≡ false → isExpiredDay publishedLast d ≡ false) → (made S.Tai (given i 7 (given (not x) 9 rest)) .number ≡ 9 → ⊥)
-            → made S.Tai (given i 7 (given (not (isExpiredDay publishedLast d)) 9 rest)) ≡ made S.Tai (given i 7 (given (not x) 9 rest))
-        go false x w k = refl
-        go true true w k = absurd (k refl)
-        go true false w k = rw (w refl)
-
-    changed : Stays earlierDays earlierOffsets earlierLast → ⊥
-    changed w =
-        let q = w (pos 5999) 0 (λ n. let z : _≡_ {A = ℕ} 0 9 = (λ i. sym by-last-earlier i .number) ∙ n in omega arith) in
-        byMicro (λ z. omega arith) (sym by-last-published ∙ q ∙ by-last-earlier)
-
--- ---- TAI to GPS that gives day 0 for everything: laws of counts say nothing of it
-abbrev lostGps : ℕ → Slip
-lostGps n = F.answered S.Gps 3456000000000000
-
-day-zero-back : gpsToTai 3456000000000000 ≡ answered S.Tai (pos 0) 19000000
-unfolding gpsToTai
-day-zero-back = refl
-
-pub functions-unsaid :
-    Outgrown ((n k : ℕ) → C.changed S.Tai S.Gps publishedDays publishedOffsets publishedLast n ≡ answer (momentAt S.Gps k) → C.changed S.Gps S.Tai publishedDays publishedOffsets publishedLast k ≡ answer (momentAt S.Tai n))
-    ((n k : ℕ) → lostGps n ≡ F.answered S.Gps k → F.function F.named F.gpsTai publishedDays publishedOffsets publishedLast k ≡ F.answered S.Tai n)
-functions-unsaid = (
-  C.round publishedDays publishedOffsets publishedLast published S.Tai S.Gps,
-  λ w. byMicro (λ z. omega arith) (sym day-zero-back ∙ w 3456000000000000 3456000000000000 refl),
-)
