@@ -1,9 +1,9 @@
 -- Demand 1 of the line program: what is judged of a line, each test once and in the order of the slip, so that the number printed is the
 -- first that applies. A line is the list of its bytes; a leap list is its steps' days ds, its offsets os and its last day e. Assumes
 -- nothing.
-use mathlib.Core.Path.{_≡_, refl, sym, ap}
+use mathlib.Core.Path.{_≡_, refl, ap}
 use mathlib.Core.Bool.{Bool, true, false, cond, not, _&&_, _||_}
-use mathlib.Core.List.{List, [], _∷_, _++_}
+use mathlib.Core.List.{List, [], _∷_}
 use Prim.Native.Nat.{ℕ}
 use lib.Dec.{eqb}
 use lib.IntN.{ℤ, _+ℤ_}
@@ -18,7 +18,7 @@ use Rattle.changes.specs.Meaning.{asked}
 use Rattle.text_fields.specs.declared.Stamp.{Stamp}
 use Rattle.text_read.specs.Meaning.{isPlain, isPrefixed, isPrefixRight, isBody, scaleIn, bodyIn, stampIn, stampMoment, stampSpans}
 use Rattle.text_read.specs.In.{into}
-use Rattle.lines.specs.Meaning.{told, lineDating, answerTo}
+use Rattle.lines.specs.Meaning.{lineDating}
 
 -- ---- the length and the characters of a text; then what is judged of the scale and the fields that it writes
 abbrev pub textJudging : (Scale → Stamp → Judged Moment) → List ℕ → Judged Moment
@@ -101,8 +101,3 @@ module _ (ds : List ℤ) (os : List ℕ) (e : ℤ) where
   line-outcome s =
       ap (λ (o : Outcome Moment). cond (isPrefixed s || isPlain s) (cond (isPrefixRight s && isBody (scaleIn s) (bodyIn s)) o (refused 3)) (refused 1))
       (time-outcome (scaleIn s) (stampIn (bodyIn s)))
-
-  -- what is printed for a line, "a newline after each"
-  pub line-told : (s : List ℕ) → answerTo ds os e s ≡ told (outcome (lineJudging s)) ++ (10 ∷ [])
-  unfolding answerTo
-  line-told s = ap (λ (o : Outcome Moment). told o ++ (10 ∷ [])) (sym (line-outcome s))

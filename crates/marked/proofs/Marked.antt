@@ -1,15 +1,17 @@
 -- The marked cases hold, all in one computation, and they are the paper's ten. Assumes nothing.
 use mathlib.Core.Path.{_≡_, refl}
-use mathlib.Core.Bool.{cond}
+use mathlib.Core.Bool.{true, cond}
 use mathlib.Core.List.{List, [], _∷_, map}
 use Prim.Native.Nat.{ℕ}
+use lib.IntN.{pos}
 use lib.Dec.{eqb}
 use Rattle.decimal.specs.Meaning.{readOf}
 use Rattle.clock.specs.Meaning.{inWindow, within, clock}
 use Rattle.sbt.specs.Meaning.{dateOf, accepted}
 use Rattle.calendar.specs.Meaning.{leap, monthLength, lengthOf, firstDay, dayAfter, daysTo, walk, isFirst}
 use Rattle.leap.specs.Meaning as L
-use Rattle.leap.specs.Meaning.{begins, risesFrom, rises, countsFrom, countsUp, noneLater, through, isStep}
+use Rattle.leap.specs.Meaning.{begins, risesFrom, rises, countsFrom, countsUp, noneLater, through, isStep, publishedDays, publishedOffsets}
+use Rattle.leap.specs.Published.{published}
 use Rattle.changes.specs.Meaning.{changeOf}
 use Rattle.octets.specs.Meaning.{number}
 use Rattle.layout_times.specs.Cuc as Cuc
@@ -17,9 +19,14 @@ use Rattle.layout_times.specs.Proteus as Proteus
 use Rattle.layout_times.specs.Siral as Siral
 use Rattle.marked.specs.Table.{Row, table}
 
+-- the list is judged once for each last day
+early : L.accepted publishedDays publishedOffsets (pos 6209) ≡ true
+unfolding L.accepted begins risesFrom rises countsFrom countsUp noneLater isFirst walk daysTo dayAfter firstDay lengthOf monthLength leap
+early = refl
+
 pub marked : map (λ (r : Row). r .meaning) table ≡ map (λ (r : Row). r .paper) table
-unfolding number Cuc.read Proteus.read Siral.read readOf dateOf accepted inWindow within clock changeOf L.accepted begins risesFrom rises countsFrom countsUp noneLater through isStep isFirst walk daysTo dayAfter firstDay lengthOf monthLength leap
-marked = refl
+unfolding number Cuc.read Proteus.read Siral.read readOf dateOf accepted inWindow within clock changeOf through isStep
+marked = rw (published, early)
 
 -- ---- no case is left out: a case's rows stand together, and a number beside the same one is a repeat
 abbrev pub withoutRepeats : List ℕ → List ℕ

@@ -19,7 +19,7 @@ use Rattle.layout_laws.proofs.Times.{cryosat-same, cuc-last, proteus-last, sira
 use Rattle.text_laws.specs.Back.{none-refused, read-back}
 use Rattle.lines_laws.specs.Calls.{dated, kept-for}
 use Rattle.lines_laws.specs.Each.{one-each}
-use Rattle.lines_laws.specs.First.{line-outcome}
+use Rattle.lines_laws.specs.First.{line-numbers, line-outcome}
 use Rattle.lines_laws.specs.Run.{any-blocks}
 use Rattle.c_api_laws.proofs.One.{decimal-one}
 use Rattle.marked.proofs.Marked.{marked, ten-cases}
