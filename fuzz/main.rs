@@ -29,7 +29,7 @@ use std::process::exit;
 use std::sync::Mutex;
 use std::time::{Duration, Instant};
 
-const DESK: [&str; 2] = ["tools/x86-64", "target/bin/desk"];
+const DESK: [&str; 2] = ["tools/x86-64", "target/fuzz/desk"];
 const BATCH: usize = 250;
 /// Calls that met new code, of each function.
 const POOL: usize = 400;

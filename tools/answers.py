@@ -2,7 +2,7 @@
 """The answers of before are kept: tests/answers.txt has, of each function, a digest of fixed calls, among them every refusal that
 it gives, and a digest of their answers.
 
-    tools/answers.py            says which functions answer otherwise than stored; tests/steps/80-compare builds what it needs
+    tools/answers.py            says which functions answer otherwise than stored
     tools/answers.py --write    stores the digests. A request says in its note which lines it changes."""
 
 import os
@@ -20,6 +20,7 @@ SAID = """# Made by tools/answers.py --write; not by hand. Of each function a di
 
 def digests(serve=SERVE):
     """A line for each function of the library that the server calls."""
+    subprocess.run([os.path.join(ROOT, "tests/compare/build")], check=True)
     words = ["target/compare/compare", "answers", "tools/x86-64", serve]
     return subprocess.run(words, cwd=ROOT, stdout=subprocess.PIPE, check=True, text=True).stdout
 

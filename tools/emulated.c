@@ -34,6 +34,8 @@ static void start(void) {
     pid_t child = fork();
     if (child < 0) fail("no process");
     if (child == 0) {
+        /* Ctrl-C is for the program that calls; this one ends when nobody calls any more. */
+        setpgid(0, 0);
         dup2(ends[1], 0);
         dup2(ends[1], 1);
         execl(RUN, RUN, SERVE, (char *)0);

@@ -143,14 +143,14 @@ def rattle(root, folder=CRATE):
 
 def made(root):
     """What follows from the interface, the refusals and the version: a path and its text."""
-    from made import benched, bindings, server, shapes, slips
+    from made import benched, bindings, manual, server, shapes, slips
     from refusals import by_function, refusals
 
     interface, listed = rattle(root), refusals(root)
     table = by_function(root, interface, listed)
     version = read(os.path.join(root, "VERSION")).strip()
     files = bindings.made(interface, table, version) | server.made(interface) | benched.made(interface)
-    return files | shapes.made(interface, table, listed) | slips.made(table, listed)
+    return files | shapes.made(interface, table, listed) | slips.made(table, listed) | manual.made(root)
 
 
 def stale(root):

@@ -1,0 +1,144 @@
+"""The first run talks, a later one does not; what keeps it from its end is told in a line."""
+
+import os
+import re
+import signal
+import stat
+
+from room import begin, ended, expect, run, sample, tally, until
+from piped import IN, OUT
+
+USER, NOBODY = "nobody", 65534
+
+
+def change(path, text):
+    with open(path, "a", encoding="utf-8") as file:
+        file.write(text)
+
+
+def talks():
+    for name, what, crates, command in [
+        ("desk", "the program", 3, lambda one: one.desk),
+        ("build", "the library", 3, lambda one: one.build),
+    ]:
+        with sample() as one:
+            done = one.run(command(one), data=IN)
+            due = [
+                rf"{name}: proving and building {what}, {crates} crates; from nothing this takes some minutes",
+                rf"{name}: 2 of {crates}, scales: proved \(7 s\)",
+            ]
+            due += [rf"{name}: 2 of {crates}, scales: proved \(7 s\)", rf"{name}: 3 of 3, c_api: proved \(\d+ s\)"] * (name == "build")
+            due += [rf"{name}: {what} is built \(\d+ s\)"]
+            lines = done.err.splitlines()
+            good = len(lines) >= len(due) and all(re.fullmatch(like, line) for like, line in zip(due, lines))
+            expect(f"the first run of {name} tells what it does, crate by crate", done, done.status == 0 and good)
+            out = OUT if name == "desk" else b""
+            expect(f"the first run of {name} prints what a later one does", done, done.out == out)
+            calls = one.calls()
+            done = one.run(command(one), data=IN)
+            expect(f"the next run of {name} tells nothing", done, (done.status, done.out, done.err) == (0, out, ""))
+            tally.expect(f"the next run of {name} proves nothing", one.calls() == calls, str(one.calls()))
+
+
+def again():
+    """What changed is proved again, and nothing else is."""
+    with sample() as one:
+        one.run(one.desk)
+        calls = len(one.calls())
+        for what, path, proved in [
+            ("a source of a crate below", "crates/axis/src/lib.rt", True),
+            ("a new file of a crate below", "crates/scales/src/more.rt", True),
+            ("crates.txt", "crates.txt", True),
+            ("the program itself", "target/proved/desk", True),
+            ("a crate that it does not know", "crates/other/src/lib.rt", False),
+            ("a page", "README.md", False),
+        ]:
+            change(one.path(path), "\n# changed\n")
+            done = one.run(one.desk, data=IN)
+            more, calls = len(one.calls()) > calls, len(one.calls())
+            expect(f"after a change of {what} it is {'' if proved else 'not '}proved", done, done.status == 0 and more == proved)
+            expect(f"after a change of {what} it prints the same", done, done.out == OUT)
+        done = one.run(one.desk, data=IN, environment={"AS_KIT": "another kit"})
+        kit = "desk: warning: rt is 'another kit', and the file KIT names '"
+        expect("another kit is told, and what it proves is run", done, (done.status, done.out) == (0, OUT) and done.err.startswith(kit))
+        tally.expect("another kit proves anew", len(one.calls()) > calls)
+        for name, words in ("tools/build", [one.build]), ("fuzz/run", [one.path("fuzz/run"), "replay", "none"]):
+            done = one.run(*words, environment={"AS_KIT": "another kit"})
+            expect(f"another kit is told by {name}", done, kit.split(":", 1)[1] in done.err)
+
+
+def refused():
+    """What is not proved is not run."""
+    with sample() as one:
+        for name, command in ("desk", one.desk), ("build", one.build):
+            done = one.run(command, data=IN, environment={"BROKEN": "1"})
+            lines = done.err.splitlines()
+            good = (done.status, done.out) == (1, b"") and len(lines) <= 8
+            expect(f"{name}: what is not proved is told in a few lines", done, good and "rt: scales NOT PROVED (exit 1, 2 s)" in lines)
+            log = lines[-1].split()[-6] if good else ""
+            expect(f"{name}: the last names a file with all that was said", done, os.path.isfile(log) and one.root in log)
+        done = one.run(one.desk, data=IN)
+        expect("once it is proved it is run", done, (done.status, done.out) == (0, OUT))
+        change(one.path("crates/axis/src/lib.rt"), "\n# changed\n")
+        touch = {"MEANWHILE": 'echo >>"$SAMPLE/crates/axis/src/lib.rt"'}
+        done = one.run(one.desk, data=IN, environment=touch)
+        expect("what changed while it was proved is not run", done, (done.status, done.out) == (1, b"") and "changed meanwhile" in done.err)
+        done = one.run(one.desk, data=IN)
+        expect("and then is proved", done, (done.status, done.out) == (0, OUT))
+
+
+def read_only(one, *words, **more):
+    """In a folder that cannot be written; root can write in any, so that it becomes another."""
+    if os.getuid() != 0:
+        return one.run(*words, **more)
+    usual = ":".join(folder for folder in one.environment["PATH"].split(":") if not folder.startswith(os.path.expanduser("~")))
+    drop = ["setpriv", f"--reuid={NOBODY}", f"--regid={NOBODY}", "--clear-groups"]
+    return one.run(*drop, *words, environment={"PATH": usual, "HOME": "/"}, **more)
+
+
+def unwritable():
+    with sample() as one:
+        mode = stat.S_IMODE(os.stat(one.root).st_mode)
+        os.chmod(one.root, 0o555)
+        for name, command in ("desk", one.desk), ("build", one.build):
+            done = read_only(one, command, data=IN)
+            expect(f"{name}: a read-only folder in which nothing is built is one line", done, done.one_line(1, f"{name}: cannot write into "))
+        os.chmod(one.root, mode)
+        for command in (one.desk, one.build):
+            one.run(command)
+        for folder in ("target", "target/proved", ""):
+            os.chmod(one.path(folder), 0o555)
+        for name, command, out in ("desk", one.desk, OUT), ("build", one.build, b""):
+            done = read_only(one, command, data=IN)
+            expect(f"{name}: a read-only folder in which all is built does", done, (done.status, done.out, done.err) == (0, out, ""))
+        for folder in ("", "target", "target/proved"):
+            os.chmod(one.path(folder), mode)
+        os.rename(one.path("target"), one.path("old"))
+        change(one.path("target"), "a file in its place\n")
+        done = one.run(one.desk, data=IN)
+        expect("a file in the place of target/ is one line", done, done.one_line(1, "desk: cannot write into "))
+
+
+def stopped():
+    """A signal ends the provers too, and the next run begins anew."""
+    for name, number in ("desk", signal.SIGTERM), ("build", signal.SIGTERM), ("desk", signal.SIGINT):
+        with sample() as one:
+            child = one.begin(one.desk if name == "desk" else one.build, environment={"SLOW": "50"})
+            tally.expect(f"{name}: its prover begins", until(lambda: os.path.exists(one.path("sleeper"))))
+            with open(one.path("sleeper"), encoding="utf-8") as file:
+                until(lambda: os.path.getsize(one.path("sleeper")))
+                prover = file.read().strip()
+            (os.killpg if number == signal.SIGINT else os.kill)(child.pid, number)
+            done = ended(child)
+            expect(f"{name}: {number.name} ends it while it proves", done, done.status == -number and "Traceback" not in done.err)
+            tally.expect(f"{name}: {number.name} ends the prover", until(lambda: not os.path.exists(f"/proc/{prover}")))
+            done = one.run(one.desk, data=IN)
+            expect(f"{name}: the next run proves it", done, (done.status, done.out) == (0, OUT) and "waiting" not in done.err)
+
+
+def check():
+    talks()
+    again()
+    refused()
+    unwritable()
+    stopped()

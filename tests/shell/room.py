@@ -1,0 +1,145 @@
+"""What the checks of the shell share: the count, how a command is run, and repositories with an rt of their own."""
+
+import contextlib
+import os
+import shutil
+import signal
+import subprocess
+import tempfile
+import time
+
+from tally import Tally
+
+ROOT = os.path.normpath(os.path.join(os.path.dirname(os.path.abspath(__file__)), "..", ".."))
+DESK = os.path.join(ROOT, "desk")
+MOST = 60  # seconds that a command may take
+tally = Tally()
+
+# It tells two crates, keeps a note of when it began and ended, waits as long as SLOW says, and gives what the real one made.
+RT = """#!/usr/bin/env bash
+case $1 in
+version) echo "${AS_KIT:-$(cat "$SAMPLE/KIT")}" ;;
+doc) echo "$DOC" ;;
+check | staticlib)
+    echo "begin $*" >>"$SAMPLE/calls"
+    [ -z "${SLOW:-}" ] || { sleep "$SLOW" & echo $! >"$SAMPLE/sleeper" && wait; }
+    eval "${MEANWHILE:-}"
+    echo "a prover's word"
+    if [ -n "${BROKEN:-}" ]; then
+        for n in $(seq 300); do echo "a prover's word of an error"; done
+        echo 'rt: scales NOT PROVED (exit 1, 2 s)'
+        echo 'rt: FAILED: scales'
+        echo "end $*" >>"$SAMPLE/calls"
+        exit 1
+    fi
+    echo 'rt: axis proved (unchanged since it was last proved)'
+    echo 'rt: scales proved (7 s)'
+    mkdir -p target/bin target/staticlib
+    cp "$PROVED/desk" target/bin/desk
+    cp "$PROVED/libc_api.a" target/staticlib/libc_api.a
+    echo "end $*" >>"$SAMPLE/calls"
+    ;;
+*) exit 2 ;;
+esac
+"""
+
+
+class Done:
+    """A command that has ended: its status, as a shell would tell it where a signal ended it, and what it printed and told."""
+
+    def __init__(self, status, out, err):
+        self.status, self.out = status, out
+        self.err = (err or b"").decode("utf-8", "replace")
+
+    def __str__(self):
+        return f"status {self.status}, {self.out[:200]!r}, {self.err[-600:]!r}"
+
+    def one_line(self, status, begin):
+        """Ended so, with nothing printed and one line told."""
+        return (self.status, self.out, self.err.count("\n")) == (status, b"", 1) and self.err.startswith(begin)
+
+
+def run(*words, data=b"", **more):
+    """Runs a command to its end, with these bytes as its input unless it is given another."""
+    pipes = {"stdout": subprocess.PIPE, **({} if "stdin" in more else {"input": data}), **more}
+    done = subprocess.run(words, stderr=subprocess.PIPE, timeout=MOST, **pipes)
+    return Done(done.returncode, done.stdout or b"", done.stderr)
+
+
+def begin(*words, **more):
+    """Starts a command in a group of its own, as a terminal does."""
+    pipes = {"stdin": subprocess.PIPE, "stdout": subprocess.PIPE, "stderr": subprocess.PIPE, **more}
+    return subprocess.Popen(words, start_new_session=True, **pipes)
+
+
+def ended(child):
+    """A command that was started, at its end."""
+    try:
+        out, err = child.communicate(timeout=MOST)
+    except subprocess.TimeoutExpired:
+        os.killpg(child.pid, signal.SIGKILL)
+        out, err = child.communicate()
+        return Done(None, out, b"it does not end")
+    return Done(child.returncode, out, err)
+
+
+def until(condition):
+    """Whether it comes to hold soon."""
+    end = time.monotonic() + MOST / 2
+    while not condition():
+        if time.monotonic() > end:
+            return False
+        time.sleep(0.02)
+    return True
+
+
+def expect(what, done, good):
+    tally.expect(what, good, str(done))
+
+
+class Sample:
+    """A repository with two crates and an rt of its own: its folder, and the environment in which its commands are run."""
+
+    def __init__(self, root, environment):
+        self.root, self.environment = root, environment
+        self.desk, self.build = os.path.join(root, "desk"), os.path.join(root, "tools/build")
+
+    def run(self, *words, data=b"", environment=(), **more):
+        return run(*words, data=data, env={**self.environment, **dict(environment)}, cwd=self.root, **more)
+
+    def begin(self, *words, environment=(), **more):
+        return begin(*words, env={**self.environment, **dict(environment)}, cwd=self.root, **more)
+
+    def path(self, *names):
+        return os.path.join(self.root, *names)
+
+    def calls(self):
+        """What rt was called for, each with 'begin' or 'end' in front."""
+        with contextlib.suppress(OSError), open(self.path("calls"), encoding="utf-8") as file:
+            return file.read().splitlines()
+        return []
+
+
+@contextlib.contextmanager
+def sample():
+    """What a command needs of this repository, and crates of one file each. Others can read it."""
+    with tempfile.TemporaryDirectory() as root:
+        os.chmod(root, 0o755)
+        for name in ("desk", "KIT", "VERSION", "refusals.txt", "tools", "include", "tests/compare", "fuzz"):
+            place = os.path.join(root, name)
+            os.makedirs(os.path.dirname(place), exist_ok=True)
+            (shutil.copytree if os.path.isdir(os.path.join(ROOT, name)) else shutil.copy)(os.path.join(ROOT, name), place)
+        with open(os.path.join(root, "crates.txt"), "w", encoding="utf-8") as file:
+            file.write("axis:  # below\nscales: axis\nother:\ndesk: axis scales libc\nc_api: axis scales\n")
+        for crate in ("axis", "scales", "other", "desk", "c_api"):
+            os.makedirs(os.path.join(root, "crates", crate, "src"))
+            with open(os.path.join(root, "crates", crate, "src/lib.rt"), "w", encoding="utf-8") as file:
+                file.write(crate)
+        os.makedirs(os.path.join(root, "bin"))
+        shutil.copytree(os.path.join(ROOT, "target/proved"), os.path.join(root, "made"))
+        with open(os.path.join(root, "bin/rt"), "w", encoding="utf-8") as file:
+            file.write(RT)
+        os.chmod(os.path.join(root, "bin/rt"), 0o755)
+        doc = subprocess.run(["rt", "doc"], stdout=subprocess.PIPE, text=True, check=True).stdout.strip()
+        own = {"PATH": os.path.join(root, "bin") + ":" + os.environ["PATH"]}
+        yield Sample(root, {**os.environ, **own, "SAMPLE": root, "DOC": doc, "PROVED": os.path.join(root, "made")})

@@ -1,0 +1,114 @@
+"""Two commands at once wait for each other, and say for whom."""
+
+import fcntl
+import os
+import shutil
+import signal
+import subprocess
+
+from piped import IN, OUT
+from room import ROOT, Done, ended, expect, run, sample, tally, until
+
+SLOW = {"SLOW": "1"}
+
+
+def overlaps(calls):
+    """Whether rt began before another had ended."""
+    return any(one.split()[0] != ("begin", "end")[at % 2] for at, one in enumerate(calls)) or len(calls) % 2
+
+
+def started(one, *words):
+    child = one.begin(*words, environment=SLOW)
+    child.stdin.write(IN)
+    child.stdin.close()
+    child.stdin = None
+    return child
+
+
+def at_once():
+    with sample() as one:
+        first = started(one, one.desk)
+        tally.expect("the first is at work", until(one.calls))
+        others = {"tools/build": started(one, one.build), "./desk": started(one, one.desk)}
+        for name, child in {"the first ./desk": first, **others}.items():
+            done = ended(child)
+            good = (done.status, done.out) == (0, b"" if "build" in name else OUT)
+            expect(f"three at once: {name} does its work", done, good)
+            if child is not first:
+                waits = any(f"{who} (process {first.pid}), which is at work here" in done.err for who in ("desk", "build"))
+                expect(f"three at once: {name} says that it waits", done, ": waiting for " in done.err)
+        tally.expect("three at once: no two provers run at once", not overlaps(one.calls()), str(one.calls()))
+
+
+def told():
+    """For whom it waits."""
+    with sample() as one:
+        first = started(one, one.build)
+        until(one.calls)
+        done = ended(started(one, one.desk))
+        expect("it says for whom it waits", done, f"desk: waiting for build (process {first.pid}), which is at work here\n" in done.err)
+        ended(first)
+
+
+def cleaned():
+    """A clean-up takes no lock away."""
+    with sample() as one:
+        first = started(one, one.desk)
+        until(one.calls)
+        shutil.rmtree(one.path("target"))
+        second = started(one, one.build)
+        done = ended(second)
+        expect("after a clean-up the second waits all the same", done, done.status == 0 and "build: waiting for another command" in done.err)
+        ended(first)
+        tally.expect("after a clean-up no two provers run at once", not overlaps(one.calls()), str(one.calls()))
+        done = one.run(one.desk, data=IN)
+        expect("after a clean-up all is built again", done, (done.status, done.out) == (0, OUT))
+
+
+def builds():
+    """Two builds at once, each from nothing."""
+    with sample() as one:
+        children = [started(one, one.build) for _ in range(2)]
+        for done in map(ended, children):
+            expect("two builds at once", done, done.status == 0)
+        first = tree(one)
+        tally.expect("two builds at once lay out the library", any(path.endswith("libvrikshonem.a") for path in first))
+        shutil.rmtree(one.path("target/dist"))
+        expect("what was taken away is laid out again", one.run(one.build), tree(one) == first)
+        os.remove(one.path("target/dist/include/vrikshonem.h"))
+        done = one.run(one.build)
+        expect("a file that was taken away is laid out again", done, tree(one) == first)
+        done = one.run(one.build, "--all")
+        expect("tools/build: an unknown word", done, done.one_line(2, "usage: tools/build"))
+
+
+def tree(one):
+    """What is laid out: paths and sizes."""
+    found = {}
+    for folder, _, files in os.walk(one.path("target/dist")):
+        for name in files:
+            found[os.path.relpath(os.path.join(folder, name), one.root)] = os.path.getsize(os.path.join(folder, name))
+    return found
+
+
+def fuzzed():
+    """The fuzzer works alone in its folder, and whoever builds need not wait for it."""
+    with sample() as one:
+        folder = os.open(one.path("fuzz"), os.O_RDONLY)
+        fcntl.flock(folder, fcntl.LOCK_EX)
+        child = one.begin(one.path("fuzz/run"), "1", "1", stdin=subprocess.DEVNULL)
+        line = child.stderr.readline().decode()
+        tally.expect("fuzz/run waits for another", line == "fuzz: waiting for another command, which is at work here\n", line)
+        done = one.run(one.desk, data=IN)
+        expect("nobody waits for the fuzzer", done, (done.status, done.out) == (0, OUT) and "waiting" not in done.err)
+        os.killpg(child.pid, signal.SIGTERM)
+        ended(child)
+        os.close(folder)
+
+
+def check():
+    at_once()
+    told()
+    cleaned()
+    builds()
+    fuzzed()
