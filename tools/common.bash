@@ -46,7 +46,7 @@ hold() { # FOLDER
     if ! flock -n "$lock"; then
         { read -r pid who <"$note"; } 2>/dev/null || true
         # What an ended command left tells nothing.
-        kill -0 "$pid" 2>/dev/null || who='another command'
+        kill -0 "$pid" 2>/dev/null || { who='another command' && pid=''; }
         tell "waiting for $who${pid:+ (process $pid)}, which is at work here"
         flock "$lock" || stop "cannot lock $PWD/$1"
     fi

@@ -4,6 +4,7 @@ import os
 import platform
 import re
 import shutil
+import signal
 import subprocess
 import sys
 
@@ -15,6 +16,17 @@ PACKETS, LINES = "examples/packets.bin", "examples/packets.txt"
 CARGO = shutil.which("cargo")
 CRATE = ["--offline", "--locked", "--manifest-path", "rust/Cargo.toml"]
 FIRST = next(one for one in refusals(ROOT) if one.number == 1)
+# It goes on after Ctrl-C, as Python's own prompt does.
+INTERRUPTED = """import time
+import vrikshonem as vrk
+
+first = vrk.cuc_read(bytes(6))
+print("ready", flush=True)
+try:
+    time.sleep(60)
+except KeyboardInterrupt:
+    print(vrk.cuc_read(bytes(6)) == first)
+"""
 SHOWN = f"UTC=31-DEC-2016 23:59:60.000015\nnumber 1, in words: refused 1: {FIRST.words}\n"
 
 
@@ -89,6 +101,21 @@ def examples():
         skipped("Rust and Python with the x86-64 library itself", why)
 
 
+def interrupted():
+    """Ctrl-C is sent to all that the terminal runs; what the library started must outlive it, and end with the program."""
+    words = [sys.executable, written("interrupted.py", INTERRUPTED)]
+    child = subprocess.Popen(words, stdout=subprocess.PIPE, stderr=subprocess.PIPE, start_new_session=True, **PYTHON)
+    ready = child.stdout.readline()
+    os.killpg(child.pid, signal.SIGINT)
+    try:
+        # It has the same standard error, so that this waits for its end too.
+        out, err = child.communicate(timeout=20)
+    except subprocess.TimeoutExpired:
+        os.killpg(child.pid, signal.SIGKILL)
+        out, err = b"", b"it does not end"
+    tally.expect("Ctrl-C in a Python program leaves the library alive", (ready, out, err) == (b"ready\n", b"True\n", b""), str(err))
+
+
 def block(language):
     return re.findall(rf"^```{language}\n(.*?)^```", read("docs/USE.md"), re.M | re.S)
 
@@ -121,4 +148,5 @@ def use():
 def check():
     packages()
     examples()
+    interrupted()
     use()
