@@ -21,8 +21,8 @@ INTERRUPTED = """import time
 import vrikshonem as vrk
 
 first = vrk.cuc_read(bytes(6))
-print("ready", flush=True)
 try:
+    print("ready", flush=True)
     time.sleep(60)
 except KeyboardInterrupt:
     print(vrk.cuc_read(bytes(6)) == first)
