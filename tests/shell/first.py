@@ -2,13 +2,14 @@
 
 import os
 import re
+import shutil
 import signal
 import stat
 
-from room import begin, ended, expect, run, sample, tally, until
 from piped import IN, OUT
+from room import ended, expect, sample, tally, until
 
-USER, NOBODY = "nobody", 65534
+NOBODY = 65534
 
 
 def change(path, text):
@@ -87,17 +88,24 @@ def refused():
         expect("and then is proved", done, (done.status, done.out) == (0, OUT))
 
 
+def everyones(path):
+    """The folders of PATH that are not in root's own home."""
+    return ":".join(folder for folder in path.split(":") if not folder.startswith(os.path.expanduser("~")))
+
+
 def read_only(one, *words, **more):
     """In a folder that cannot be written; root can write in any, so that it becomes another."""
     if os.getuid() != 0:
         return one.run(*words, **more)
-    usual = ":".join(folder for folder in one.environment["PATH"].split(":") if not folder.startswith(os.path.expanduser("~")))
     drop = ["setpriv", f"--reuid={NOBODY}", f"--regid={NOBODY}", "--clear-groups"]
-    return one.run(*drop, *words, environment={"PATH": usual, "HOME": "/"}, **more)
+    return one.run(*drop, *words, environment={"PATH": everyones(one.environment["PATH"]), "HOME": "/"}, **more)
 
 
 def unwritable():
     with sample() as one:
+        if os.getuid() == 0 and not shutil.which("python3", path=everyones(one.environment["PATH"])):
+            print("skipped, and not counted: a read-only folder: only root has Python here")
+            return
         mode = stat.S_IMODE(os.stat(one.root).st_mode)
         os.chmod(one.root, 0o555)
         for name, command in ("desk", one.desk), ("build", one.build):

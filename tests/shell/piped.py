@@ -10,7 +10,7 @@ import time
 
 from made.manual import REFUSED
 from refusals import refusals
-from room import DESK, MOST, ROOT, begin, ended, expect, run, sample, tally, until
+from room import DESK, MOST, ROOT, begin, ended, expect, run, sample, tally
 from source import read
 
 LEAP = b"UTC=31-DEC-2016 23:59:60.000000\n"

@@ -7,7 +7,7 @@ import signal
 import subprocess
 
 from piped import IN, OUT
-from room import ROOT, Done, ended, expect, run, sample, tally, until
+from room import ended, expect, sample, tally, until
 
 SLOW = {"SLOW": "1"}
 
@@ -35,7 +35,6 @@ def at_once():
             good = (done.status, done.out) == (0, b"" if "build" in name else OUT)
             expect(f"three at once: {name} does its work", done, good)
             if child is not first:
-                waits = any(f"{who} (process {first.pid}), which is at work here" in done.err for who in ("desk", "build"))
                 expect(f"three at once: {name} says that it waits", done, ": waiting for " in done.err)
         tally.expect("three at once: no two provers run at once", not overlaps(one.calls()), str(one.calls()))
 

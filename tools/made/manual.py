@@ -8,7 +8,7 @@ from refusals import refusals
 from source import read
 
 PAGE = "docs/desk.1"
-USAGE = "desk [--words] < LINES"
+USAGE, ALONE = "desk [--words] < LINES", "desk --help | --version"
 TITLE = "dates lines of text, or refuses each with a number"
 # What a line can be refused for.
 REFUSED = (1, 3, 7, 9, 10, 11)
@@ -64,7 +64,7 @@ def sections(root):
 
 def helping(root):
     """The text of desk --help."""
-    lines = [f"usage: {USAGE}"]
+    lines = [f"usage: {USAGE}", f"       {ALONE}"]
     for title, blocks in sections(root).items():
         lines += ["", title]
         for block in blocks:
@@ -85,7 +85,7 @@ def roff(text):
 
 def page(root):
     lines = [f'.\\" {SAID}', f'.TH DESK 1 "" "vrikshonem {version(root)}" "Vrikshonem, the dating desk"']
-    lines += [".SH NAME", f"desk \\- {roff(TITLE)}", ".SH SYNOPSIS", f".B {roff(USAGE)}"]
+    lines += [".SH NAME", f"desk \\- {roff(TITLE)}", ".SH SYNOPSIS", f".B {roff(USAGE)}", ".br", f".B {roff(ALONE)}"]
     for title, blocks in sections(root).items():
         lines.append(f".SH {title}")
         for block in blocks:
