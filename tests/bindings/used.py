@@ -104,7 +104,9 @@ def examples():
 def interrupted():
     """Ctrl-C is sent to all that the terminal runs; what the library started must outlive it, and end with the program."""
     words = [sys.executable, written("interrupted.py", INTERRUPTED)]
-    child = subprocess.Popen(words, stdout=subprocess.PIPE, stderr=subprocess.PIPE, start_new_session=True, **PYTHON)
+    # Whoever runs this in the background may have the signal ignored.
+    heed = {"start_new_session": True, "preexec_fn": lambda: signal.signal(signal.SIGINT, signal.SIG_DFL)}
+    child = subprocess.Popen(words, stdout=subprocess.PIPE, stderr=subprocess.PIPE, **heed, **PYTHON)
     ready = child.stdout.readline()
     os.killpg(child.pid, signal.SIGINT)
     try:

@@ -10,7 +10,7 @@ import time
 
 from made.manual import REFUSED
 from refusals import refusals
-from room import DESK, MOST, ROOT, begin, ended, expect, run, sample, tally
+from room import DESK, ROOT, begin, ended, expect, run, sample, tally
 from source import read
 
 LEAP = b"UTC=31-DEC-2016 23:59:60.000000\n"
@@ -85,7 +85,7 @@ def signals():
                 child.send_signal(number)
             began = time.monotonic()
             out = child.stdout.read()
-            child.wait(timeout=MOST)
+            child.wait()
             good = (child.returncode, out, child.stderr.read()) == (-number, b"", b"") and time.monotonic() - began < 5
             tally.expect(f"{mode}: it is ended by {number.name} alone, and its program too", good, f"status {child.returncode}")
             child.stdin.close()

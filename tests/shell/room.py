@@ -6,6 +6,7 @@ import shutil
 import signal
 import subprocess
 import tempfile
+import threading
 import time
 
 from tally import Tally
@@ -66,20 +67,25 @@ def run(*words, data=b"", **more):
     return Done(done.returncode, done.stdout or b"", done.stderr)
 
 
+def heeding():
+    """As in a terminal: whoever runs this in the background may have these ignored."""
+    for number in (signal.SIGHUP, signal.SIGINT, signal.SIGQUIT):
+        signal.signal(number, signal.SIG_DFL)
+
+
 def begin(*words, **more):
-    """Starts a command in a group of its own, as a terminal does."""
+    """Starts a command in a group of its own, as a terminal does. What does not end is ended."""
     pipes = {"stdin": subprocess.PIPE, "stdout": subprocess.PIPE, "stderr": subprocess.PIPE, **more}
-    return subprocess.Popen(words, start_new_session=True, **pipes)
+    child = subprocess.Popen(words, start_new_session=True, preexec_fn=heeding, **pipes)
+    timer = threading.Timer(MOST, lambda: child.poll() is None and os.killpg(child.pid, signal.SIGKILL))
+    timer.daemon = True
+    timer.start()
+    return child
 
 
 def ended(child):
     """A command that was started, at its end."""
-    try:
-        out, err = child.communicate(timeout=MOST)
-    except subprocess.TimeoutExpired:
-        os.killpg(child.pid, signal.SIGKILL)
-        out, err = child.communicate()
-        return Done(None, out, b"it does not end")
+    out, err = child.communicate()
     return Done(child.returncode, out, err)
 
 
