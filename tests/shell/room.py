@@ -16,7 +16,8 @@ DESK = os.path.join(ROOT, "desk")
 MOST = 60  # seconds that a command may take
 tally = Tally()
 
-# It tells two crates, keeps a note of when it began and ended, waits as long as SLOW says, and gives what the real one made.
+# It tells two crates, keeps a note of when it began and ended, waits for SLOW seconds or while there is a file `busy`, and gives
+# what the real one made.
 RT = """#!/usr/bin/env bash
 case $1 in
 version) echo "${AS_KIT:-$(cat "$SAMPLE/KIT")}" ;;
@@ -24,6 +25,7 @@ doc) echo "$DOC" ;;
 check | staticlib)
     echo "begin $*" >>"$SAMPLE/calls"
     [ -z "${SLOW:-}" ] || { sleep "$SLOW" & echo $! >"$SAMPLE/sleeper" && wait; }
+    while [ -e "$SAMPLE/busy" ]; do sleep 0.02; done
     eval "${MEANWHILE:-}"
     echo "a prover's word"
     if [ -n "${BROKEN:-}" ]; then
@@ -118,6 +120,13 @@ class Sample:
 
     def path(self, *names):
         return os.path.join(self.root, *names)
+
+    def busy(self, is_busy):
+        """Keeps rt from its end."""
+        if is_busy:
+            open(self.path("busy"), "w").close()
+        else:
+            os.remove(self.path("busy"))
 
     def calls(self):
         """What rt was called for, each with 'begin' or 'end' in front."""

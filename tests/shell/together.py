@@ -2,14 +2,13 @@
 
 import fcntl
 import os
+import re
 import shutil
 import signal
 import subprocess
 
 from piped import IN, OUT
 from room import ended, expect, sample, tally, until
-
-SLOW = {"SLOW": "1"}
 
 
 def overlaps(calls):
@@ -18,7 +17,7 @@ def overlaps(calls):
 
 
 def started(one, *words):
-    child = one.begin(*words, environment=SLOW)
+    child = one.begin(*words)
     child.stdin.write(IN)
     child.stdin.close()
     child.stdin = None
@@ -26,39 +25,38 @@ def started(one, *words):
 
 
 def at_once():
+    """Three at once: while one proves, the others wait."""
     with sample() as one:
-        first = started(one, one.desk)
-        tally.expect("the first is at work", until(one.calls))
-        others = {"tools/build": started(one, one.build), "./desk": started(one, one.desk)}
-        for name, child in {"the first ./desk": first, **others}.items():
-            done = ended(child)
-            good = (done.status, done.out) == (0, b"" if "build" in name else OUT)
-            expect(f"three at once: {name} does its work", done, good)
-            if child is not first:
-                expect(f"three at once: {name} says that it waits", done, ": waiting for " in done.err)
-        tally.expect("three at once: no two provers run at once", not overlaps(one.calls()), str(one.calls()))
-
-
-def told():
-    """For whom it waits."""
-    with sample() as one:
+        one.busy(True)
         first = started(one, one.build)
-        until(one.calls)
-        done = ended(started(one, one.desk))
-        expect("it says for whom it waits", done, f"desk: waiting for build (process {first.pid}), which is at work here\n" in done.err)
-        ended(first)
+        tally.expect("the first is at work", until(one.calls))
+        others = {"./desk": started(one, one.desk), "tools/build": started(one, one.build)}
+        for name, child in others.items():
+            line = child.stderr.readline().decode()
+            like = rf"(desk|build): waiting for build \(process {first.pid}\), which is at work here\n"
+            tally.expect(f"three at once: {name} says for whom it waits", re.fullmatch(like, line), line)
+        one.busy(False)
+        for name, child in {"the first tools/build": first, **others}.items():
+            done = ended(child)
+            expect(f"three at once: {name} does its work", done, (done.status, done.out) == (0, OUT if "desk" in name else b""))
+        tally.expect("three at once: no two provers run at once", not overlaps(one.calls()), str(one.calls()))
 
 
 def cleaned():
     """A clean-up takes no lock away."""
     with sample() as one:
+        one.busy(True)
         first = started(one, one.desk)
         until(one.calls)
         shutil.rmtree(one.path("target"))
         second = started(one, one.build)
-        done = ended(second)
-        expect("after a clean-up the second waits all the same", done, done.status == 0 and "build: waiting for another command" in done.err)
+        line = second.stderr.readline().decode()
+        told = "build: waiting for another command, which is at work here\n"
+        tally.expect("after a clean-up the second waits all the same", line == told, line)
+        one.busy(False)
         ended(first)
+        done = ended(second)
+        expect("after a clean-up the second does its work", done, done.status == 0)
         tally.expect("after a clean-up no two provers run at once", not overlaps(one.calls()), str(one.calls()))
         done = one.run(one.desk, data=IN)
         expect("after a clean-up all is built again", done, (done.status, done.out) == (0, OUT))
@@ -107,7 +105,6 @@ def fuzzed():
 
 def check():
     at_once()
-    told()
     cleaned()
     builds()
     fuzzed()
