@@ -137,9 +137,10 @@ def stopped():
                 until(lambda: os.path.getsize(one.path("sleeper")))
                 prover = file.read().strip()
             (os.killpg if number == signal.SIGINT else os.kill)(child.pid, number)
+            # Before its output ends, which the prover holds too.
+            tally.expect(f"{name}: {number.name} ends the prover", until(lambda: not os.path.exists(f"/proc/{prover}"), 10))
             done = ended(child)
             expect(f"{name}: {number.name} ends it while it proves", done, done.status == -number and "Traceback" not in done.err)
-            tally.expect(f"{name}: {number.name} ends the prover", until(lambda: not os.path.exists(f"/proc/{prover}")))
             done = one.run(one.desk, data=IN)
             expect(f"{name}: the next run proves it", done, (done.status, done.out) == (0, OUT) and "waiting" not in done.err)
 

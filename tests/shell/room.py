@@ -91,9 +91,9 @@ def ended(child):
     return Done(child.returncode, out, err)
 
 
-def until(condition):
+def until(condition, seconds=MOST / 2):
     """Whether it comes to hold soon."""
-    end = time.monotonic() + MOST / 2
+    end = time.monotonic() + seconds
     while not condition():
         if time.monotonic() > end:
             return False
