@@ -1,5 +1,6 @@
 # What the commands share, to be sourced in the repository's folder. `me` is the command's name, which begins each line that it
 # tells; all is told on standard error.
+# shellcheck disable=SC2154 shell=bash
 
 tell() {
     printf '%s: %s\n' "$me" "$*" >&2
@@ -41,7 +42,7 @@ kit() {
 # target/FOLDER.held tells who has it.
 hold() { # FOLDER
     local lock pid='' who='' note=target/$1.held
-    case " ${VRIKSHONEM_HELD:-} " in *" $1 "*) return ;; esac
+    case ${VRIKSHONEM_HELD:-} in *":$PWD/$1:"*) return ;; esac
     exec {lock}<"$1" || stop "cannot open $PWD/$1"
     if ! flock -n "$lock"; then
         { read -r pid who <"$note"; } 2>/dev/null || true
@@ -50,7 +51,7 @@ hold() { # FOLDER
         tell "waiting for $who${pid:+ (process $pid)}, which is at work here"
         flock "$lock" || stop "cannot lock $PWD/$1"
     fi
-    export VRIKSHONEM_HELD="${VRIKSHONEM_HELD:-} $1"
+    export VRIKSHONEM_HELD="${VRIKSHONEM_HELD:-}:$PWD/$1:"
     { mkdir -p target && echo "$$ $me" >"$note"; } 2>/dev/null || true
 }
 

@@ -11,8 +11,7 @@ import sys
 sys.dont_write_bytecode = True
 if sys.version_info < (3, 9):
     sys.exit("desk: too old: python3 %d.%d (at least 3.9 is needed)" % sys.version_info[:2])
-ROOT = os.path.normpath(os.path.join(os.path.dirname(os.path.realpath(__file__)), ".."))
-
+ROOT = os.path.normpath(os.path.join(os.path.dirname(os.path.abspath(__file__)), ".."))
 PROVE = [os.path.join(ROOT, "tools/prove"), "desk", "desk"]
 PROGRAM = [os.path.join(ROOT, "tools/x86-64"), os.path.join(ROOT, "target/proved/desk")]
 running = []
@@ -121,9 +120,10 @@ def main(words):
         if signal.getsignal(number) != signal.SIG_IGN:
             signal.signal(number, pass_on)
     status = start(PROVE, stdin=subprocess.DEVNULL, stdout=subprocess.DEVNULL).wait()
+    running.clear()
     if status < 0:
         end(-status)
-    return 1 if status else answer(words)
+    return 1 if status else answer("--words" in words)
 
 
 sys.exit(main(sys.argv[1:]))
