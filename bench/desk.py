@@ -10,9 +10,9 @@ import sys
 import time
 
 sys.dont_write_bytecode = True
-from programs import PLACE, ROOM, ROOT, RUN, call, can_count, compile_c, instructions, wanted
+from programs import PLACE, ROOM, ROOT, ask, call, can_count, compile_c, instructions, loader, wanted
 
-PROGRAMS = {"desk": os.path.join(ROOT, "target/bin/desk"), "C": os.path.join(ROOM, "desk")}
+PROGRAMS = {"desk": os.path.join(ROOT, "target/proved/desk"), "C": os.path.join(ROOM, "desk")}
 LINES, REPEATS = 1_000_000, 10
 SEED = "1"
 COUNTED = 1000  # lines whose instructions are counted
@@ -20,7 +20,8 @@ COUNTED = 1000  # lines whose instructions are counted
 
 def build():
     os.makedirs(ROOM, exist_ok=True)
-    call("rt", "check", "desk", stdout=subprocess.DEVNULL)
+    ask("bash", "rt", "gcc", "rustc")
+    call("tools/prove", "bench", "desk")
     call("rustc", "--edition", "2021", "-O", "-o", os.path.join(ROOM, "lines"), "tests/desk/main.rs")
     compile_c(PROGRAMS["C"], "bench/desk.c")
 
@@ -35,13 +36,13 @@ def made(lines):
 
 def output(program, path):
     with open(path, "rb") as file:
-        return call(RUN, program, stdin=file, stdout=subprocess.PIPE).stdout
+        return call(*loader(), program, stdin=file, stdout=subprocess.PIPE).stdout
 
 
 def seconds(program, path):
     with open(path, "rb") as file:
         began = time.perf_counter()
-        call(RUN, program, stdin=file, stdout=subprocess.DEVNULL)
+        call(*loader(), program, stdin=file, stdout=subprocess.DEVNULL)
         return time.perf_counter() - began
 
 
@@ -56,8 +57,8 @@ def best(path, repeats):
 
 def counted():
     """Instructions a line, the start taken off."""
-    path = made(COUNTED)
-    return {name: (instructions([RUN, at], path) - instructions([RUN, at])) / COUNTED for name, at in PROGRAMS.items()}
+    path, programs = made(COUNTED), {name: [*loader(), program] for name, program in PROGRAMS.items()}
+    return {name: (instructions(words, path) - instructions(words)) / COUNTED for name, words in programs.items()}
 
 
 def show(lines, repeats):

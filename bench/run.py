@@ -12,7 +12,7 @@ import sys
 
 sys.dont_write_bytecode = True
 import desk
-from programs import EMULATED, LEVEL, PLACE, ROOM, ROOT, RUN, call, can_count, compile_c, instructions, wanted
+from programs import EMULATED, LEVEL, PLACE, ROOM, ROOT, ask, call, can_count, compile_c, instructions, loader, wanted
 
 sys.path.append(os.path.join(ROOT, "tools"))
 from interface import rattle
@@ -51,7 +51,7 @@ def linked(gap, flags, objects, shared):
     program = os.path.join(ROOM, name)
     if not shared:
         compile_c(program, "bench/calls.c", *objects, ARCHIVE, flags=flags)
-        return [RUN, program]
+        return [*loader(), program]
     # These bring the machine's own C library with them, so that one is linked and run for all.
     compile_c("-c", program, "bench/calls.c", flags=flags)
     linker = "g++" if shutil.which("g++") else "gcc"
@@ -61,8 +61,9 @@ def linked(gap, flags, objects, shared):
 
 def build():
     """For each gap the words that run the program, and the contenders that are not there."""
+    ask("bash", "rt", "gcc", "rustc")
     os.makedirs(ROOM, exist_ok=True)
-    call("tools/build", stdout=subprocess.DEVNULL)
+    call("tools/build")
     plain = os.path.join(ROOM, "plain")
     compile_c("-c", plain, "bench/plain.c")
     absent, flags, shared = {}, [], []
@@ -158,13 +159,15 @@ def show_missing(rows, functions):
 
 def show_less(rows, absent):
     """The contenders that do less than the library."""
-    lines = [
-        [told["name"], LESS[who], f"{nanos:.1f}", told_ratio(told["ns"], who),
-         f"{told['instructions'][who]:.0f}" if "instructions" in told else ""]
-        for (_, steps), told in rows.items() if steps == "0" for who, nanos in told["ns"].items() if who in LESS
-    ]
-    lines += [["", LESS[who], why, "", ""] for who, why in absent.items()]
-    table(["call", "contender", "ns", "of plain C's", "instructions"], lines)
+    lines = []
+    for told in (told for (_, steps), told in rows.items() if steps == "0"):
+        nanos, counts = told["ns"], told.get("instructions", {})
+        for who in (who for who in LESS if who in nanos):
+            count = f"{counts[who]:.0f}" if counts else ""
+            figures = [f"{nanos[who]:.1f}", told_ratio(nanos, who), count, told_ratio(counts, who)]
+            lines.append([told["name"], LESS[who], *figures])
+    lines += [["", LESS[who], why, "", "", ""] for who, why in absent.items()]
+    table(["call", "contender", "ns", "of plain C's", "instructions", "of plain C's"], lines)
 
 
 def show_growth(rows):

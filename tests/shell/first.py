@@ -76,8 +76,8 @@ def refused():
             lines = done.err.splitlines()
             good = (done.status, done.out) == (1, b"") and len(lines) <= 8
             expect(f"{name}: what is not proved is told in a few lines", done, good and "rt: scales NOT PROVED (exit 1, 2 s)" in lines)
-            log = lines[-1].split()[-6] if good else ""
-            expect(f"{name}: the last names a file with all that was said", done, os.path.isfile(log) and one.root in log)
+            log = re.fullmatch(r".*; (\S+) has all that was said", lines[-1])
+            expect(f"{name}: the last names a file with all that was said", done, log and os.path.getsize(log[1]) > 300)
         done = one.run(one.desk, data=IN)
         expect("once it is proved it is run", done, (done.status, done.out) == (0, OUT))
         change(one.path("crates/axis/src/lib.rt"), "\n# changed\n")
