@@ -86,6 +86,7 @@ def signals():
             began = time.monotonic()
             out = child.stdout.read()
             child.wait()
+            child.watch.cancel()
             good = (child.returncode, out, child.stderr.read()) == (-number, b"", b"") and time.monotonic() - began < 5
             tally.expect(f"{mode}: it is ended by {number.name} alone, and its program too", good, f"status {child.returncode}")
             child.stdin.close()

@@ -76,18 +76,19 @@ def heeding():
 
 
 def begin(*words, **more):
-    """Starts a command in a group of its own, as a terminal does. What does not end is ended."""
+    """Starts a command in a group of its own, as a terminal does. What of it does not end is ended."""
     pipes = {"stdin": subprocess.PIPE, "stdout": subprocess.PIPE, "stderr": subprocess.PIPE, **more}
     child = subprocess.Popen(words, start_new_session=True, preexec_fn=heeding, **pipes)
-    timer = threading.Timer(MOST, lambda: child.poll() is None and os.killpg(child.pid, signal.SIGKILL))
-    timer.daemon = True
-    timer.start()
+    child.watch = threading.Timer(MOST, os.killpg, [child.pid, signal.SIGKILL])
+    child.watch.daemon = True
+    child.watch.start()
     return child
 
 
 def ended(child):
     """A command that was started, at its end."""
     out, err = child.communicate()
+    child.watch.cancel()
     return Done(child.returncode, out, err)
 
 
