@@ -48,7 +48,7 @@ esac
 
 
 class Done:
-    """A command that has ended: its status, as a shell would tell it where a signal ended it, and what it printed and told."""
+    """A command that has ended: its status, negative where a signal ended it, and what it printed and told."""
 
     def __init__(self, status, out, err):
         self.status, self.out = status, out
@@ -60,13 +60,6 @@ class Done:
     def one_line(self, status, begin):
         """Ended so, with nothing printed and one line told."""
         return (self.status, self.out, self.err.count("\n")) == (status, b"", 1) and self.err.startswith(begin)
-
-
-def run(*words, data=b"", **more):
-    """Runs a command to its end, with these bytes as its input unless it is given another."""
-    pipes = {"stdout": subprocess.PIPE, **({} if "stdin" in more else {"input": data}), **more}
-    done = subprocess.run(words, stderr=subprocess.PIPE, timeout=MOST, **pipes)
-    return Done(done.returncode, done.stdout or b"", done.stderr)
 
 
 def heeding():
@@ -85,11 +78,16 @@ def begin(*words, **more):
     return child
 
 
-def ended(child):
-    """A command that was started, at its end."""
-    out, err = child.communicate()
+def ended(child, data=None):
+    """A command that was started, at its end; these bytes are the rest of its input."""
+    out, err = child.communicate(data if child.stdin else None)
     child.watch.cancel()
-    return Done(child.returncode, out, err)
+    return Done(child.returncode, out or b"", err)
+
+
+def run(*words, data=b"", **more):
+    """Runs a command to its end, with these bytes as its input unless it is given another."""
+    return ended(begin(*words, **more), data)
 
 
 def until(condition, seconds=MOST / 2):
