@@ -134,6 +134,11 @@ def words():
         tally.expect("none of these proves or builds", not os.path.exists(one.path("target")))
         done = one.run(one.desk, data=IN, environment=bare)
         expect("a missing kit is one line", done, done.one_line(1, "desk: not in PATH, and needed: rt"))
+        os.makedirs(one.path("few"))
+        for tool in ("sh", "readlink"):
+            os.symlink(shutil.which(tool), one.path("few", tool))
+        done = one.run(one.desk, data=IN, environment={"PATH": one.path("few")})
+        expect("a missing Python is one line", done, done.one_line(1, "desk: not in PATH, and needed: python3"))
 
 
 def check():
