@@ -18,17 +18,14 @@ def change(path, text):
 
 
 def talks():
-    for name, what, crates, command in [
-        ("desk", "the program", 3, lambda one: one.desk),
-        ("build", "the library", 3, lambda one: one.build),
-    ]:
+    for name, what in ("desk", "the program"), ("build", "the library"):
         with sample() as one:
-            done = one.run(command(one), data=IN)
-            due = [
-                rf"{name}: proving and building {what}, {crates} crates; from nothing this takes some minutes",
-                rf"{name}: 2 of {crates}, scales: proved \(7 s\)",
-            ]
-            due += [rf"{name}: 2 of {crates}, scales: proved \(7 s\)", rf"{name}: 3 of 3, c_api: proved \(\d+ s\)"] * (name == "build")
+            command = one.desk if name == "desk" else one.build
+            done = one.run(command, data=IN)
+            below = [rf"{name}: 2 of 3, scales: proved \(7 s\)"]
+            due = [rf"{name}: proving and building {what}, 3 crates; from nothing this takes some minutes", *below]
+            if name == "build":
+                due += [*below, rf"{name}: 3 of 3, c_api: proved \(\d+ s\)"]
             due += [rf"{name}: {what} is built \(\d+ s\)"]
             lines = done.err.splitlines()
             good = len(lines) >= len(due) and all(re.fullmatch(like, line) for like, line in zip(due, lines))
@@ -36,7 +33,7 @@ def talks():
             out = OUT if name == "desk" else b""
             expect(f"the first run of {name} prints what a later one does", done, done.out == out)
             calls = one.calls()
-            done = one.run(command(one), data=IN)
+            done = one.run(command, data=IN)
             expect(f"the next run of {name} tells nothing", done, (done.status, done.out, done.err) == (0, out, ""))
             tally.expect(f"the next run of {name} proves nothing", one.calls() == calls, str(one.calls()))
 
@@ -61,7 +58,8 @@ def again():
             expect(f"after a change of {what} it prints the same", done, done.out == OUT)
         done = one.run(one.desk, data=IN, environment={"AS_KIT": "another kit"})
         kit = "desk: warning: rt is 'another kit', and the file KIT names '"
-        expect("another kit is told, and what it proves is run", done, (done.status, done.out) == (0, OUT) and done.err.startswith(kit))
+        good = (done.status, done.out) == (0, OUT) and done.err.startswith(kit)
+        expect("another kit is told, and what it proves is run", done, good)
         tally.expect("another kit proves anew", len(one.calls()) > calls)
         for name, words in ("tools/build", [one.build]), ("fuzz/run", [one.path("fuzz/run"), "replay", "none"]):
             done = one.run(*words, environment={"AS_KIT": "another kit"})
@@ -74,8 +72,8 @@ def refused():
         for name, command in ("desk", one.desk), ("build", one.build):
             done = one.run(command, data=IN, environment={"BROKEN": "1"})
             lines = done.err.splitlines()
-            good = (done.status, done.out) == (1, b"") and len(lines) <= 8
-            expect(f"{name}: what is not proved is told in a few lines", done, good and "rt: scales NOT PROVED (exit 1, 2 s)" in lines)
+            good = (done.status, done.out) == (1, b"") and len(lines) <= 8 and "rt: scales NOT PROVED (exit 1, 2 s)" in lines
+            expect(f"{name}: what is not proved is told in a few lines", done, good)
             log = re.fullmatch(r".*; (\S+) has all that was said", lines[-1])
             expect(f"{name}: the last names a file with all that was said", done, log and os.path.getsize(log[1]) > 300)
         done = one.run(one.desk, data=IN)
@@ -83,7 +81,8 @@ def refused():
         change(one.path("crates/axis/src/lib.rt"), "\n# changed\n")
         touch = {"MEANWHILE": 'echo >>"$SAMPLE/crates/axis/src/lib.rt"'}
         done = one.run(one.desk, data=IN, environment=touch)
-        expect("what changed while it was proved is not run", done, (done.status, done.out) == (1, b"") and "changed meanwhile" in done.err)
+        good = (done.status, done.out) == (1, b"") and "changed meanwhile" in done.err
+        expect("what changed while it was proved is not run", done, good)
         done = one.run(one.desk, data=IN)
         expect("and then is proved", done, (done.status, done.out) == (0, OUT))
 
@@ -110,7 +109,8 @@ def unwritable():
         os.chmod(one.root, 0o555)
         for name, command in ("desk", one.desk), ("build", one.build):
             done = read_only(one, command, data=IN)
-            expect(f"{name}: a read-only folder in which nothing is built is one line", done, done.one_line(1, f"{name}: cannot write into "))
+            good = done.one_line(1, f"{name}: cannot write into ")
+            expect(f"{name}: a read-only folder in which nothing is built is one line", done, good)
         os.chmod(one.root, mode)
         for command in (one.desk, one.build):
             one.run(command)
@@ -118,7 +118,8 @@ def unwritable():
             os.chmod(one.path(folder), 0o555)
         for name, command, out in ("desk", one.desk, OUT), ("build", one.build, b""):
             done = read_only(one, command, data=IN)
-            expect(f"{name}: a read-only folder in which all is built does", done, (done.status, done.out, done.err) == (0, out, ""))
+            good = (done.status, done.out, done.err) == (0, out, "")
+            expect(f"{name}: a read-only folder in which all is built does", done, good)
         for folder in ("", "target", "target/proved"):
             os.chmod(one.path(folder), mode)
         os.rename(one.path("target"), one.path("old"))

@@ -32,13 +32,14 @@ def with_words(answers):
 
 def answers():
     many = stored("lines.in"), stored("lines.out")
-    for what, data, out in [("the example", IN, OUT), ("no line", b"", b""), ("the stored lines, often", many[0] * 20, many[1] * 20)]:
+    often = many[0] * 20, many[1] * 20
+    for what, data, out in ("the example", IN, OUT), ("no line", b"", b""), ("the stored lines, often", *often):
         for mode, words in MODES.items():
             done = run(*words, data=data)
             due = with_words(out) if len(words) > 1 else out
             expect(f"{mode}: {what}", done, (done.status, done.out, done.err) == (0, due, ""))
-    found = {line[8:] for line in many[1].split(b"\n") if line.startswith(b"refused ")}
-    tally.expect("the stored lines bring each refusal that desk gives", found == {b"%d" % number for number in REFUSED}, str(found))
+    found = {int(line[8:]) for line in many[1].split(b"\n") if line.startswith(b"refused ")}
+    tally.expect("the stored lines bring each refusal that desk gives", found == {*REFUSED}, str(found))
     times = []
     for _ in range(5):
         began = time.monotonic()

@@ -11,7 +11,8 @@ from source import read
 
 def python_files():
     """The paths of all Python files; a step has no ending."""
-    listed = subprocess.run(["git", "-C", ROOT, "ls-files", "-co", "--exclude-standard", "-z"], stdout=subprocess.PIPE, check=True)
+    words = ["git", "-C", ROOT, "ls-files", "-co", "--exclude-standard", "-z"]
+    listed = subprocess.run(words, stdout=subprocess.PIPE, check=True)
     for path in sorted(set(listed.stdout.decode().split("\0"))):
         full = os.path.join(ROOT, path)
         if os.path.isfile(full) and (path.endswith(".py") or open(full, "rb").readline().startswith(b"#!/usr/bin/env python3")):
@@ -26,7 +27,8 @@ def least():
         ("README.md", r"rustc (\d[\d.]*\d)"),
         ("CONTRIBUTING.md", r"rustc (\d[\d.]*\d)"),
     ]:
-        tally.expect(f"{path} has the least version of Rust", set(re.findall(like, read(os.path.join(ROOT, path)))) == {versions["rustc"]})
+        found = set(re.findall(like, read(os.path.join(ROOT, path))))
+        tally.expect(f"{path} has the least version of Rust", found == {versions["rustc"]}, str(found))
     for path, like in [
         ("python/pyproject.toml", r'requires-python = ">=(.*)"'),
         ("README.md", r"Python (\d[\d.]*\d)"),
