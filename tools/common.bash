@@ -30,11 +30,14 @@ needed() { # TOOL..
     [ -z "$old" ] || stop "too old:${old#,}"
 }
 
-# Another kit may prove the same, so this is told and not refused.
+# A kit that KIT does not list may prove the same, so this is told and not refused.
 kit() {
-    local have want
-    have=$(rt version 2>/dev/null || true) want=$(cat KIT)
-    [ "$have" = "$want" ] || tell "warning: rt is '$have', and the file KIT names '$want'"
+    local have listed='' one
+    have=$(rt version 2>/dev/null || true)
+    while IFS= read -r one || [ -n "$one" ]; do
+        case $one in '' | '#'*) ;; "$have") return ;; *) listed="$listed, '$one'" ;; esac
+    done <KIT
+    tell "warning: rt is '$have', and the file KIT names${listed#,}"
 }
 
 # Waits until no other command holds the folder, and holds it until this one, and all that it started, has ended; what it

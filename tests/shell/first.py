@@ -7,7 +7,7 @@ import signal
 import stat
 
 from piped import IN, OUT
-from room import ended, expect, sample, tally, until
+from room import KITS, ended, expect, sample, tally, until
 
 NOBODY = 65534
 
@@ -57,10 +57,12 @@ def again():
             expect(f"after a change of {what} it is {'' if proved else 'not '}proved", done, done.status == 0 and more == proved)
             expect(f"after a change of {what} it prints the same", done, done.out == OUT)
         done = one.run(one.desk, data=IN, environment={"AS_KIT": "another kit"})
-        kit = "desk: warning: rt is 'another kit', and the file KIT names '"
+        kit = f"desk: warning: rt is 'another kit', and the file KIT names '{KITS[0]}', '{KITS[1]}'\n"
         good = (done.status, done.out) == (0, OUT) and done.err.startswith(kit)
         expect("another kit is told, and what it proves is run", done, good)
         tally.expect("another kit proves anew", len(one.calls()) > calls)
+        done = one.run(one.desk, data=IN, environment={"AS_KIT": KITS[0]})
+        expect("each kit that KIT lists will do", done, done.status == 0 and "warning" not in done.err)
         for name, words in ("tools/build", [one.build]), ("fuzz/run", [one.path("fuzz/run"), "replay", "none"]):
             done = one.run(*words, environment={"AS_KIT": "another kit"})
             expect(f"another kit is told by {name}", done, kit.split(":", 1)[1] in done.err)

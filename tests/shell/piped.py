@@ -10,7 +10,7 @@ import time
 
 from made.manual import REFUSED
 from refusals import refusals
-from room import DESK, ROOT, begin, ended, expect, run, sample, tally
+from room import DESK, ROOT, begin, copied, ended, expect, run, sample, tally
 from source import read
 
 LEAP = b"UTC=31-DEC-2016 23:59:60.000000\n"
@@ -147,6 +147,7 @@ def check():
     expect("desk is built", done, done.status == 0)
     done = run(os.path.join(ROOT, "tools/build"))
     expect("the library is built", done, done.status == 0)
+    copied()
     answers()
     failures()
     signals()

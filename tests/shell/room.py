@@ -12,15 +12,19 @@ import time
 from tally import Tally
 
 ROOT = os.path.normpath(os.path.join(os.path.dirname(os.path.abspath(__file__)), "..", ".."))
-DESK = os.path.join(ROOT, "desk")
+# A copy with all that ./desk needs, once `copied` has made it: its KIT names this machine's kit, whichever that is.
+_folder = tempfile.TemporaryDirectory()
+COPY = _folder.name
+DESK = os.path.join(COPY, "desk")
 MOST = 60  # seconds that a command may take
+KITS = "kit 1", "kit 2"  # those of a sample's KIT; its rt is of the last
 tally = Tally()
 
 # It tells two crates, keeps a note of when it began and ended, waits for SLOW seconds or while there is a file `busy`, and gives
 # what the real one made.
 RT = """#!/usr/bin/env bash
 case $1 in
-version) echo "${AS_KIT:-$(cat "$SAMPLE/KIT")}" ;;
+version) echo "${AS_KIT:-kit 2}" ;;
 doc) echo "$DOC" ;;
 check | staticlib)
     echo "begin $*" >>"$SAMPLE/calls"
@@ -134,15 +138,33 @@ class Sample:
         return []
 
 
+def lay_out(root, names, kits):
+    """These files and folders of this repository, and a KIT that lists these."""
+    for name in names:
+        place = os.path.join(root, name)
+        os.makedirs(os.path.dirname(place), exist_ok=True)
+        (shutil.copytree if os.path.isdir(os.path.join(ROOT, name)) else shutil.copy)(os.path.join(ROOT, name), place)
+    with open(os.path.join(root, "KIT"), "w", encoding="utf-8") as file:
+        file.write("# The kits\n" + "".join(f"{kit}\n" for kit in kits))
+
+
+def asked(*words):
+    """What this machine's rt says."""
+    return subprocess.run(["rt", *words], stdout=subprocess.PIPE, text=True, check=True).stdout.strip()
+
+
+def copied():
+    """Makes the copy, of what is built here."""
+    names = "desk", "VERSION", "refusals.txt", "crates.txt", "crates", "tools", "examples", "target/proved"
+    lay_out(COPY, names, [asked("version")])
+
+
 @contextlib.contextmanager
 def sample():
     """What a command needs of this repository, and crates of one file each. Others can read it."""
     with tempfile.TemporaryDirectory() as root:
         os.chmod(root, 0o755)
-        for name in ("desk", "KIT", "VERSION", "refusals.txt", "tools", "include", "tests/compare", "fuzz"):
-            place = os.path.join(root, name)
-            os.makedirs(os.path.dirname(place), exist_ok=True)
-            (shutil.copytree if os.path.isdir(os.path.join(ROOT, name)) else shutil.copy)(os.path.join(ROOT, name), place)
+        lay_out(root, ("desk", "VERSION", "refusals.txt", "tools", "include", "tests/compare", "fuzz"), KITS)
         with open(os.path.join(root, "crates.txt"), "w", encoding="utf-8") as file:
             file.write("axis:  # below\nscales: axis\nother:\ndesk: axis scales libc\nc_api: axis scales\n")
         for crate in ("axis", "scales", "other", "desk", "c_api"):
@@ -154,6 +176,5 @@ def sample():
         with open(os.path.join(root, "bin/rt"), "w", encoding="utf-8") as file:
             file.write(RT)
         os.chmod(os.path.join(root, "bin/rt"), 0o755)
-        doc = subprocess.run(["rt", "doc"], stdout=subprocess.PIPE, text=True, check=True).stdout.strip()
         own = {"PATH": os.path.join(root, "bin") + ":" + os.environ["PATH"]}
-        yield Sample(root, {**os.environ, **own, "SAMPLE": root, "DOC": doc, "PROVED": os.path.join(root, "made")})
+        yield Sample(root, {**os.environ, **own, "SAMPLE": root, "DOC": asked("doc"), "PROVED": os.path.join(root, "made")})

@@ -5,7 +5,7 @@ import os
 import re
 import subprocess
 
-from room import ROOT, expect, run, tally
+from room import COPY, ROOT, expect, run, tally
 from source import read
 
 
@@ -56,7 +56,7 @@ def shown():
              for at, block in enumerate(blocks) for command in [block.strip()] if "./desk" in command and "\n" not in command}
     tally.expect("README.md shows desk, its words, and lines beside their answers", len(typed) == 3, str(list(typed)))
     for command, out in typed.items():
-        done = run("sh", "-c", command, cwd=ROOT)
+        done = run("sh", "-c", command, cwd=COPY)
         expect(f"README.md: {command}", done, (done.status, done.out.decode(), done.err) == (0, out, ""))
 
 
