@@ -150,7 +150,7 @@ def made(root):
     table = by_function(root, interface, listed)
     version = read(os.path.join(root, "VERSION")).strip()
     files = bindings.made(interface, table, version) | server.made(interface) | benched.made(interface)
-    return files | shapes.made(interface, table, listed) | slips.made(table, listed) | manual.made(root)
+    return files | shapes.made(interface, table, listed) | slips.made(root, table, listed) | manual.made(root)
 
 
 def stale(root):
@@ -164,11 +164,12 @@ def stale(root):
 
 
 def write(root, paths):
+    files = made(root)
     for path in paths:
         full = os.path.join(root, path)
         os.makedirs(os.path.dirname(full), exist_ok=True)
         with open(full, "w", encoding="utf-8") as file:
-            file.write(made(root)[path])
+            file.write(files[path])
 
 
 def main(words):

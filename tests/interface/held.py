@@ -1,14 +1,14 @@
-"""The Rattle source has the refusals of refusals.txt: their names, numbers, order and words. So have the pages that list them."""
+"""The Rattle source has the refusals of refusals.txt: their names, numbers, order and words. So has docs/RULES.md."""
 
 import os
 import re
-from itertools import zip_longest
 
-from refusals import refusals
+from interface import rattle
+from refusals import Refusal, by_function, refusals
 from source import read
 
 CODE, MEANING, CONDITIONS = "crates/scales/src/lib.rt", "crates/scales/specs/Meaning.antt", "crates/promises/specs/Conditions.antt"
-README, RULES = "README.md", "docs/RULES.md"
+RULES = "docs/RULES.md"
 
 
 def _below(heading, page):
@@ -17,9 +17,17 @@ def _below(heading, page):
     return section[1] if section else ""
 
 
-def found(texts, listed):
-    """What the files say: a title, what stands there and what is due. The list is in the order of the numbers."""
-    code, meaning, conditions, readme, rules = texts
+def ruled(rules, listed, given):
+    """The rows of the rules, and those that are due: a row comes with the first function that gives its number."""
+    rows = re.findall(r"^\| (\d+) \| ([^|]+) \| [^|]+ \|$", _below("Refusals", rules), re.M)
+    due = given | {int(number) for number, _ in rows}
+    return rows, [(str(one.number), one.words) for one in sorted(listed, key=lambda one: one.place) if one.number in due]
+
+
+def found(texts, listed, given):
+    """What the files say: a title, what stands there and what is due. The list is in the order of the numbers; some function
+    gives those that are given."""
+    code, meaning, conditions, rules = texts
     judged = sorted(listed, key=lambda one: one.place)
     cases = re.search(r"pub enum Refusal \{(.*?)\}", code, re.S)
     yield "the cases of Refusal", re.findall(r"\w+", cases[1]) if cases else [], [one.name for one in listed]
@@ -32,11 +40,7 @@ def found(texts, listed):
     # The paper's words may say more than the list's.
     heads = re.findall(r"^-- ---- \"(\d+) ([^\":\n]+)", conditions, re.M)
     yield "the conditions of the slip", [(number, words.split(", where")[0]) for number, words in heads], said
-    # Two columns, of which the left one comes first; words have single spaces between.
-    block = re.findall(r"^    .*", _below("The refusals", readme), re.M)
-    lines = [re.findall(r" (\d+)  (\S+(?: \S+)*)", line) for line in block]
-    yield f"the list of {README}", [pair for column in zip_longest(*lines) for pair in column if pair], said
-    yield f"the table of {RULES}", re.findall(r"^\| (\d+) \| ([^|]+) \| [^|]+ \|$", _below("Refusals", rules), re.M), said
+    yield f"the table of {RULES}", *ruled(rules, listed, given)
 
 
 # Changes of the source, each of which must be reported: the file's place in the texts, a pattern and what stands there instead.
@@ -48,21 +52,25 @@ FAULTS = {
     "other words": (2, r"correlation not in force", "correlation out of force"),
     "another number of the conditions": (2, r"(-- ---- \")8 ", r"\g<1>9 "),
     "no condition": (2, r"-- ---- \"9 leap list expired\".*\n", ""),
-    "a refusal less in the list": (3, r" 8  correlation not in force\n", "\n"),
-    "other words in the list": (3, r"leap list expired\n", "leap list ended\n"),
-    "another number in the list": (3, r" 9  leap list expired\n", " 8  leap list expired\n"),
-    "a row less of the rules": (4, r"\n\| 8 \| correlation .*", ""),
-    "other words of the rules": (4, r"\| leap list expired \|", "| leap list ended |"),
+    "a row less of the rules": (3, r"\n\| 8 \| correlation .*", ""),
+    "a row too many of the rules": (3, r"(\n\| 8 \| correlation .*)", r"\1\n| 62 | no refusal | never |"),
+    "other words of the rules": (3, r"\| leap list expired \|", "| leap list ended |"),
+    "another order of the rules": (3, r"(\n\| 8 \| correlation .*)(\n\| 9 \| .*)", r"\2\1"),
 }
 
 
 def check(tally, root):
     listed = sorted(refusals(root), key=lambda one: one.number)
-    texts = [read(os.path.join(root, path)) for path in (CODE, MEANING, CONDITIONS, README, RULES)]
-    for title, have, due in found(texts, listed):
+    given = {number for one in by_function(root, rattle(root), listed).values() for number in one.numbers}
+    texts = [read(os.path.join(root, path)) for path in (CODE, MEANING, CONDITIONS, RULES)]
+    for title, have, due in found(texts, listed, given):
         tally.expect(f"refusals: {title} is that of refusals.txt", have == due, str(have))
     for what, (at, pattern, new) in FAULTS.items():
         changed, count = re.subn(pattern, new, texts[at])
         others = [*texts[:at], changed, *texts[at + 1 :]]
-        reported = any(have != due for _, have, due in found(others, listed))
+        reported = any(have != due for _, have, due in found(others, listed, given))
         tally.expect(f"refusals: {what} is reported", count == 1 and reported, f"{count} places")
+    new = Refusal(62, 35, "NotGiven", "a refusal that no function gives yet")
+    for what, given_too, good in ("needs no row of the rules yet", set(), True), ("needs its row, once a function gives it", {62}, False):
+        have, due = ruled(texts[3], [*listed, new], given | given_too)
+        tally.expect(f"refusals: a new number {what}", (have == due) == good, str(due))

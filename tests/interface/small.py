@@ -1,6 +1,8 @@
 """A small interface of its own, on which what tools/interface.py makes is tried: slices of bytes and of numbers in any position,
 given and lent, numbers of every kind, a struct in a struct; refusals whose numbers have gaps and whose order is not theirs."""
 
+from made.slips import BEGIN, END
+
 SOURCE = """// "#[no_mangle]" in a text and one in a comment: #[no_mangle]
 #[repr(C)]
 pub struct VrkInner {
@@ -85,11 +87,37 @@ nothing  -         -
 touch    -         40
 """
 
+README = f"""# A page
+
+By hand.
+
+{BEGIN}
+what was made before
+{END}
+
+By hand too.
+"""
+
+MADE = f"""# A page
+
+By hand.
+
+{BEGIN}
+
+     7  the first that is judged   40  the last of all
+     1  it's too short
+
+{END}
+
+By hand too.
+"""
+
 FILES = {
     "crates/c_api/src/lib.rt": SOURCE,
     "include/vrikshonem.h": HEADER,
     "refusals.txt": REFUSALS,
     "refusals_by_function.txt": TABLE,
+    "README.md": README,
     "VERSION": "3.14.15\n",
 }
 
@@ -123,5 +151,7 @@ WRONG = {
     "an image that nothing tells": (BY, "scale<=9", "size<=9", f"{BY}:1: sum has no parameter 'size'"),
     "an image that is missing": (BY, "scale<=9", "-       ", f"{BY}:1: sum is lent bytes, and the length of its image is missing"),
     "an image without bytes to write": (BY, "half     - ", "half     8 ", f"{BY}:3: half has no image of '8' bytes"),
+    "a page without the first mark": ("README.md", BEGIN, "", "README.md: the list of the refusals is due between"),
+    "a page without the last mark": ("README.md", END, "", "README.md: the list of the refusals is due between"),
     "no refusals": (BY, "touch    -         40", "touch    -", f"{BY}:5: a function, its image and its refusals are due"),
 }

@@ -1,10 +1,16 @@
 """The refusals as C, Rust, Python and a reader have them."""
 
+import os
+from itertools import zip_longest
+
 from made import SAID
 from refusals import LIST, TABLE
+from source import Unreadable, read
 
 HEADER, RUST = "include/vrikshonem_refusals.h", "rust/src/refusals.rs"
-PYTHON, DOCS = "python/vrikshonem/_refusals.py", "docs/REFUSALS.md"
+PYTHON, DOCS, README = "python/vrikshonem/_refusals.py", "docs/REFUSALS.md", "README.md"
+# Of a page that is written by hand only what stands between these two lines is made.
+BEGIN, END = f"<!-- {SAID} From {LIST}, to the next such line. -->", "<!-- Here ends what is made. -->"
 UNKNOWN = "a refusal that this version does not know"
 
 
@@ -100,5 +106,19 @@ def docs(table, listed):
     return "\n".join(lines) + "\n"
 
 
-def made(table, listed):
-    return {HEADER: header(listed), RUST: rust(listed), PYTHON: python(listed), DOCS: docs(table, listed)}
+def readme(page, listed):
+    """The page with its list of the refusals: two columns, of which the left one comes first."""
+    before, begin, rest = page.partition(f"{BEGIN}\n")
+    _, end, after = rest.partition(f"{END}\n")
+    if not end:
+        raise Unreadable(f"{README}: the list of the refusals is due between '{BEGIN}' and '{END}'")
+    items = [f"{one.number:>2}  {one.words}" for one in listed]
+    half = (len(items) + 1) // 2
+    width = max(map(len, items[:half]))
+    lines = [f"    {left:<{width}}   {right}".rstrip() for left, right in zip_longest(items[:half], items[half:], fillvalue="")]
+    return "\n".join([before + begin, *lines, "", end + after])
+
+
+def made(root, table, listed):
+    page = readme(read(os.path.join(root, README)), listed)
+    return {HEADER: header(listed), RUST: rust(listed), PYTHON: python(listed), DOCS: docs(table, listed), README: page}
