@@ -10,9 +10,9 @@
  * VRK_NOT_IN_FORCE, and vrk_words, which says in words what is wrong.
  *
  * Below, "Refused" lists the numbers that a function can return, in the order in which it tests for them. A number that
- * stands there without words means: 1 not as many bytes as the layout has, 4 a decimal day infinite or not a number, 5 leap
- * list not accepted, 6 correlation not accepted, 7 time outside the limits of its scale, 9 a time after the leap list's last
- * day, 10 second 60 on a day that has none, 11 result outside the limits of its scale, 13 `out` shorter than what is to be
+ * stands there without words means: 1 not as many bytes as the layout has; 4 a decimal day infinite or not a number; 5 leap
+ * list not accepted; 6 correlation not accepted; 7 time outside the limits of its scale; 9 a time after the leap list's last
+ * day; 10 second 60 on a day that has none; 11 result outside the limits of its scale; 13 `out` shorter than what is to be
  * written.
  *
  * An unknown scale, kind, form or H3 code is refused 3; an unknown scale in a correlation, 6.

@@ -1,4 +1,5 @@
-"""The Rattle source has the refusals of refusals.txt: their names, numbers, order and words. So has docs/RULES.md."""
+"""The Rattle source has the refusals of refusals.txt: their names, numbers, order and words. So has docs/RULES.md; and the header
+says at its head what those numbers mean that it lists without words."""
 
 import os
 import re
@@ -8,7 +9,7 @@ from refusals import Refusal, by_function, refusals
 from source import read
 
 CODE, MEANING, CONDITIONS = "crates/scales/src/lib.rt", "crates/scales/specs/Meaning.antt", "crates/promises/specs/Conditions.antt"
-RULES = "docs/RULES.md"
+RULES, HEADER = "docs/RULES.md", "include/vrikshonem.h"
 
 
 def _below(heading, page):
@@ -24,10 +25,20 @@ def ruled(rules, listed, given):
     return rows, [(str(one.number), one.words) for one in sorted(listed, key=lambda one: one.place) if one.number in due]
 
 
+def bare(header, judged):
+    """The numbers that the header's head puts into words, and those that some function lists without words of its own."""
+    text = re.sub(r"\n \*[ \t]+", " ", header)
+    head = re.search(r"without words means:(.*)\.$", text, re.M)
+    lists = [items.split(";") for items in re.findall(r"\bRefused\s+(\d.*?)\.(?:\s|$)", text)]
+    alone = {item.strip() for items in lists for item in items if item.strip().isdigit()}
+    said = re.findall(r"(?:^|;) (\d+) ", head[1] if head else "")
+    return said, [str(one.number) for one in judged if str(one.number) in alone]
+
+
 def found(texts, listed, given):
     """What the files say: a title, what stands there and what is due. The list is in the order of the numbers; some function
     gives those that are given."""
-    code, meaning, conditions, rules = texts
+    code, meaning, conditions, rules, header = texts
     judged = sorted(listed, key=lambda one: one.place)
     cases = re.search(r"pub enum Refusal \{(.*?)\}", code, re.S)
     yield "the cases of Refusal", re.findall(r"\w+", cases[1]) if cases else [], [one.name for one in listed]
@@ -41,6 +52,7 @@ def found(texts, listed, given):
     heads = re.findall(r"^-- ---- \"(\d+) ([^\":\n]+)", conditions, re.M)
     yield "the conditions of the slip", [(number, words.split(", where")[0]) for number, words in heads], said
     yield f"the table of {RULES}", *ruled(rules, listed, given)
+    yield f"what {HEADER} lists without words", *bare(header, judged)
 
 
 # Changes of the source, each of which must be reported: the file's place in the texts, a pattern and what stands there instead.
@@ -55,6 +67,10 @@ FAULTS = {
     "a row less of the rules": (3, r"\n\| 8 \| correlation .*", ""),
     "a row too many of the rules": (3, r"(\n\| 8 \| correlation .*)", r"\1\n| 62 | no refusal | never |"),
     "other words of the rules": (3, r"\| leap list expired \|", "| leap list ended |"),
+    "a number less at the header's head": (4, r" 6 correlation not accepted;", ""),
+    "a number too many at the header's head": (4, r"( 6 correlation not accepted;)", r"\1 8 correlation not in force;"),
+    "another number at the header's head": (4, r"6 correlation not accepted;", "8 correlation not accepted;"),
+    "a number of a function without words": (4, r"(Refused  1; 2) another first byte", r"\1"),
     "another order of the rules": (3, r"(\n\| 8 \| correlation .*)(\n\| 9 \| .*)", r"\2\1"),
 }
 
@@ -62,7 +78,7 @@ FAULTS = {
 def check(tally, root):
     listed = sorted(refusals(root), key=lambda one: one.number)
     given = {number for one in by_function(root, rattle(root), listed).values() for number in one.numbers}
-    texts = [read(os.path.join(root, path)) for path in (CODE, MEANING, CONDITIONS, RULES)]
+    texts = [read(os.path.join(root, path)) for path in (CODE, MEANING, CONDITIONS, RULES, HEADER)]
     for title, have, due in found(texts, listed, given):
         tally.expect(f"refusals: {title} is that of refusals.txt", have == due, str(have))
     for what, (at, pattern, new) in FAULTS.items():
