@@ -1,5 +1,5 @@
-"""The Rattle source has the refusals of refusals.txt: their names, numbers, order and words. So has docs/RULES.md; and the header
-says at its head what those numbers mean that it lists without words."""
+"""The Rattle source has the refusals of refusals.txt: their names, numbers, order and words. So has docs/RULES.md; and the
+header says at its head what those numbers mean that it lists without words."""
 
 import os
 import re
@@ -87,6 +87,7 @@ def check(tally, root):
         reported = any(have != due for _, have, due in found(others, listed, given))
         tally.expect(f"refusals: {what} is reported", count == 1 and reported, f"{count} places")
     new = Refusal(62, 35, "NotGiven", "a refusal that no function gives yet")
-    for what, given_too, good in ("needs no row of the rules yet", set(), True), ("needs its row, once a function gives it", {62}, False):
-        have, due = ruled(texts[3], [*listed, new], given | given_too)
-        tally.expect(f"refusals: a new number {what}", (have == due) == good, str(due))
+    have, due = ruled(texts[3], [*listed, new], given)
+    tally.expect("refusals: a number that no function gives needs no row of the rules", have == due, str(due))
+    have, due = ruled(texts[3], [*listed, new], given | {62})
+    tally.expect("refusals: once a function gives it, its row is asked for", have != due, str(due))

@@ -115,7 +115,8 @@ def readme(page, listed):
     items = [f"{one.number:>2}  {one.words}" for one in listed]
     half = (len(items) + 1) // 2
     width = max(map(len, items[:half]))
-    lines = [f"    {left:<{width}}   {right}".rstrip() for left, right in zip_longest(items[:half], items[half:], fillvalue="")]
+    columns = zip_longest(items[:half], items[half:], fillvalue="")
+    lines = [f"    {left:<{width}}   {right}".rstrip() for left, right in columns]
     return "\n".join([before + begin, *lines, "", end + after])
 
 
