@@ -5,11 +5,19 @@ import re
 import shutil
 import signal
 import stat
+import sys
 
 from piped import IN, OUT
 from room import KITS, ended, expect, sample, tally, until
 
 NOBODY = 65534
+# It runs what it is given as Python 1.0 would say that it does; ./desk asks the Python that runs it.
+PYTHON = f"""#!/bin/sh
+exec '{sys.executable}' -c '
+import sys
+sys.version_info, sys.argv = (1, 0), sys.argv[1:]
+exec(compile(open(sys.argv[0]).read(), sys.argv[0], "exec"))' "$@"
+"""
 
 
 def change(path, text):
@@ -66,6 +74,25 @@ def again():
         for name, words in ("tools/build", [one.build]), ("fuzz/run", [one.path("fuzz/run"), "replay", "none"]):
             done = one.run(*words, environment={"AS_KIT": "another kit"})
             expect(f"another kit is told by {name}", done, kit.split(":", 1)[1] in done.err)
+
+
+def lacking():
+    """What is missing or too old is told in a line, before anything is done."""
+    with sample() as one:
+        done = one.run(one.build, environment=one.bare())
+        expect("build: a missing kit is one line", done, done.one_line(1, "build: not in PATH, and needed: rt\n"))
+        # tools/build asks for gcc where the processor is another than x86-64.
+        one.stand_in("uname", "#!/bin/sh\necho aarch64\n")
+        for name, words, status, tool, text in [
+            ("desk", [one.desk], 1, "python3", PYTHON),
+            ("build", [one.build], 1, "gcc", "#!/bin/sh\necho 'gcc (of 99.9) 1.0'\n"),
+            ("fuzz", [one.path("fuzz/run"), "1", "1"], 2, "rustc", "#!/bin/sh\necho 'rustc 1.0 (of 99.9)'\n"),
+        ]:
+            one.stand_in(tool, text)
+            done = one.run(*words, data=IN)
+            os.remove(one.path("bin", tool))
+            expect(f"{name}: an old {tool} is one line", done, done.one_line(status, f"{name}: too old: {tool} 1.0 (at least "))
+        tally.expect("none of these proves or builds", not one.calls() and not os.path.exists(one.path("target")))
 
 
 def refused():
@@ -151,6 +178,7 @@ def stopped():
 def check():
     talks()
     again()
+    lacking()
     refused()
     unwritable()
     stopped()

@@ -117,9 +117,7 @@ def places():
 def words():
     """They are looked at before anything is proved, and need no kit."""
     with sample() as one:
-        shutil.rmtree(one.path("bin"))
-        usual = one.environment["PATH"].split(":")[1:]
-        bare = {"PATH": ":".join(folder for folder in usual if not os.path.exists(os.path.join(folder, "rt")))}
+        bare = one.bare()
         done = one.run(one.desk, "--version", environment=bare)
         version = f"desk (vrikshonem) {read(os.path.join(ROOT, 'VERSION'))}"
         expect("--version", done, (done.status, done.out.decode(), done.err) == (0, version, ""))

@@ -124,6 +124,18 @@ class Sample:
     def path(self, *names):
         return os.path.join(self.root, *names)
 
+    def stand_in(self, tool, text):
+        """A tool of its own, first in PATH."""
+        os.makedirs(self.path("bin"), exist_ok=True)
+        with open(self.path("bin", tool), "w", encoding="utf-8") as file:
+            file.write(text)
+        os.chmod(self.path("bin", tool), 0o755)
+
+    def bare(self):
+        """What of the environment is another where there is no kit."""
+        folders = self.environment["PATH"].split(":")
+        return {"PATH": ":".join(folder for folder in folders if not os.path.exists(os.path.join(folder, "rt")))}
+
     def busy(self, is_busy):
         """Keeps rt from its end."""
         if is_busy:
@@ -171,10 +183,8 @@ def sample():
             os.makedirs(os.path.join(root, "crates", crate, "src"))
             with open(os.path.join(root, "crates", crate, "src/lib.rt"), "w", encoding="utf-8") as file:
                 file.write(crate)
-        os.makedirs(os.path.join(root, "bin"))
         shutil.copytree(os.path.join(ROOT, "target/proved"), os.path.join(root, "made"))
-        with open(os.path.join(root, "bin/rt"), "w", encoding="utf-8") as file:
-            file.write(RT)
-        os.chmod(os.path.join(root, "bin/rt"), 0o755)
         own = {"PATH": os.path.join(root, "bin") + ":" + os.environ["PATH"]}
-        yield Sample(root, {**os.environ, **own, "SAMPLE": root, "DOC": asked("doc"), "PROVED": os.path.join(root, "made")})
+        one = Sample(root, {**os.environ, **own, "SAMPLE": root, "DOC": asked("doc"), "PROVED": os.path.join(root, "made")})
+        one.stand_in("rt", RT)
+        yield one
