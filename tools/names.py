@@ -11,6 +11,7 @@ _OURS = re.compile(r"Rattle·(\w+)(?:·\w+)?\.(specs|proofs)\.(.+)")
 _WORD = re.compile(rf"(?<![^\s(){{}};,@]){NAME}(?:\.{NAME})*")
 _TYPE = re.compile(rf"^( *)((?:(?:abbrev|unfoldable|pub) )*)({NAME})(?: \{{[^}}]*\}})? :((?: .*)?(?:\n\1 +.*)*)$", re.M)
 _RECORD = re.compile(rf"^( *)((?:pub )?)record ({NAME})(?= )(.*(?:\n(?:\1 +\S.*| *(?=\n)))*)", re.M)
+_DATA = re.compile(rf"^( *)((?:pub )?)data ({NAME})(?= )", re.M)
 _EQUATION = re.compile(rf"^( *)({NAME})((?: [^\n=]*)?) =((?: .*)?(?:\n\1 +.*)*)$", re.M)
 # What a text binds or labels stands for nothing outside of it: (a b : A), λ a b., a = x, and a field a : A.
 _BOUND = [
@@ -28,7 +29,7 @@ def _binds(text):
 
 @dataclass
 class Stated:
-    """The type of a definition, or the fields of a record."""
+    """The type of a definition, or the fields of a record; nothing of a data, whose cases are not read."""
 
     at: int
     indent: str
@@ -71,6 +72,8 @@ def _parsed(code):
             file.names[other or name] = (name, path)
     for found in [*_RECORD.finditer(code), *_TYPE.finditer(code)]:
         file.stated.setdefault(found[3], []).append(Stated(found.start(), found[1], found[2], found[4]))
+    for found in _DATA.finditer(code):
+        file.stated.setdefault(found[3], []).append(Stated(found.start(), found[1], found[2], ""))
     for indent, name, left, right in _EQUATION.findall(code):
         file.equations.setdefault(name, []).append((indent, left, right))
     return file
