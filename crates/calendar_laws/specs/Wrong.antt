@@ -1,19 +1,20 @@
 -- Wrong programs that the contracts shut out: for each an input, the right answer and the wrong one, which differ.
 -- Assumes nothing.
-use mathlib.Core.Path.{_≡_, refl}
+use mathlib.Core.Path.{_≡_, refl, sym, _∙_}
 use mathlib.Core.Bool.{Bool, true, false, cond, not, _&&_, true≢false, false≢true}
 use mathlib.Core.List.{List, [], _∷_}
-use Prim.Native.Nat.{ℕ, _-_, _+_, _%_}
+use Prim.Native.Nat.{ℕ, _-_, _+_, _%_, _<_}
 use native.Mathlib.Omega.{arith}
 use lib.Dec.{eqb, leb}
 use lib.IntN.{ℤ, pos}
 use lib.Signed.{leZ}
-use Rattle.evidence.specs.ShutOut.{ShutOut}
+use Rattle.evidence.specs.ShutOut.{ShutOut, Outgrown}
 use Rattle.scales.specs.Meaning.{first, last, given, gives, outcome, Valued}
 use Rattle.scales.specs.declared.Scale.the-variants as S
 use Rattle.calendar.specs.Meaning.{leap, monthLength, lengthOf, firstDay, monthsTo, isDate, dayAfter, daysTo, walk, dateAt, dateHanded, dayHanded, dateOfDay, dayOfDate, isFirst, allFirsts}
 use Rattle.calendar.specs.declared.Date.{Date}
 use Rattle.calendar_laws.specs.Computed.{on}
+use Rattle.calendar_laws.specs.Firsts.{FirstOf, first-of-month, month-of-first, FirstsOf, all-of-months, months-of-all}
 
 -- ---- the day of a date, by another leap rule or by another test of dates
 abbrev pub dayBy : (Date → Bool) → Date → Valued ℤ
@@ -84,6 +85,27 @@ headFirst (d ∷ ds) = isFirst d
 pub head-alone : ShutOut (allFirsts (pos 0 ∷ pos 1 ∷ [])) false (headFirst (pos 0 ∷ pos 1 ∷ [])) true
 unfolding isFirst daysTo dayAfter walk firstDay lengthOf monthLength leap
 head-alone = (refl, refl, false≢true)
+
+-- of one day it is right
+pub days-behind :
+    Outgrown ((d : ℤ) → headFirst (d ∷ []) ≡ true → FirstOf d)
+    ((ds : List ℤ) → headFirst ds ≡ true → FirstsOf ds)
+days-behind = (month-of-first, λ w. false≢true (sym (head-alone .0) ∙ all-of-months (w (pos 0 ∷ pos 1 ∷ []) (head-alone .1))))
+
+-- so is one that says yes to no more than one day
+abbrev pub oneFirst : List ℤ → Bool
+oneFirst [] = true
+oneFirst (d ∷ []) = isFirst d
+oneFirst (d ∷ e ∷ ds) = false
+
+two-firsts : allFirsts (pos 0 ∷ pos 31 ∷ []) ≡ true
+unfolding isFirst daysTo dayAfter walk firstDay lengthOf monthLength leap
+two-firsts = refl
+
+pub one-day-alone :
+    Outgrown ((k : ℕ) → k < 1537 → oneFirst (dayAfter (firstDay k) ∷ []) ≡ true)
+    ((ds : List ℤ) → FirstsOf ds → oneFirst ds ≡ true)
+one-day-alone = (first-of-month, λ w. false≢true (w (pos 0 ∷ pos 31 ∷ []) (months-of-all (pos 0 ∷ pos 31 ∷ []) two-firsts)))
 
 -- January 2100 missing
 abbrev pub firstsTo2099 : List ℤ → Bool

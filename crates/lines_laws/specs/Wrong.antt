@@ -19,7 +19,8 @@ use Rattle.text_fields.specs.Meaning.{names, letter, prefixOf}
 use Rattle.text_fields.specs.declared.Stamp.{Stamp}
 use Rattle.text_read.specs.Meaning.{digitOf, twoOf, fourOf, sixOf, isNamed, seek, monthNamed, hasMarks, microIn, stampIn, inLimits, hasPrefix, scaleIn, bodyIn, isPrefixRight, isBody, stampMoment, stampSpans}
 use Rattle.lines.specs.Meaning.{linesOf, refusedText, answerTo, answers, desk, wholeIn, bytesIn, Done, roomFor, linesDated, dateLines, kept, Kept, moved, keep}
-use Rattle.lines_laws.specs.Run.{printed, block}
+use Rattle.lines_laws.specs.Lines.{Begun}
+use Rattle.lines_laws.specs.Run.{printed, block, kept-is}
 use Rattle.lines_laws.specs.Computed.{one, refusedOne}
 use Rattle.lines_laws.specs.Each.{printedBy, textsBy, each-by}
 use Rattle.lines_laws.specs.First.{textJudging, lineJudging, hasList, isCurrent, hasSecond, inTai, resultInSpan}
@@ -134,6 +135,13 @@ pub keep-not-moved :
     ShutOut (keep (1 ∷ 2 ∷ 3 ∷ []) 1 3) (moved 2 (2 ∷ 3 ∷ 3 ∷ [])) (notMoved (1 ∷ 2 ∷ 3 ∷ []) 1 3) (moved 2 (1 ∷ 2 ∷ 3 ∷ []))
 unfolding keep onto
 keep-not-moved = (refl, refl, differ (λ (k : Kept). getD (k .bytes) 0 0) (λ e. omega arith))
+
+-- what is said of the line alone says nothing of where it stands: for the x of "\nx" it hands the newline back, a line more
+pub kept-unmoved :
+    Outgrown ((s t : List ℕ) → Begun s → desk (s ++ t) ≡ desk (take 32 s ++ t))
+    ((buf t : List ℕ) (from to : ℕ) → Begun (slice from to buf) → let k = notMoved buf from to in desk (slice from to buf ++ t) ≡ desk (take (k .length) (k .bytes) ++ t))
+unfolding desk linesOf wholeIn answers answerTo refusedText
+kept-unmoved = (kept-is, λ w. let z : _≡_ {A = ℕ} 10 20 = ap length (w (10 ∷ 120 ∷ []) (10 ∷ []) 1 2 refl) in omega arith)
 
 -- the line's last bytes are kept, not its first
 abbrev keptLast : List ℕ → ℕ → ℕ → Kept
