@@ -87,8 +87,18 @@ formUnknown n = not (eqb n 20 || (eqb n 24 || (eqb n 27 || eqb n 31)))
 abbrev pub bitUnknown : ℕ → Bool
 bitUnknown b = not (leb b 1)
 
-abbrev pub fits : ℕ → Bool
-fits n = ltb n (2 ^ 16)
+-- a number that 16 bits do not hold, or one of several
+abbrev pub tooWide : ℕ → Bool
+tooWide n = not (ltb n (2 ^ 16))
+
+abbrev pub proteusTooWide : ℕ → ℕ → ℕ → Bool
+proteusTooWide week h3 fraction = tooWide week || (bitUnknown h3 || tooWide fraction)
+
+abbrev pub cryosatTooWide : ℕ → ℕ → Bool
+cryosatTooWide day microsecond = tooWide day || tooWide microsecond
+
+abbrev pub siralTooWide : ℕ → ℕ → ℕ → Bool
+siralTooWide day microsecond extra = tooWide day || (tooWide microsecond || tooWide extra)
 
 -- ---- "4 decimal day infinite or not a number"
 abbrev pub notFinite : Float → Bool

@@ -31,6 +31,14 @@ not-not : (b : Bool) → not (not b) ≡ b
 not-not true = refl
 not-not false = refl
 
+pub not-both : (a b : Bool) → not (a && b) ≡ not a || not b
+not-both true b = refl
+not-both false b = refl
+
+pub not-all : (a b c : Bool) → not (a && (b && c)) ≡ not a || (not b || not c)
+not-all true b c = not-both b c
+not-all false b c = refl
+
 image-length : (f : Form) (z : Scale) (m : Moment) → length (TextWrite.imageOf f z m) ≡ Rows.formLength f
 unfolding TextWrite.textOf
 image-length F.Plain z m = refl

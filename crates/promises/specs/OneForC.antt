@@ -3,7 +3,7 @@ use mathlib.Core.Path.{_≡_, refl, ap}
 use mathlib.Core.Bool.{Bool, true, not, _&&_}
 use mathlib.Core.List.{List, [], _∷_}
 use Prim.Native.Nat.{ℕ}
-use lib.Dec.{leb}
+use lib.Dec.{leb, ltb}
 use lib.Ieee.{Float}
 use lib.IntN.{ℤ}
 use Rattle.axis.specs.Meaning.{Moment}
@@ -49,7 +49,7 @@ use Rattle.promises.specs.Meaning.{tests, Promise}
 use Rattle.promises.specs.First.{promised}
 use Rattle.promises.specs.Conditions as C
 use Rattle.promises.specs.Rows as Rows
-use Rattle.promises.specs.Judging.{change-rows}
+use Rattle.promises.specs.Judging.{not-both, not-all, change-rows}
 use Rattle.promises.specs.One.{Writes, writes, Allows, allows}
 use Rattle.promises.specs.One as One
 
@@ -169,7 +169,7 @@ unfolding CucFields.read
 cuc-fields-read s = promised (record { of-refusal = λ n. refl; of-answer = λ a. refl }) (CucFields.reading s) refl refl
 
 pub cuc-fields-write : (seconds fraction : ℕ) (out : List ℕ) → Writes out (Bytes.writes (Parts.cucFieldsWriting seconds fraction) out) (Parts.cucFieldsWriting seconds fraction out)
-    ((3, not (C.fits fraction)) ∷ Rows.cucFieldsWrite out)
+    ((3, C.tooWide fraction) ∷ Rows.cucFieldsWrite out)
 unfolding Bytes.writes field
 cuc-fields-write seconds fraction out = writes out (Parts.cucFieldsWriting seconds fraction out) refl refl
 
@@ -179,9 +179,10 @@ unfolding ProteusFields.read
 proteus-fields-read s = promised (record { of-refusal = λ n. refl; of-answer = λ a. refl }) (ProteusFields.reading s) refl refl
 
 pub proteus-fields-write : (week h3 second fraction : ℕ) (out : List ℕ) → Writes out (Bytes.writes (Parts.proteusFieldsWriting week h3 second fraction) out) (Parts.proteusFieldsWriting week h3 second fraction out)
-    ((3, not (C.fits week && (leb h3 1 && C.fits fraction))) ∷ (3, C.weekOver week second) ∷ (13, C.outputShorter 8 out) ∷ [])
+    ((3, C.proteusTooWide week h3 fraction) ∷ (3, C.weekOver week second) ∷ (13, C.outputShorter 8 out) ∷ [])
 unfolding Bytes.writes field
-proteus-fields-write week h3 second fraction out = writes out (Parts.proteusFieldsWriting week h3 second fraction out) refl refl
+proteus-fields-write week h3 second fraction out = writes out (Parts.proteusFieldsWriting week h3 second fraction out)
+    (ap (λ (b : Bool). (3, b) ∷ (3, C.weekOver week second) ∷ (13, C.outputShorter 8 out) ∷ []) (not-all (ltb week 65536) (leb h3 1) (ltb fraction 65536))) refl
 
 pub cryosat-fields-read : (s : List ℕ) → Promise (λ (o : Outcome _). Parts.cryosatFields (valued CryosatFields.empty o)) (λ (x : VrkCryosatFields). x .refusal) (Parts.cryosatFields (CryosatFields.read s)) (CryosatFields.reading s)
     (Rows.cryosatFieldsRead s)
@@ -189,9 +190,10 @@ unfolding CryosatFields.read
 cryosat-fields-read s = promised (record { of-refusal = λ n. refl; of-answer = λ a. refl }) (CryosatFields.reading s) refl refl
 
 pub cryosat-fields-write : (day millisecond microsecond : ℕ) (out : List ℕ) → Writes out (Bytes.writes (Parts.cryosatFieldsWriting day millisecond microsecond) out) (Parts.cryosatFieldsWriting day millisecond microsecond out)
-    ((3, not (C.fits day && C.fits microsecond)) ∷ (3, C.dayTimeOver millisecond microsecond) ∷ (13, C.outputShorter 8 out) ∷ [])
+    ((3, C.cryosatTooWide day microsecond) ∷ (3, C.dayTimeOver millisecond microsecond) ∷ (13, C.outputShorter 8 out) ∷ [])
 unfolding Bytes.writes field
-cryosat-fields-write day millisecond microsecond out = writes out (Parts.cryosatFieldsWriting day millisecond microsecond out) refl refl
+cryosat-fields-write day millisecond microsecond out = writes out (Parts.cryosatFieldsWriting day millisecond microsecond out)
+    (ap (λ (b : Bool). (3, b) ∷ (3, C.dayTimeOver millisecond microsecond) ∷ (13, C.outputShorter 8 out) ∷ []) (not-both (ltb day 65536) (ltb microsecond 65536))) refl
 
 pub siral-fields-read : (s : List ℕ) → Promise (λ (o : Outcome _). Parts.siralFields (valued SiralFields.empty o)) (λ (x : VrkSiralFields). x .refusal) (Parts.siralFields (SiralFields.read s)) (SiralFields.reading s)
     (Rows.siralFieldsRead s)
@@ -199,9 +201,10 @@ unfolding SiralFields.read
 siral-fields-read s = promised (record { of-refusal = λ n. refl; of-answer = λ a. refl }) (SiralFields.reading s) refl refl
 
 pub siral-fields-write : (day millisecond microsecond extra : ℕ) (out : List ℕ) → Writes out (Bytes.writes (Parts.siralFieldsWriting day millisecond microsecond extra) out) (Parts.siralFieldsWriting day millisecond microsecond extra out)
-    ((3, not (C.fits day && (C.fits microsecond && C.fits extra))) ∷ (3, C.dayTimeOver millisecond microsecond) ∷ (13, C.outputShorter 10 out) ∷ [])
+    ((3, C.siralTooWide day microsecond extra) ∷ (3, C.dayTimeOver millisecond microsecond) ∷ (13, C.outputShorter 10 out) ∷ [])
 unfolding Bytes.writes field
-siral-fields-write day millisecond microsecond extra out = writes out (Parts.siralFieldsWriting day millisecond microsecond extra out) refl refl
+siral-fields-write day millisecond microsecond extra out = writes out (Parts.siralFieldsWriting day millisecond microsecond extra out)
+    (ap (λ (b : Bool). (3, b) ∷ (3, C.dayTimeOver millisecond microsecond) ∷ (13, C.outputShorter 10 out) ∷ []) (not-all (ltb day 65536) (ltb microsecond 65536) (ltb extra 65536))) refl
 
 pub text-read : (s : List ℕ) (ds : List ℤ) (os : List ℕ) (e : ℤ) → Promise (λ (o : Outcome Moment). CApi.timeOut (TextRead.datedIn (TextRead.scaleIn s) o)) (λ (x : VrkTime). x .refusal) (CApi.timeOut (TextRead.readText s ds os e)) (TextRead.reading s ds os e)
     (Rows.textRead s ds os e)
