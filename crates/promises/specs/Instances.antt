@@ -8,7 +8,8 @@ use native.Mathlib.Omega.{arith}
 use lib.Dec.{lit≤}
 use lib.IntN.{ℤ, pos, negsuc}
 use Rattle.axis.specs.Meaning.{Moment, since}
-use Rattle.octets.specs.Meaning.{number}
+use Rattle.octets.specs.Meaning.{number, field}
+use Rattle.octets.specs.Field.{field-bytes}
 use Rattle.scales.specs.Meaning.{Outcome, answer, dated, order, recordOf, valued}
 use Rattle.scales.specs.declared.Scale.the-variants as S
 use Rattle.scales.specs.declared.Refusal.the-variants as R
@@ -24,7 +25,9 @@ use Rattle.leap.specs.Meaning.{through, isStep, publishedDays, publishedOffsets
 use Rattle.leap.specs.Walk.{or-false}
 use Rattle.leap.specs.Published.{published}
 use Rattle.leap_laws.proofs.Computed.{earlierDays, earlierOffsets, earlierLast, earlier, step-more}
+use Rattle.changes.specs.Meaning.{gpsToUtc, changeOf}
 use Rattle.layout_times.specs.Cuc as Cuc
+use Rattle.layout_times.specs.Proteus as Proteus
 use Rattle.layout_times.specs.Cryosat as Cryosat
 use Rattle.text_fields.specs.Meaning.{names, letter, prefixOf}
 use Rattle.text_read.specs.Meaning.{digitOf, twoOf, fourOf, sixOf, isNamed, seek, monthNamed, hasMarks, microIn, stampIn, inLimits, hasPrefix, scaleIn, bodyIn, isPrefixRight, isBody, readText}
@@ -43,6 +46,7 @@ use Rattle.promises.specs.Rows as Rows
 use Rattle.promises.specs.First.{exactly}
 use Rattle.promises.specs.One.{take, decimal-write, cuc-read, cuc-write, line}
 use Rattle.promises.specs.OneForC as OneForC
+use Rattle.promises.specs.Never as Never
 use Rattle.promises.specs.Two.{cuc-time, proteus-time, cryosat-time, siral-time}
 use Rattle.c_api.specs.Meaning as CApi
 use Rattle.c_api.specs.Bytes as Bytes
@@ -95,6 +99,21 @@ decimal-write-for-c-instance = OneForC.decimal-write unknown (record { refusal =
 
 pub line-instance : answerTo publishedDays publishedOffsets publishedLast [] ≡ refusedText 1 ++ (10 ∷ [])
 line-instance = line publishedDays publishedOffsets publishedLast [] .printed (λ q. omega arith)
+
+-- ---- numbers that never come, of inputs that are answered: 8 zero bytes of Proteus; GPS day 0 under the published list, as a count and
+-- as a record; TAI to GPS, which asks nothing of the empty list
+pub proteus-read-never-7-instance : Bytes.proteusOut (Proteus.read (0 ∷ 0 ∷ 0 ∷ 0 ∷ 0 ∷ 0 ∷ 0 ∷ 0 ∷ [])) .refusal ≡ 7 → ⊥
+unfolding field
+proteus-read-never-7-instance = Never.proteus-read-never-7 (0 ∷ 0 ∷ 0 ∷ 0 ∷ 0 ∷ 0 ∷ 0 ∷ 0 ∷ []) (field-bytes 8 0)
+
+pub gps-to-utc-never-11-instance : gpsToUtc 3456000000000000 publishedDays publishedOffsets publishedLast .number ≡ 11 → ⊥
+gps-to-utc-never-11-instance = Never.gps-to-utc-never-11 publishedDays publishedOffsets publishedLast 3456000000000000
+
+pub handed-gps-to-utc-never-11-instance : changeOf (H.Record (recordOf S.Gps (pos 0) 0)) S.Utc publishedDays publishedOffsets publishedLast .number ≡ 11 → ⊥
+handed-gps-to-utc-never-11-instance = Never.handed-gps-to-utc-never-11 publishedDays publishedOffsets publishedLast (H.Record (recordOf S.Gps (pos 0) 0)) refl
+
+pub without-list-never-5-instance : changeOf (H.Record (recordOf S.Tai (pos 0) 0)) S.Gps [] [] (pos 0) .number ≡ 5 → ⊥
+without-list-never-5-instance = Never.without-list-never-5 (H.Record (recordOf S.Tai (pos 0) 0)) S.Gps [] [] (pos 0) refl
 
 -- ---- demand 2: "CUC 00 00 00 01 00 01: GPS day -7300, 1,000,015", and so of the other readings
 pub cuc-time-instance : since (negsuc 7299) 1000015 ≡ since Cuc.epoch 1000015
