@@ -26,7 +26,7 @@ use Rattle.marked.proofs.Marked.{marked, ten-cases}
 use Rattle.promises.specs.First.{exactly, first-is, first-then, promised, then-first}
 use Rattle.promises.specs.Instances.{change-for-c-instance, cryosat-time-instance, cuc-time-instance, date-for-c-instance, decimal-write-for-c-instance, decimal-write-instance, exactly-instance, goce-count-for-c-instance, goce-date-for-c-instance, gps-to-utc-never-11-instance, handed-gps-to-utc-never-11-instance, kept-instance, line-instance, paper-instance, proteus-read-never-7-instance, proteus-time-instance, refusal-instance, siral-time-instance, sixty-instance, take-instance, text-read-for-c-instance, text-write-for-c-instance, tick-for-c-instance, without-list-never-5-instance}
 use Rattle.promises.specs.Never.{gps-to-utc-never-11, handed-gps-to-utc-never-11, line-never-5, proteus-read-never-7, without-list-never-5}
-use Rattle.promises.specs.One.{change as promises-one-change, cryosat-fields-read as promises-one-cryosat-fields-read, cryosat-fields-write as promises-one-cryosat-fields-write, cryosat-read as promises-one-cryosat-read, cryosat-write as promises-one-cryosat-write, cuc-fields-read as promises-one-cuc-fields-read, cuc-fields-write as promises-one-cuc-fields-write, cuc-read as promises-one-cuc-read, cuc-write as promises-one-cuc-write, date-of, day-of, decimal-read as promises-one-decimal-read, decimal-write as promises-one-decimal-write, goce-count as promises-one-goce-count, goce-date as promises-one-goce-date, goce-read as promises-one-goce-read, goce-write, gps-to-tai, gps-to-utc, line, obet-read as promises-one-obet-read, obet-write, proteus-fields-read as promises-one-proteus-fields-read, proteus-fields-write as promises-one-proteus-fields-write, proteus-read as promises-one-proteus-read, proteus-write as promises-one-proteus-write, record-judged, sbt-date as promises-one-sbt-date, sbt-read as promises-one-sbt-read, sbt-tick as promises-one-sbt-tick, sbt-write, siral-fields-read as promises-one-siral-fields-read, siral-fields-write as promises-one-siral-fields-write, siral-read as promises-one-siral-read, siral-write as promises-one-siral-write, tai-to-gps, tai-to-utc, take, text-read as promises-one-text-read, text-write as promises-one-text-write, utc-to-gps, utc-to-tai}
-use Rattle.promises.specs.OneForC.{change as promises-one-for-c-change, cryosat-fields-read as promises-one-for-c-cryosat-fields-read, cryosat-fields-write as promises-one-for-c-cryosat-fields-write, cryosat-read as promises-one-for-c-cryosat-read, cryosat-write as promises-one-for-c-cryosat-write, cuc-fields-read as promises-one-for-c-cuc-fields-read, cuc-fields-write as promises-one-for-c-cuc-fields-write, cuc-read as promises-one-for-c-cuc-read, cuc-write as promises-one-for-c-cuc-write, decimal-read as promises-one-for-c-decimal-read, decimal-write as promises-one-for-c-decimal-write, goce-count as promises-one-for-c-goce-count, goce-date as promises-one-for-c-goce-date, goce-read as promises-one-for-c-goce-read, obet-read as promises-one-for-c-obet-read, proteus-fields-read as promises-one-for-c-proteus-fields-read, proteus-fields-write as promises-one-for-c-proteus-fields-write, proteus-read as promises-one-for-c-proteus-read, proteus-write as promises-one-for-c-proteus-write, sbt-date as promises-one-for-c-sbt-date, sbt-read as promises-one-for-c-sbt-read, sbt-tick as promises-one-for-c-sbt-tick, siral-fields-read as promises-one-for-c-siral-fields-read, siral-fields-write as promises-one-for-c-siral-fields-write, siral-read as promises-one-for-c-siral-read, siral-write as promises-one-for-c-siral-write, text-read as promises-one-for-c-text-read, text-write as promises-one-for-c-text-write}
+use Rattle.promises.specs.One.{answer-returns-0, change as promises-one-change, cryosat-fields-read as promises-one-cryosat-fields-read, cryosat-fields-write as promises-one-cryosat-fields-write, cryosat-read as promises-one-cryosat-read, cryosat-write as promises-one-cryosat-write, cuc-fields-read as promises-one-cuc-fields-read, cuc-fields-write as promises-one-cuc-fields-write, cuc-read as promises-one-cuc-read, cuc-write as promises-one-cuc-write, date-of, day-of, decimal-read as promises-one-decimal-read, decimal-write as promises-one-decimal-write, goce-count as promises-one-goce-count, goce-date as promises-one-goce-date, goce-read as promises-one-goce-read, goce-write, gps-to-tai, gps-to-utc, line, obet-read as promises-one-obet-read, obet-write, proteus-fields-read as promises-one-proteus-fields-read, proteus-fields-write as promises-one-proteus-fields-write, proteus-read as promises-one-proteus-read, proteus-write as promises-one-proteus-write, record-judged, rest-stays, sbt-date as promises-one-sbt-date, sbt-read as promises-one-sbt-read, sbt-tick as promises-one-sbt-tick, sbt-write, siral-fields-read as promises-one-siral-fields-read, siral-fields-write as promises-one-siral-fields-write, siral-read as promises-one-siral-read, siral-write as promises-one-siral-write, tai-to-gps, tai-to-utc, take, text-read as promises-one-text-read, text-write as promises-one-text-write, utc-to-gps, utc-to-tai}
+use Rattle.promises.specs.OneForC.{answer-returns-0-for-c, change as promises-one-for-c-change, cryosat-fields-read as promises-one-for-c-cryosat-fields-read, cryosat-fields-write as promises-one-for-c-cryosat-fields-write, cryosat-read as promises-one-for-c-cryosat-read, cryosat-write as promises-one-for-c-cryosat-write, cuc-fields-read as promises-one-for-c-cuc-fields-read, cuc-fields-write as promises-one-for-c-cuc-fields-write, cuc-read as promises-one-for-c-cuc-read, cuc-write as promises-one-for-c-cuc-write, decimal-read as promises-one-for-c-decimal-read, decimal-write as promises-one-for-c-decimal-write, goce-count as promises-one-for-c-goce-count, goce-date as promises-one-for-c-goce-date, goce-read as promises-one-for-c-goce-read, obet-read as promises-one-for-c-obet-read, proteus-fields-read as promises-one-for-c-proteus-fields-read, proteus-fields-write as promises-one-for-c-proteus-fields-write, proteus-read as promises-one-for-c-proteus-read, proteus-write as promises-one-for-c-proteus-write, sbt-date as promises-one-for-c-sbt-date, sbt-read as promises-one-for-c-sbt-read, sbt-tick as promises-one-for-c-sbt-tick, siral-fields-read as promises-one-for-c-siral-fields-read, siral-fields-write as promises-one-for-c-siral-fields-write, siral-read as promises-one-for-c-siral-read, siral-write as promises-one-for-c-siral-write, text-read as promises-one-for-c-text-read, text-write as promises-one-for-c-text-write}
 use Rattle.promises.specs.Three.{change-for-c, date-for-c, goce-count-for-c, goce-date-for-c, old-dates-stay, text-read-for-c, text-write-for-c, tick-for-c}
 use Rattle.promises.specs.Two.{cryosat-time, cuc-time, proteus-time, siral-time}

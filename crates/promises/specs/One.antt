@@ -6,6 +6,8 @@ use mathlib.Core.List.{List, [], _∷_, _++_}
 use Prim.Native.Nat.{ℕ}
 use lib.Ieee.{Float}
 use lib.IntN.{ℤ, pos}
+use lib.ListN.{length, drop}
+use lib.Seq.{drop-at}
 use Rattle.axis.specs.Meaning.{Moment}
 use Rattle.octets.specs.Meaning.{field}
 use Rattle.scales.specs.Meaning.{Judged, Outcome, refused, answer, outcome, numbers, order, standsIn, Slip, dated, spanning, spanned, Wrote, written, Valued, valued}
@@ -69,6 +71,15 @@ Values {A} zero r j rows = Promise (valued zero) (λ (x : Valued A). x .number) 
 
 values : {A : Type 0} (zero : A) (j : Judged A) {rows : List (ℕ × Bool)} → tests j ≡ rows → standsIn (numbers j) order ≡ true → Values zero (valued zero (outcome j)) j rows
 values zero j {rows} e r = promised (record { of-refusal = λ n. refl; of-answer = λ a. refl }) j e r
+
+-- "An answer returns 0"
+pub answer-returns-0 : {A : Type 0} (s : Scale) (m : Moment) (out image : List ℕ) (zero a : A)
+    → (dated s (answer m) .number ≡ 0) × (written out (answer image) .number ≡ 0) × (valued zero (answer a) .number ≡ 0)
+answer-returns-0 s m out image zero a = (refl, refl, refl)
+
+-- "bytes after the written part stay"
+pub rest-stays : (out image : List ℕ) → let w = written out (answer image) in drop (w .length) (w .lent) ≡ drop (w .length) out
+rest-stays out image = drop-at image (drop (length image) out) (length image) refl
 
 -- a decimal day that is written is allowed by a relation
 pub record Allows (w : Valued Float) (j : Judged ℤ) (rows : List (ℕ × Bool)) : Type 0 where

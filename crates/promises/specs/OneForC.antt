@@ -8,7 +8,7 @@ use lib.Ieee.{Float}
 use lib.IntN.{ℤ}
 use Rattle.axis.specs.Meaning.{Moment}
 use Rattle.octets.specs.Meaning.{field}
-use Rattle.scales.specs.Meaning.{scaleAt, Judged, given, Outcome, outcome, numbers, order, standsIn, dated, valued}
+use Rattle.scales.specs.Meaning.{scaleAt, Judged, given, Outcome, answer, outcome, numbers, order, standsIn, dated, valued}
 use Rattle.scales.specs.declared.Scale.{Scale}
 use Rattle.scales.specs.declared.Scale.the-variants as S
 use Rattle.decimal.specs.Meaning as Decimal
@@ -65,6 +65,10 @@ Counts r j rows = Promise (λ (o : Outcome ℕ). CApi.countOut (valued 0 o)) (λ
 
 counts : (j : Judged ℕ) {rows : List (ℕ × Bool)} → tests j ≡ rows → standsIn (numbers j) order ≡ true → Counts (CApi.countOut (valued 0 (outcome j))) j rows
 counts j {rows} e r = promised (record { of-refusal = λ n. refl; of-answer = λ a. refl }) j e r
+
+-- "An answer returns 0"
+pub answer-returns-0-for-c : (s : Scale) (m : Moment) (n : ℕ) → (CApi.timeOut (dated s (answer m)) .refusal ≡ 0) × (CApi.countOut (valued 0 (answer n)) .refusal ≡ 0)
+answer-returns-0-for-c s m n = (refl, refl)
 
 -- a code that stands for nothing, in front of what the library judges
 in-front : {A : Type 0} (b : Bool) (j : Judged A) {rows : List (ℕ × Bool)} → tests j ≡ rows → tests (given b 3 j) ≡ (3, not b) ∷ rows
