@@ -30,7 +30,7 @@ fn dated_tai(d: DatedTai) -> Dated
     }
 }
 
-fn dated_utc(d: DatedUtc) -> Dated
+pub fn dated_utc(d: DatedUtc) -> Dated
     ensures { λ r. ⌜ slip r ≡ slipUtc d ⌝ }
 {
     match d {

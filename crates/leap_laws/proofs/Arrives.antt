@@ -18,8 +18,8 @@ use Rattle.leap.specs.Meaning.{accepted, isExpiredTai, utcOf}
 use Rattle.leap.specs.Steps.{Steps, steps}
 use Rattle.leap.specs.Back.{back, forth, none-before}
 use Rattle.leap.specs.Whole.{taiAt, offset-small, known-before, before-known}
-use Rattle.via_tai.specs.Meaning.{toScale}
-use Rattle.via_tai.specs.Ways.{OnTheWay, expires}
+use Rattle.via_tai.specs.Meaning.{toUtc, toScale}
+use Rattle.via_tai.specs.Ways.{OnTheWay, far-on, expires}
 use Rattle.leap_laws.proofs.Stands.{moment, onTai, Known, Stands, spans, inside, one}
 
 -- the moment of a count of whole days and microseconds
@@ -73,12 +73,9 @@ module _ (ds : List ℤ) (os : List ℕ) (e : ℤ) (w : accepted ds os e ≡ tru
         tai = e;
       }
 
-  pub found : (s : Scale) (c : ℕ) → OnTheWay c → (m : Moment) → outcome (toScale s ds os e (microsAt c)) ≡ answer m → Found s c m
-  found S.Tai c v m h = plain-found S.Tai c c m h (omega arith) (omega arith)
-  found S.Gps c v m h =
-      let f : 19000000 ≤ c = omega (arith, v .from) in
-      plain-found S.Gps (c - 19000000) c m (ap (λ (z : ℤ). outcome (resulting S.Gps (momentOf z))) (sym (micros-minus c 19000000 f)) ∙ h) (omega arith) (omega arith)
-  found S.Utc c v m h = go (isExpiredTai ds os e (microsAt c)) refl (way c (29773 * dayMicros + 10 * 1000000)) h
+  -- in UTC, wherever the first offset can be taken away: the span is not tested on the way
+  pub found-utc : (c : ℕ) → 10000000 ≤ c → (m : Moment) → outcome (toUtc ds os e (microsAt c)) ≡ answer m → Found S.Utc c m
+  found-utc c v m h = go (isExpiredTai ds os e (microsAt c)) refl (way c (29773 * dayMicros + 10 * 1000000)) h
     where
       U : Moment
       U = utcOf ds os (microsAt c)
@@ -91,7 +88,7 @@ module _ (ds : List ℤ) (os : List ℕ) (e : ℤ) (w : accepted ds os e ≡ tru
       go true p y h = absurd (no-answer h)
       go false p (below y) h =
           let t = one (inSpan S.Utc (U .day) (U .micro)) 11 U m h in
-          let b = none-before (list .grown) c (omega (arith, v .from)) y in
+          let b = none-before (list .grown) c v y in
           no (sym (span-early S.Utc (b .place) (b .micro) (b .early)) ∙ ap (λ (x : Moment). inSpan S.Utc (x .day) (x .micro)) (sym (b .is)) ∙ t .0)
       go false p (above y) h =
           let t = one (inSpan S.Utc (U .day) (U .micro)) 11 U m h in
@@ -105,3 +102,10 @@ module _ (ds : List ℤ) (os : List ℕ) (e : ℤ) (w : accepted ds os e ≡ tru
             is = sym (t .1) ∙ r .is;
             tai = r .tai;
           }
+
+  pub found : (s : Scale) (c : ℕ) → OnTheWay c → (m : Moment) → outcome (toScale s ds os e (microsAt c)) ≡ answer m → Found s c m
+  found S.Tai c v m h = plain-found S.Tai c c m h (omega arith) (omega arith)
+  found S.Gps c v m h =
+      let f : 19000000 ≤ c = omega (arith, v .from) in
+      plain-found S.Gps (c - 19000000) c m (ap (λ (z : ℤ). outcome (resulting S.Gps (momentOf z))) (sym (micros-minus c 19000000 f)) ∙ h) (omega arith) (omega arith)
+  found S.Utc c v m h = found-utc c (far-on v) m h

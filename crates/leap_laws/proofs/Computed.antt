@@ -1,5 +1,5 @@
--- The published list is accepted with E = 6209 too, and its first 27 steps with E = 6000; what the desk hands back about its last steps is computed; the marked
--- cases stand in the crate `marked`. Assumes nothing.
+-- The published list is accepted with E = 6209 too, its first 27 steps with E = 6000 and 6209, and its first alone; what the desk hands
+-- back about its last steps is computed; the marked cases stand in the crate `marked`. Assumes nothing.
 use mathlib.Core.Path.{_≡_, refl}
 use mathlib.Core.Bool.{true}
 use mathlib.Core.List.{List, [], _∷_}
@@ -41,6 +41,25 @@ earlier = refl
 pub step-more : Extends earlierDays earlierOffsets earlierLast publishedDays publishedOffsets publishedLast
 unfolding allLater
 step-more = record { moreDays = pos 6210 ∷ []; moreOffsets = 37 ∷ []; days = refl; offsets = refl; further = refl; ends = refl }
+
+-- to the day before its last step, and without it: that day has no second 60
+pub earlier-6209 : accepted earlierDays earlierOffsets (pos 6209) ≡ true
+unfolding leap monthLength lengthOf firstDay dayAfter daysTo walk isFirst begins risesFrom rises countsFrom countsUp noneLater accepted
+earlier-6209 = refl
+
+-- ---- the first step alone, as long as a list can be: every day has 86,400 s
+abbrev pub evenDays : List ℤ
+evenDays = negsuc 10226 ∷ []
+
+abbrev pub evenOffsets : List ℕ
+evenOffsets = 10 ∷ []
+
+abbrev pub evenLast : ℤ
+evenLast = pos 36524
+
+pub even : accepted evenDays evenOffsets evenLast ≡ true
+unfolding leap monthLength lengthOf firstDay dayAfter daysTo walk isFirst begins risesFrom rises countsFrom countsUp noneLater accepted
+even = refl
 
 -- ---- what the desk hands back of a record under the published steps
 abbrev pub asked : ℤ → Scale → ℤ → ℕ → Scale → Slip

@@ -1,13 +1,14 @@
 -- Demand 3: under a list that extends an accepted one every answer is the same, and every refusal but 9 stays. Assumes nothing.
 use mathlib.Core.Path.{_≡_, refl, sym, ap, ap₂, _∙_}
-use mathlib.Core.Bool.{Bool, true, false, cond, not}
+use mathlib.Core.Bool.{Bool, true, false, cond, not, _||_}
 use mathlib.Core.List.{List, [], _∷_, _++_}
 use Prim.Native.Nat.{ℕ, _+_, _*_, _<_, _≤_}
 use native.Mathlib.Omega.{arith}
+use lib.Dec.{ltb}
 use lib.IntN.{ℤ, pos, _+ℤ_}
 use lib.ListN.{length}
 use lib.Signed.{leZ, ltZ}
-use borrow.Author.Tests.{lt-leb, le-leb, lt-ltb, le-ltb, leb-true, leb-false}
+use borrow.Author.Tests.{lt-leb, le-leb, lt-ltb, le-ltb, leb-true, leb-false, not-true}
 use Rattle.axis.specs.Meaning.{placeOfDay, dayAt, microsAt, Moment, dayMicros, since}
 use Rattle.axis.specs.Diff.{Way, way, below, above, le-not}
 use Rattle.axis.specs.Axis.{day-to, day-le, since-at, day-next, micros-add}
@@ -17,7 +18,7 @@ use Rattle.scales.specs.Place.{and-both}
 use Rattle.scales.specs.declared.Scale.{Scale}
 use Rattle.scales.specs.declared.Scale.the-variants as S
 use Rattle.calendar.specs.Meaning.{isFirst, allFirsts}
-use Rattle.leap.specs.Meaning.{seconds, accepted, allLater, through, onOrBefore, begun, plain, offsetOn, taiOf, isStep, hasMicro, isExpiredDay, utcOf}
+use Rattle.leap.specs.Meaning.{seconds, accepted, allLater, through, onOrBefore, begun, plain, offsetOn, taiOf, isStep, hasMicro, isExpiredDay, isExpiredTai, utcOf}
 use Rattle.leap.specs.Places.{tai-at}
 use Rattle.leap.specs.Walk.{or-false, through-append, step-append}
 use Rattle.leap.specs.Accept.{first-at}
@@ -72,6 +73,12 @@ module _ (x : ℕ) (k : x < 100000) where
       ap (λ (y : ℤ). begun (microsAt c) y p m) (sym (first-at d (g .0))) ∙ said-nothing (placeOfDay d) p c m (omega arith) in
       ap (λ (y : Moment). through (begun (microsAt c)) y cs ps) q ∙ silent-utc cs ps c m h (g .1) (t .1)
 
+-- a day that is not expired is not after E
+pub day-by : (ds : List ℤ) (os : List ℕ) (e : ℤ) → accepted ds os e ≡ true → (d : ℤ) → isExpiredDay e d ≡ false → placeOfDay d ≤ placeOfDay e
+day-by ds os e w d h =
+    let s = steps ds os e w in
+    leb-true (placeOfDay d) (placeOfDay e) (sym (day-to (placeOfDay e) d (omega (arith, s .to))) ∙ ap (leZ d) (s .day) ∙ le-not d e ∙ rw h)
+
 -- the value that a time of a scale changes by
 value : (s : Scale) (ds : List ℤ) (os : List ℕ) (e : ℤ) (b : Bool) (a u : ℕ) (z : ℤ) → outcome (fromScale s ds os e b (moment a u)) ≡ answer z
     → z ≡ microsAt (onTai s ds os a u)
@@ -122,12 +129,28 @@ module _ (ds : List ℤ) (os : List ℕ) (e : ℤ) (w : accepted ds os e ≡ tru
   ends-at : placeOfDay e ≤ placeOfDay f
   ends-at = leb-true (placeOfDay e) (placeOfDay f) (sym (day-le (placeOfDay e) (placeOfDay f)) ∙ ap₂ leZ (A .day) (B .day) ∙ ends)
 
-  -- B is not expired where A is not
+  -- a day that is not expired under A is not under B, and has the same seconds
+  pub day-current : (d : ℤ) → isExpiredDay e d ≡ false → isExpiredDay f d ≡ false
+  day-current d h =
+      not-true (ltZ f d)
+      (sym (le-not d f) ∙ ap (leZ d) (sym (B .day)) ∙ day-to (placeOfDay f) d (omega (arith, B .to))
+      ∙ le-leb (placeOfDay d) (placeOfDay f) (omega (arith, day-by ds os e w d h, ends-at)))
+
+  pub same-second : (a u : ℕ) → a ≤ placeOfDay e → hasMicro (ds ++ cs) (dayAt a) u ≡ hasMicro ds (dayAt a) u
+  same-second a u h =
+      ap (λ (b : Bool). ltb u dayMicros || b)
+      (ap (isStep (ds ++ cs)) (day-next a) ∙ same-step (a + 1) (omega arith) ∙ ap (isStep ds) (sym (day-next a)))
+
+  -- B ends no earlier than A
   limits : taiAt ds os x 0 ≤ taiAt (ds ++ cs) (os ++ ps) (placeOfDay f + 1) 0
   limits =
       omega (arith, ends-at, same-offset x (omega arith), offset-mono (B .grown) x (placeOfDay f + 1) (omega (arith, A .from)) (omega (arith, ends-at)))
 
-  same-utc : (c : ℕ) → c < taiAt ds os x 0 → utcOf (ds ++ cs) (os ++ ps) (microsAt c) ≡ utcOf ds os (microsAt c)
+  -- a TAI count that is not expired under A is not under B, and is the TAI of the same UTC time
+  pub count-current : (c : ℕ) → c < taiAt ds os x 0 → isExpiredTai (ds ++ cs) (os ++ ps) f (microsAt c) ≡ false
+  count-current c h = expires (ds ++ cs) (os ++ ps) f v c ∙ lt-leb (taiAt (ds ++ cs) (os ++ ps) (placeOfDay f + 1) 0) c (omega (arith, limits))
+
+  pub same-utc : (c : ℕ) → c < taiAt ds os x 0 → utcOf (ds ++ cs) (os ++ ps) (microsAt c) ≡ utcOf ds os (microsAt c)
   same-utc c h =
       through-append (begun (microsAt c)) (plain 10 (microsAt c)) ds cs os ps even
       ∙ silent-utc x small cs ps c (utcOf ds os (microsAt c)) (omega (arith, offset-small ds os e w x))
@@ -144,10 +167,8 @@ module _ (ds : List ℤ) (os : List ℕ) (e : ℤ) (w : accepted ds os e ≡ tru
       go : Way (placeOfDay e) a → outcome (fromScale S.Utc (ds ++ cs) (os ++ ps) f true (moment a u)) ≡ outcome (fromScale S.Utc ds os e true (moment a u))
       go (below l) = absurd (h (rw (expired-at ds os e w a, lt-ltb (placeOfDay e) a l)))
       go (above l) =
-          let q : isStep (ds ++ cs) (dayAt a +ℤ pos 1) ≡ isStep ds (dayAt a +ℤ pos 1) =
-          ap (isStep (ds ++ cs)) (day-next a) ∙ same-step (a + 1) (omega arith) ∙ ap (isStep ds) (sym (day-next a)) in
-          let o = same-offset a (omega arith) in
-          rw (expired-at ds os e w a, expired-at (ds ++ cs) (os ++ ps) f v a, le-ltb (placeOfDay e) a l, le-ltb (placeOfDay f) a (omega (arith, ends-at)), q, o) refl
+          let q : isExpiredDay e (dayAt a) ≡ false = expired-at ds os e w a ∙ le-ltb (placeOfDay e) a l in
+          rw (q, day-current (dayAt a) q, same-second a u l, same-offset a (omega arith)) refl
 
   to-kept : (s : Scale) (c : ℕ) → (outcome (toScale s ds os e (microsAt c)) ≡ refused 9 → ⊥)
       → outcome (toScale s (ds ++ cs) (os ++ ps) f (microsAt c)) ≡ outcome (toScale s ds os e (microsAt c))
@@ -158,12 +179,7 @@ module _ (ds : List ℤ) (os : List ℕ) (e : ℤ) (w : accepted ds os e ≡ tru
       go : Way c (taiAt ds os x 0) → outcome (toScale S.Utc (ds ++ cs) (os ++ ps) f (microsAt c)) ≡ outcome (toScale S.Utc ds os e (microsAt c))
       go (above l) = absurd (h (rw (expires ds os e w c, le-leb (taiAt ds os x 0) c l)))
       go (below l) =
-          rw (
-            expires ds os e w c,
-            expires (ds ++ cs) (os ++ ps) f v c,
-            lt-leb (taiAt ds os x 0) c l,
-            lt-leb (taiAt (ds ++ cs) (os ++ ps) (placeOfDay f + 1) 0) c (omega (arith, limits)),
-          )
+          rw (expires ds os e w c, lt-leb (taiAt ds os x 0) c l, count-current c l)
           (ap (λ (m : Moment). outcome (resulting S.Utc m)) (same-utc c l))
 
   settled-kept : (s to : Scale) (m : Moment) (c : ℕ) → (outcome (settled s to ds os e m (microsAt c)) ≡ refused 9 → ⊥)

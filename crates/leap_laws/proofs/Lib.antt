@@ -1,4 +1,5 @@
 pub mod Computed
+pub mod Lists
 pub mod Order
 pub mod Stands
 pub mod Arrives
@@ -6,6 +7,7 @@ pub mod Changes
 pub mod Functions
 pub mod Never
 pub mod Fresh
+pub mod Kept
 pub mod Promises
 pub mod Wrong
 pub mod Outgrown

@@ -7,7 +7,7 @@ use native.Mathlib.Omega.{arith}
 use lib.Dec.{leb, ltb}
 use lib.IntN.{ℤ, pos, _+ℤ_}
 use lib.Signed.{leZ}
-use borrow.Author.Tests.{le-leb, lt-leb, lt-ltb, le-ltb}
+use borrow.Author.Tests.{leb-false, lt-ltb, le-ltb}
 use Rattle.axis.specs.Meaning.{placeOfDay, dayAt, microsAt, Moment, dayMicros, since, momentOf}
 use Rattle.axis.specs.Diff.{sub-inj-same}
 use Rattle.axis.specs.Axis.{since-at, day-next, micros-le, micros-add, micros-minus, moment-at}
@@ -33,6 +33,10 @@ use Rattle.via_tai.specs.Meaning.{fromTai, fromGps, fromUtc, toTai, toGp
 pub record OnTheWay (c : ℕ) : Type 0 where
   pub from : 2572387200000000 ≤ c
   pub to : c < 6611846400000000
+
+-- far enough on for the first offset to be taken away
+pub far-on : {c : ℕ} → OnTheWay c → 10000000 ≤ c
+far-on w = omega (arith, w .from)
 
 abbrev pub counted : DatedTai → Outcome ℤ
 counted (DT.At t) = answer (microsAt (t .0))
@@ -86,7 +90,7 @@ module _ (s : Scale) (n : ℕ) (f : Bool → Moment → Judged ℤ) (seven : ref
   left-late h = left-out (span-late s (n / bound s) (n % bound s) h)
 
 module _ (n : ℕ) where
-  count-is : since (dayAt (n / dayMicros)) (n % dayMicros) ≡ microsAt n
+  pub count-is : since (dayAt (n / dayMicros)) (n % dayMicros) ≡ microsAt n
   count-is = let e : n / dayMicros * dayMicros + n % dayMicros ≡ n = omega arith in since-at (n / dayMicros) (n % dayMicros) ∙ ap microsAt e
 
   pub left-tai : 29773 ≤ n / dayMicros → n / dayMicros ≤ 76524 → (t : Tai) → t .0 ≡ n → Left (ofCount S.Tai n fromTai) (DT.At t)
@@ -199,29 +203,37 @@ module _ (c : ℕ) (w : OnTheWay c) where
   gps-in h k =
       ap (dated S.Gps) (within-in S.Gps (momentAt S.Gps less) (span-in S.Gps (less / dayMicros) (less % dayMicros) h k (omega arith)) ∙ sym at-gps)
 
-  module _ (ds : List ℤ) (os : List ℕ) (e : ℤ) (v : accepted ds os e ≡ true) where
-    abbrev Given : Slip → Type 0
-    Given r = r ≡ dated S.Utc (outcome (toUtc ds os e (microsAt c)))
+module _ (c : ℕ) (ds : List ℤ) (os : List ℕ) (e : ℤ) (v : accepted ds os e ≡ true) where
+  abbrev Given : Slip → Type 0
+  Given r = r ≡ dated S.Utc (outcome (toUtc ds os e (microsAt c)))
 
-    pub utc-expired : limit ds os e v c ≤ c → Given (dated S.Utc (refused 9))
-    utc-expired h = sym (rw (expires ds os e v c, le-leb (limit ds os e v c) c h))
+  pub utc-expired : isExpiredTai ds os e (microsAt c) ≡ true → Given (dated S.Utc (refused 9))
+  utc-expired x = sym (rw x)
 
-    pub utc-early : c < limit ds os e v c → c < 29773 * dayMicros + 10000000 → Given (dated S.Utc (refused 11))
-    utc-early h k =
-        let b = none-before (steps ds os e v .grown) c (omega (arith, w .from)) k in
-        let q : outcome (toUtc ds os e (microsAt c)) ≡ outcome (resulting S.Utc (record { day = dayAt (b .place); micro = b .micro })) =
-        rw (expires ds os e v c, lt-leb (limit ds os e v c) c h) (ap (λ (m : Moment). outcome (resulting S.Utc m)) (b .is)) in
+  module _ (x : isExpiredTai ds os e (microsAt c) ≡ false) where
+    unexpired : c < limit ds os e v c
+    unexpired = leb-false (limit ds os e v c) c (sym (expires ds os e v c) ∙ x)
+
+    pub unexpired-few : c < 8640000000000000
+    unexpired-few = omega (arith, unexpired, steps ds os e v .to, offset-small ds os e v (placeOfDay e + 1))
+
+    is-utc : outcome (toUtc ds os e (microsAt c)) ≡ outcome (resulting S.Utc (utcOf ds os (microsAt c)))
+    is-utc = rw x
+
+    pub utc-early : 10000000 ≤ c → c < 29773 * dayMicros + 10000000 → Given (dated S.Utc (refused 11))
+    utc-early l k =
+        let b = none-before (steps ds os e v .grown) c l k in
+        let m : Moment = record { day = dayAt (b .place); micro = b .micro } in
         ap (dated S.Utc)
-        (within-out S.Utc (record { day = dayAt (b .place); micro = b .micro }) (span-early S.Utc (b .place) (b .micro) (b .early)) ∙ sym q)
+        (within-out S.Utc m (span-early S.Utc (b .place) (b .micro) (b .early)) ∙ sym (is-utc ∙ ap (λ (y : Moment). outcome (resulting S.Utc y)) (b .is)))
 
-    pub utc-in : c < limit ds os e v c → 29773 * dayMicros + 10000000 ≤ c → (n : ℕ) → momentAt S.Utc n ≡ utcOf ds os (microsAt c) → Given (dated S.Utc (answer (momentAt S.Utc n)))
-    utc-in h k n i =
+    pub utc-in : 29773 * dayMicros + 10000000 ≤ c → (n : ℕ) → momentAt S.Utc n ≡ utcOf ds os (microsAt c) → Given (dated S.Utc (answer (momentAt S.Utc n)))
+    utc-in k n i =
         let l = steps ds os e v in
         let r = forth (l .grown) c k in
         let a = r .real in
-        let j = before-known ds os e v c r h in
+        let j = before-known ds os e v c r unexpired in
         let m : Moment = record { day = dayAt (r .place); micro = r .micro } in
-        let q : outcome (toUtc ds os e (microsAt c)) ≡ outcome (resulting S.Utc m) =
-        rw (expires ds os e v c, lt-leb (limit ds os e v c) c h) (ap (λ (x : Moment). outcome (resulting S.Utc x)) (r .is)) in
         ap (dated S.Utc)
-        (ap answer (i ∙ r .is) ∙ within-in S.Utc m (span-in S.Utc (r .place) (r .micro) (a .from) (omega (arith, l .to)) (a .under)) ∙ sym q)
+        (ap answer (i ∙ r .is) ∙ within-in S.Utc m (span-in S.Utc (r .place) (r .micro) (a .from) (omega (arith, l .to)) (a .under))
+        ∙ sym (is-utc ∙ ap (λ (y : Moment). outcome (resulting S.Utc y)) (r .is)))

@@ -2,10 +2,10 @@
 // is not tested: `from_..` gives it, `to_..` takes it.
 ghost use mathlib.Core.Path.{_≡_};
 ghost use mathlib.Core.Bool.{true};
-ghost use Prim.Native.Nat.{_<_};
+ghost use Prim.Native.Nat.{_<_, _≤_};
 ghost use Rattle.axis.specs.Meaning.{dayAt, microsAt};
 ghost use Rattle.scales.specs.Meaning.{outcome, dated, slipTai, slipUtc, slipGps, timeScale, timeCount};
-ghost use Rattle.leap.specs.Meaning.{accepted, hasMicro};
+ghost use Rattle.leap.specs.Meaning.{accepted, hasMicro, isExpiredTai};
 ghost use Rattle.via_tai.specs.Meaning.{fromTai, fromGps, fromUtc, toTai, toGps, toUtc, ofCount, fromScale, isUtc};
 ghost use Rattle.via_tai.specs.Ways.{Left, OnTheWay};
 use scales::DatedGps;
@@ -67,7 +67,7 @@ fn has_micro(days: &[i64], day: u64, micro: u64) -> bool
     leap::inner::is_step(days, day + 1)
 }
 
-fn from_utc(t: Utc, days: &[i64], offsets: &[u64], last: i64) -> DatedTai
+pub fn from_utc(t: Utc, days: &[i64], offsets: &[u64], last: i64) -> DatedTai
     requires { ⌜ accepted (now days) (now offsets) last ≡ true ⌝ }
     ensures { λ r. ⌜ Left (ofCount Scale.Utc (t .0) (fromUtc (now (days .entry)) (now (offsets .entry)) last)) r ⌝ }
 {
@@ -128,18 +128,25 @@ pub fn to_gps(c: Tai) -> DatedGps
     DatedGps::At(Gps(n))
 }
 
+// Is a TAI count at or after 00:00:00 UTC on the day after the last?
+pub fn is_expired(c: Tai, days: &[i64], offsets: &[u64], last: i64) -> bool
+    requires { ⌜ accepted (now days) (now offsets) last ≡ true ⌝ }
+    ensures { λ r. ⌜ r ≡ isExpiredTai (now (days .entry)) (now (offsets .entry)) last (microsAt (c .0)) ⌝ }
+{
+    let next = axis::place_of_day(last) + 1;
+    let offset = leap::inner::offset_on(days, offsets, next);
+    next * Tai::BOUND + offset * SECOND <= c.0
+}
+
 pub fn to_utc(c: Tai, days: &[i64], offsets: &[u64], last: i64) -> DatedUtc
-    requires { ⌜ OnTheWay (c .0) ⌝ }
+    requires { ⌜ 10000000 ≤ c .0 ⌝ }
     requires { ⌜ accepted (now days) (now offsets) last ≡ true ⌝ }
     ensures { λ r. ⌜ slipUtc r ≡ dated Scale.Utc (outcome (toUtc (now (days .entry)) (now (offsets .entry)) last (microsAt (c .0)))) ⌝ }
 {
-    let n = c.0;
-    let next = axis::place_of_day(last) + 1;
-    let offset = leap::inner::offset_on(days, offsets, next);
-    if next * Tai::BOUND + offset * SECOND <= n {
+    if is_expired(c, days, offsets, last) {
         return DatedUtc::Refused(Refusal::ListExpired);
     }
-    if n < FIRST * Tai::BOUND + 10 * SECOND {
+    if c.0 < FIRST * Tai::BOUND + 10 * SECOND {
         return DatedUtc::Refused(Refusal::ResultOutside);
     }
     DatedUtc::At(leap::inner::utc_at(days, offsets, c))

@@ -1,6 +1,7 @@
 -- `changes::gps_to_utc` meets its contract: by way of the TAI count, the list judged before. Assumes nothing.
 use mir.Facts.{toZ-ofZ}
 use Rattle.scales.specs.declared.Scale.the-variants as S
+use Rattle.via_tai.specs.Ways.{far-on}
 use Rattle.changes.specs.Meaning.{gpsToUtc}
 use Rattle.changes.specs.Ways.{list-on, list-out, list-held, list-known}
 use borrow.Author.Needs.{needs}
@@ -11,7 +12,7 @@ to-utc-requires : tie.Need-to-utc-requires
 to-utc-requires c κs =
     let k = c .before in
     let w = k .before .before .by-list .ensures in
-    (list-held w (k .c .given .1), list-known w (k .c .given .1))
+    (far-on (list-held w (k .c .given .1)), list-known w (k .c .given .1))
 
 returns : tie.Need-returns
 unfolding gpsToUtc

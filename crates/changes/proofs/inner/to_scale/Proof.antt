@@ -2,6 +2,7 @@
 use mathlib.Core.Path.{ap, _∙_}
 use mir.Facts.{toZ-ofZ}
 use Rattle.via_tai.specs.Meaning.{isUtc}
+use Rattle.via_tai.specs.Ways.{far-on}
 use borrow.Author.Needs.{needs}
 use Rattle.changes.proofs.inner.to_scale.Statement.{statement}
 use Rattle.changes.proofs.inner.to_scale.Tie as tie
@@ -9,7 +10,7 @@ use Rattle.changes.proofs.inner.to_scale.Tie as tie
 to-utc-requires : tie.Need-to-utc-requires
 to-utc-requires c κs =
     let s = c .before .before .before in
-    (s .pre .0, rw (toZ-ofZ (s .fits .last)) (s .pre .1 (ap isUtc (c .enum-told2 .given .1))))
+    (far-on (s .pre .0), rw (toZ-ofZ (s .fits .last)) (s .pre .1 (ap isUtc (c .enum-told2 .given .1))))
 
 returns : tie.Need-returns
 returns c = rw (c .before .before .enum-told .given .1) (c .dated-tai .ensures ∙ c .before .to-tai .ensures)
