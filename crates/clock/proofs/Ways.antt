@@ -1,23 +1,26 @@
 -- The ways out of the private functions that test a span or a cover. Assumes nothing.
 use mathlib.Core.Path.{_≡_, sym, ap, _∙_}
-use mathlib.Core.Bool.{true, false, _&&_}
-use Prim.Native.Nat.{ℕ, _+_, _-_, _*_, _/_, _%_, _≤_, _<_}
-use native.Mathlib.Omega.{arith}
+use mathlib.Core.Bool.{false, not}
+use Prim.Native.Nat.{ℕ, _+_, _-_, _/_, _%_, _≤_, _<_}
 use lib.Dec.{leb, ltb}
 use lib.IntN.{ℤ}
-use borrow.Author.Tests.{lt-ltb, le-ltb, le-leb, lt-leb, leb-true}
-use Rattle.axis.specs.Meaning.{dayAt}
-use Rattle.axis.specs.Axis.{place-day}
-use Rattle.scales.specs.Meaning.{bound, inSpan, spanned, slipTimed, slip, dated, refused, recordOf}
-use Rattle.scales.specs.Place.{firstAt, and-false, and-both, span-at}
+use lib.Signed.{ltZ}
+use borrow.Author.Tests.{lt-ltb, le-ltb, le-leb, lt-leb}
+use Rattle.axis.specs.Meaning.{placeOfDay, dayAt}
+use Rattle.axis.specs.Axis.{day-place, day-lt}
+use Rattle.axis.specs.Diff.{Way, way, below, above}
+use Rattle.scales.specs.Meaning.{inSpan, spanned, slipTimed, slip, dated, refused, recordOf}
+use Rattle.scales.specs.Place.{and-false}
 use Rattle.scales.specs.Counts.{timed-at, timed-no}
 use Rattle.scales.specs.declared.Scale.{Scale}
+use Rattle.scales.specs.declared.Scale.the-variants as S
 use Rattle.scales.specs.declared.Time.{Time}
 use Rattle.scales.specs.declared.Timed.the-variants as TD
 use Rattle.scales.specs.declared.Refusal.{Refusal}
 use Rattle.scales.specs.declared.Dated.the-variants as D
+use Rattle.clock.specs.Meaning.{isCurrent}
 use Rattle.clock.specs.Places.{withinAt, windowAt}
-use Rattle.clock.specs.Stage.{spot, placeIn, placeAt, Spanned, resultAt}
+use Rattle.clock.specs.Stage.{spot, placeIn, resultAt}
 use Rattle.clock.specs.declared.inner.Ends.{Ends}
 use Rattle.clock.specs.declared.inner.Place.the-variants as P
 
@@ -31,22 +34,6 @@ module _ (s : Scale) (d : ℤ) (u : ℕ) where
   pub place-out : (f : Refusal) (r : Scale) → slipTimed (TD.Refused f r) ≡ spanned s d u → P.Outside ≡ placeIn s d u
   place-out f r e = rw (timed-no s d u f r e .0)
 
--- ---- a count of a scale
-day-to : (s : Scale) (a u : ℕ) → inSpan s (dayAt a) u ≡ true → a ≤ 76524
-day-to s a u e =
-    let y = and-both (leb (firstAt s) a) (leb a 76524 && ltb u (bound s)) (sym (span-at s a u) ∙ e) in
-    leb-true a 76524 (and-both (leb a 76524) (ltb u (bound s)) (y .1) .0)
-
-module _ (s : Scale) (n : ℕ) (e : Spanned s n) where
-  pub count-over : 86400000000 ≤ n % bound s → P.Outside ≡ placeAt s n
-  count-over h = place-over s (dayAt (n / bound s)) (n % bound s) h
-
-  pub count-at : n % bound s < 86400000000 → (w : ℕ) → w ≡ n / bound s * 86400000000 + n % bound s → P.At w ≡ placeAt s n
-  count-at h w q =
-      let k = day-to s (n / bound s) (n % bound s) e in
-      ap P.At (q ∙ ap (λ (x : ℕ). x * 86400000000 + n % bound s) (sym (place-day (n / bound s) (omega arith))))
-      ∙ sym (rw (e, lt-ltb (n % bound s) 86400000000 h))
-
 module _ (s : Scale) (m : ℕ) where
   pub result-at : (t : Time) → slipTimed (TD.At t) ≡ spanned s (dayAt (m / 86400000000)) (m % 86400000000) →
       slip (D.At (recordOf s (dayAt (m / 86400000000)) (m % 86400000000))) ≡ resultAt s m
@@ -55,6 +42,15 @@ module _ (s : Scale) (m : ℕ) where
   pub result-out : (f : Refusal) (r : Scale) → slipTimed (TD.Refused f r) ≡ spanned s (dayAt (m / 86400000000)) (m % 86400000000) →
       dated s (refused 11) ≡ resultAt s m
   result-out f r e = rw (timed-no s (dayAt (m / 86400000000)) (m % 86400000000) f r e .0)
+
+-- ---- the UTC day of a reference, where the list's last day is well on the axis
+pub current-at : (a : ℕ) (e : ℤ) → 0 < placeOfDay e → placeOfDay e < 100000 → leb a (placeOfDay e) ≡ isCurrent S.Utc e (dayAt a)
+current-at a e h k =
+    sym (ap (λ (z : ℤ). not (ltZ z (dayAt a))) (sym (day-place e h k)) ∙ ap not (day-lt (placeOfDay e) a) ∙ go (way (placeOfDay e) a))
+  where
+    go : Way (placeOfDay e) a → not (ltb (placeOfDay e) a) ≡ leb a (placeOfDay e)
+    go (below l) = rw (lt-ltb (placeOfDay e) a l, lt-leb a (placeOfDay e) l)
+    go (above l) = rw (le-ltb (placeOfDay e) a l, le-leb a (placeOfDay e) l)
 
 module _ (v : Ends) (w : ℕ) where
   pub cover-before : w < v .from → false ≡ withinAt v w

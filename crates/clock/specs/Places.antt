@@ -3,6 +3,7 @@
 use mathlib.Core.Path.{_≡_, sym, ap, ap₂, _∙_}
 use mathlib.Core.Bool.{Bool, true, _&&_}
 use Prim.Native.Nat.{ℕ, suc, _+_, _-_, _*_, _/_, _%_, _≤_, _<_}
+use native.Mathlib.Nat.{le-div-iff-mul-le}
 use native.Mathlib.Omega.{arith}
 use lib.Dec.{leb}
 use lib.IntN.{ℤ, pos, negℤ, subℕ, _+ℤ_, _*ℤ_}
@@ -15,6 +16,7 @@ use Rattle.clock.specs.Meaning.{Clock, elapsed, clock, time, inWindow, C
 use Rattle.clock.specs.Clock.{less-one}
 use Rattle.clock.specs.Window.{Runs, divided, divided-to}
 use Rattle.clock.specs.declared.inner.Ends.{Ends}
+use Rattle.clock.specs.declared.inner.Reckoned.{Reckoned}
 
 -- ---- r parts of a microsecond from day -40000 on, n gained with each count, d parts to a microsecond, h half the modulus
 abbrev pub timeAt : ℕ → ℕ → ℕ → ℕ → ℕ → ℕ
@@ -27,16 +29,20 @@ lastAt r n d h w = ((w + 1) * d + h * n - r - 1) / n
 abbrev pub endsAt : ℕ → ℕ → ℕ → ℕ → ℕ → ℕ → Ends
 endsAt r n d h b a = record { from = timeAt r n d h (h - b); to = timeAt r n d h (h + a) }
 
+-- k + h of a count k is in the window
+abbrev pub windowAt : ℕ → ℕ → ℕ → ℕ → Bool
+windowAt h b a k = leb (h - b) k && leb k (h + a)
+
+-- what is reckoned of a count, held as k
+abbrev pub reckonedAt : ℕ → ℕ → ℕ → ℕ → ℕ → ℕ → ℕ → Reckoned
+reckonedAt r n d h b a k = record { inside = windowAt h b a k; ends = endsAt r n d h b a; at = timeAt r n d h k }
+
 abbrev pub coverOf : Ends → Cover
 coverOf v = record { from = microsAt (v .from); to = microsAt (v .to) }
 
 -- the place w is in the cover
 abbrev pub withinAt : Ends → ℕ → Bool
 withinAt v w = leb (v .from) w && leb w (v .to)
-
--- k + h of a count k is in the window
-abbrev pub windowAt : ℕ → ℕ → ℕ → ℕ → Bool
-windowAt h b a k = leb (h - b) k && leb k (h + a)
 
 -- k + h of the elapsed count k, and the counter at it
 abbrev pub countFrom : ℕ → ℕ → ℕ → ℕ
@@ -85,11 +91,12 @@ module _ (c : Clock) where
         sub-le-same (c .half) k (c .half + c .ahead),
       )
 
--- ---- a clock whose start lies r parts from day -40000 on, and half the counter's gain before it too
+-- ---- a clock whose start lies r parts from day -40000 on, and half the counter's gain before it too, 10 s from there or more: the
+-- first offset of a list can be taken away
 pub record Based (c : Clock) (r : ℕ) : Type 0 where
   pub runs : Runs c
   pub start : c .start ≡ subℕ r (3456000000000000 * c .per)
-  pub early : c .half * c .gain ≤ r
+  pub early : c .half * c .gain + 10000000 * c .per ≤ r
 
 module _ (c : Clock) (r : ℕ) (b : Based c r) where
   pub time-place : (k : ℕ) → time c (subℕ k (c .half)) ≡ microsAt (timeAt r (c .gain) (c .per) (c .half) k)
@@ -103,6 +110,9 @@ module _ (c : Clock) (r : ℕ) (b : Based c r) where
       ∙ sub-add r (3456000000000000 * d) (k * n) (h * n)
       ∙ sub-eq (r + k * n) (3456000000000000 * d + h * n) (r + k * n - h * n) (3456000000000000 * d) (omega (arith, b .early)))
       ∙ sub-floor (r + k * n - h * n) 3456000000000000 d (b .runs .whole)
+
+  pub time-far : (k : ℕ) → 10000000 ≤ timeAt r (c .gain) (c .per) (c .half) k
+  time-far k = le-div-iff-mul-le (b .runs .whole) .1 (omega (arith, b .early))
 
   pub divided-place : (w : ℕ) → r < (w + 1) * c .per + c .half * c .gain →
       divided c (microsAt w) ≡ subℕ (lastAt r (c .gain) (c .per) (c .half) w) (c .half)

@@ -6,13 +6,13 @@ use Rattle.scales.specs.Meaning.{answer}
 use Rattle.scales.specs.Order.{no-answer}
 use Rattle.scales.specs.Same.{refusals}
 use Rattle.clock.specs.Stage.{landed}
-use Rattle.clock.specs.declared.inner.Turned.{Turned}
-use Rattle.clock.specs.declared.inner.Turned.the-variants as T
+use Rattle.clock.specs.declared.inner.Placed.{Placed}
+use Rattle.clock.specs.declared.inner.Placed.the-variants as T
 
 answers : {x y : ℤ} → answer x ≡ answer y → x ≡ y
 answers e = cc
 
-pub same-landed : (a b : Turned) → landed a ≡ landed b → a ≡ b
+pub same-landed : (a b : Placed) → landed a ≡ landed b → a ≡ b
 same-landed (T.At w) (T.At x) e = ap T.At (sub-inj-same 3456000000000000 w x (answers e))
 same-landed (T.At w) (T.Refused g) e = absurd (no-answer (sym e))
 same-landed (T.Refused f) (T.At x) e = absurd (no-answer e)

@@ -1,74 +1,128 @@
 -- The way back by what the code finds on the places: one law for each way out of `inner::turn`, and the count of a time from what a
 -- counter's crate reckoned. Assumes nothing.
 use mathlib.Core.Path.{_≡_, refl, sym, ap, _∙_}
-use mathlib.Core.Bool.{Bool, true, false, cond}
+use mathlib.Core.Bool.{Bool, true, false, cond, not, _&&_, _||_}
+use mathlib.Core.List.{List}
 use Prim.Native.Nat.{ℕ, _+_, _-_, _*_, _/_, _≤_, _<_}
 use native.Mathlib.Omega.{arith}
 use native.Mathlib.Nat.{add-mul, div-mul-le-self, lt-div-mul-add, mul-le-mul-right}
-use lib.Dec.{leb, ltb}
+use lib.Dec.{leb}
 use lib.IntN.{ℤ}
 use borrow.Author.Tests.{leb-true}
-use Rattle.axis.specs.Meaning.{microsAt, dayMicros}
-use Rattle.scales.specs.Meaning.{inSpan, sameScale, Judged, given, gives, refused, answer, outcome, recordAt, timeScale, timeCount}
-use Rattle.scales.specs.Order.{onward, then-is, passed}
+use Rattle.axis.specs.Meaning.{microsAt, Moment}
+use Rattle.scales.specs.Meaning.{sameScale, Judged, given, gives, refused, answer, outcome, momentAt, recordAt, timeScale, timeCount}
+use Rattle.scales.specs.Order.{onward, then-is, passed, no-answer}
 use Rattle.scales.specs.Place.{and-both}
 use Rattle.scales.specs.declared.Scale.{Scale}
+use Rattle.scales.specs.declared.Scale.the-variants as S
 use Rattle.scales.specs.declared.Record.{Record}
 use Rattle.scales.specs.declared.Time.{Time}
 use Rattle.handed.specs.declared.Handed.{Handed}
 use Rattle.handed.specs.declared.Handed.the-variants as H
 use Rattle.handed.specs.Told.{Told, told-record}
-use Rattle.handed.specs.Meaning.{isFinite, isInSpan}
-use Rattle.clock.specs.Meaning.{Clock, Cover, cover, within, covers, lastCount, countAt, instantOf, hasImage, turning}
+use Rattle.handed.specs.Meaning.{isFinite, isInSpan, dayOf, microOf}
+use Rattle.leap.specs.Meaning.{hasMicro, isExpiredDay}
+use Rattle.via_tai.specs.Meaning.{isUtc}
+use Rattle.clock.specs.Meaning.{Clock, Cover, cover, within, covers, listServes, isCurrent, hasSecond, lastCount, countAt, instantOf, hasImage, turning}
 use Rattle.clock.specs.Places.{timeAt, lastAt, endsAt, coverOf, withinAt, shownAt, within-place, count-place, Based, divided-place, cover-place, last-few}
-use Rattle.clock.specs.Stage.{placeIn, covering, unacceptedBy, plain-is, no-place, in-day, instant-found}
+use Rattle.clock.specs.Stage.{Spanned, placing, covering, coveringOwn, unacceptedBy, At, at-place, count-since}
 use Rattle.clock.specs.Window.{last-is}
 use Rattle.clock.specs.declared.inner.Ends.{Ends}
-use Rattle.clock.specs.declared.inner.Place.the-variants as P
 
--- ---- a handed time that was not taken, and one that was
+-- ---- under a TAI or GPS correlation: a handed time that was not taken, and one that was
 module _ (s : Scale) (v : Cover) (h : Handed) where
-  pub turn-4 : isFinite h ≡ false → refused 4 ≡ outcome (covering s v h)
-  turn-4 e = rw e
+  pub own-4 : isFinite h ≡ false → refused 4 ≡ outcome (coveringOwn s v h)
+  own-4 f = rw f
 
-  pub turn-7 : isFinite h ≡ true → isInSpan h ≡ false → refused 7 ≡ outcome (covering s v h)
-  turn-7 e g = rw (e, g)
+  pub own-7 : isFinite h ≡ true → isInSpan h ≡ false → refused 7 ≡ outcome (coveringOwn s v h)
+  own-7 f g = rw (f, g)
 
-  pub turn-at : (t : Time) → Told h t → outcome (covering s v (H.Record (recordAt (timeScale t) (timeCount t)))) ≡ outcome (covering s v h)
-  turn-at t w =
-      ap (λ (r : Record). outcome (covering s v (H.Record r))) (told-record h t w)
+  pub own-at : (t : Time) → Told h t → outcome (coveringOwn s v (H.Record (recordAt (timeScale t) (timeCount t)))) ≡ outcome (coveringOwn s v h)
+  own-at t w =
+      ap (λ (r : Record). outcome (coveringOwn s v (H.Record r))) (told-record h t w)
       ∙ rw (w .kept, w .finite, w .inside)
 
--- ---- a time of its scale's span
-module _ (s : Scale) (v : Ends) (t : Record) (i : inSpan (t .scale) (t .day) (t .micro) ≡ true) where
-  pub turn-12 : sameScale (t .scale) s ≡ false → refused 12 ≡ outcome (covering s (coverOf v) (H.Record t))
-  turn-12 g = rw (i, g)
+-- a time of its scale's span
+module _ (s : Scale) (v : Ends) (z : Scale) (n : ℕ) (i : Spanned z n) where
+  pub own-12 : sameScale z s ≡ false → refused 12 ≡ outcome (coveringOwn s (coverOf v) (H.Record (recordAt z n)))
+  own-12 g = rw (i, g)
 
-  module _ (g : sameScale (t .scale) s ≡ true) where
-    pub turn-60 : placeIn (t .scale) (t .day) (t .micro) ≡ P.Outside → refused 12 ≡ outcome (covering s (coverOf v) (H.Record t))
-    turn-60 f = rw (i, g, plain-is (t .scale) (t .micro), (rw i at (no-place (t .scale) (t .day) (t .micro) f)))
+  module _ (g : sameScale z s ≡ true) (u : isUtc z ≡ false) where
+    pub own-8 : withinAt v n ≡ false → refused 8 ≡ outcome (coveringOwn s (coverOf v) (H.Record (recordAt z n)))
+    own-8 k = rw (i, g, count-since z u n, within-place v n, k)
 
-    module _ (w : ℕ) (f : placeIn (t .scale) (t .day) (t .micro) ≡ P.At w) where
-      under : ltb (t .micro) dayMicros ≡ true
-      under = and-both (inSpan (t .scale) (t .day) (t .micro)) (ltb (t .micro) dayMicros) (in-day (t .scale) (t .day) (t .micro) w f) .1
+    pub own-in : withinAt v n ≡ true → answer (microsAt n) ≡ outcome (coveringOwn s (coverOf v) (H.Record (recordAt z n)))
+    own-in k = rw (i, g, count-since z u n, within-place v n, k)
 
-      pub turn-8 : withinAt v w ≡ false → refused 8 ≡ outcome (covering s (coverOf v) (H.Record t))
-      turn-8 k = rw (i, g, plain-is (t .scale) (t .micro), under, instant-found (t .scale) (t .day) (t .micro) w f, within-place v w, k)
+-- ---- under a UTC correlation: the same
+module _ (n : Bool) (v : Cover) (h : Handed) (ds : List ℤ) (os : List ℕ) (e : ℤ) where
+  pub turn-4 : isFinite h ≡ false → refused 4 ≡ outcome (covering S.Utc n v h ds os e)
+  turn-4 f = rw f
 
-      pub turn-in : withinAt v w ≡ true → answer (microsAt w) ≡ outcome (covering s (coverOf v) (H.Record t))
-      turn-in k = rw (i, g, plain-is (t .scale) (t .micro), under, instant-found (t .scale) (t .day) (t .micro) w f, within-place v w, k)
+  pub turn-7 : isFinite h ≡ true → isInSpan h ≡ false → refused 7 ≡ outcome (covering S.Utc n v h ds os e)
+  turn-7 f g = rw (f, g)
+
+  pub turn-stale : isFinite h ≡ true → isInSpan h ≡ true → n ≡ false → refused 9 ≡ outcome (covering S.Utc n v h ds os e)
+  turn-stale f g k = go (hasImage S.Utc h) refl
+    where
+      go : (b : Bool) → hasImage S.Utc h ≡ b → refused 9 ≡ outcome (covering S.Utc n v h ds os e)
+      go true i = rw (f, g, k, i)
+      go false i = rw (f, g, k, i)
+
+  pub turn-at : n ≡ true → (t : Time) → Told h t →
+      outcome (covering S.Utc true v (H.Record (recordAt (timeScale t) (timeCount t))) ds os e) ≡ outcome (covering S.Utc n v h ds os e)
+  turn-at k t w =
+      ap (λ (r : Record). outcome (covering S.Utc true v (H.Record r) ds os e)) (told-record h t w)
+      ∙ rw (w .kept, w .finite, w .inside, k)
+
+pub turn-12 : (s : Scale) (n : ℕ) (v : Ends) (ds : List ℤ) (os : List ℕ) (e : ℤ) → Spanned s n → sameScale s S.Utc ≡ false →
+    refused 12 ≡ outcome (covering S.Utc true (coverOf v) (H.Record (recordAt s n)) ds os e)
+turn-12 s n v ds os e i g = rw (i, g)
+
+-- a UTC time of its span
+module _ (v : Ends) (n : ℕ) (ds : List ℤ) (os : List ℕ) (e : ℤ) (i : Spanned S.Utc n) where
+  abbrev moment : Moment
+  moment = momentAt S.Utc n
+
+  pub turn-lacks : (j : ℕ) → refused j ≡ outcome (placing moment ds os e) → refused j ≡ outcome (covering S.Utc true (coverOf v) (H.Record (recordAt S.Utc n)) ds os e)
+  turn-lacks j p = go (isExpiredDay e (moment .day)) refl (hasMicro ds (moment .day) (moment .micro)) refl
+    where
+      go : (b : Bool) → isExpiredDay e (moment .day) ≡ b → (c : Bool) → hasMicro ds (moment .day) (moment .micro) ≡ c →
+          refused j ≡ outcome (covering S.Utc true (coverOf v) (H.Record (recordAt S.Utc n)) ds os e)
+      go false y true z = absurd (no-answer (rw (y, z) at p))
+      go false y false z = p ∙ rw (i, y, z)
+      go true y c z = p ∙ rw (i, y)
+
+  module _ (w : ℕ) (p : answer (microsAt w) ≡ outcome (placing moment ds os e)) where
+    at : At moment ds os e (microsAt w)
+    at = at-place moment ds os e (microsAt w) p
+
+    pub turn-8 : withinAt v w ≡ false → refused 8 ≡ outcome (covering S.Utc true (coverOf v) (H.Record (recordAt S.Utc n)) ds os e)
+    turn-8 q = rw (i, at .current, at .second, at .is, within-place v w, q)
+
+    pub turn-in : withinAt v w ≡ true → answer (microsAt w) ≡ outcome (covering S.Utc true (coverOf v) (H.Record (recordAt S.Utc n)) ds os e)
+    turn-in q = rw (i, at .current, at .second, at .is, within-place v w, q)
 
 -- ---- what is found is in the cover
-pub turned-in : (s : Scale) (v : Cover) (h : Handed) (z : ℤ) → outcome (covering s v h) ≡ answer z → within v z ≡ true
-turned-in s v h z e =
-    let i = instantOf h in
-    let x = cond (hasImage s h) (within v i) true in
-    let f = passed (isFinite h) 4 (given (isInSpan h) 7 (given x 8 (given (hasImage s h) 12 (gives i)))) z e in
-    let g = passed (isInSpan h) 7 (given x 8 (given (hasImage s h) 12 (gives i))) z (f .1) in
-    let k = passed x 8 (given (hasImage s h) 12 (gives i)) z (g .1) in
-    let m = passed (hasImage s h) 12 (gives i) z (k .1) in
-    let q : i ≡ z = cc in
-    ap (within v) (sym q) ∙ (rw (m .0) at (k .0))
+pub turned-in : (s : Scale) (n : Bool) (v : Cover) (h : Handed) (ds : List ℤ) (os : List ℕ) (e z : ℤ) →
+    outcome (covering s n v h ds os e) ≡ answer z → within v z ≡ true
+turned-in s n v h ds os e z q =
+    let i = instantOf s ds os h in
+    let m = hasImage s h in
+    let c = isCurrent s e (dayOf h) in
+    let b = hasSecond s ds (dayOf h) (microOf h) in
+    let x = not m || cond (n && (c && b)) (within v i) true in
+    let y = n && (not m || c) in
+    let o = not m || b in
+    let f = passed (isFinite h) 4 (given (isInSpan h) 7 (given x 8 (given y 9 (given o 10 (given m 12 (gives i)))))) z q in
+    let g = passed (isInSpan h) 7 (given x 8 (given y 9 (given o 10 (given m 12 (gives i))))) z (f .1) in
+    let k = passed x 8 (given y 9 (given o 10 (given m 12 (gives i)))) z (g .1) in
+    let l = passed y 9 (given o 10 (given m 12 (gives i))) z (k .1) in
+    let p = passed o 10 (given m 12 (gives i)) z (l .1) in
+    let r = passed m 12 (gives i) z (p .1) in
+    let d = and-both n (not m || c) (l .0) in
+    let w : i ≡ z = cc in
+    ap (within v) (sym w) ∙ (rw (r .0, d .0, (rw (r .0) at (d .1)), (rw (r .0) at (p .0))) at (k .0))
 
 -- ---- a place in the cover of a clock: how far it lies from the start, in parts
 pub record Near (r n d h a w : ℕ) : Type 0 where
@@ -93,36 +147,48 @@ near-at r n d h b a w p l k e =
     high f q = omega (arith, f, mul-le-mul-right d q, div-mul-le-self (r + (h + a) * n - h * n) d)
 
 -- ---- a counter's way back, by what was found and the division
-pub turn-unaccepted : (accepted : Bool) → accepted ≡ false → (c : Clock) (h : Handed) → refused (unacceptedBy h) ≡ outcome (turning accepted c h)
-turn-unaccepted accepted a c h = go (isFinite h) refl
-  where
-    go : (f : Bool) → isFinite h ≡ f → refused (unacceptedBy h) ≡ outcome (turning accepted c h)
-    go true e = rw (e, a)
-    go false e = rw e
+module _ (accepted : Bool) (c : Clock) (h : Handed) (ds : List ℤ) (os : List ℕ) (e : ℤ) where
+  pub turn-listless : listServes (c .scale) ds os e ≡ false → refused (unacceptedBy h 5) ≡ outcome (turning accepted c h ds os e)
+  turn-listless l = go (isFinite h) refl
+    where
+      go : (f : Bool) → isFinite h ≡ f → refused (unacceptedBy h 5) ≡ outcome (turning accepted c h ds os e)
+      go true g = rw (g, l)
+      go false g = rw g
 
-module _ (accepted : Bool) (a : accepted ≡ true) (c : Clock) (r : ℕ) (b : Based c r) (h : Handed) where
+  pub turn-unaccepted : listServes (c .scale) ds os e ≡ true → accepted ≡ false → refused (unacceptedBy h 6) ≡ outcome (turning accepted c h ds os e)
+  turn-unaccepted l a = go (isFinite h) refl
+    where
+      go : (f : Bool) → isFinite h ≡ f → refused (unacceptedBy h 6) ≡ outcome (turning accepted c h ds os e)
+      go true g = rw (g, l, a)
+      go false g = rw g
+
+module _ (accepted : Bool) (a : accepted ≡ true) (c : Clock) (ds : List ℤ) (os : List ℕ) (e : ℤ) (l : listServes (c .scale) ds os e ≡ true)
+    (r : ℕ) (b : Based c r) (h : Handed) where
   abbrev ends : Ends
   ends = endsAt r (c .gain) (c .per) (c .half) (c .back) (c .ahead)
+
+  abbrev current : Bool
+  current = isCurrent (c .scale) e (c .day)
 
   abbrev counted : ℤ → Judged ℕ
   counted z = gives (countAt c (lastCount c z))
 
-  turned : onward counted (outcome (covering (c .scale) (coverOf ends) h)) ≡ outcome (turning accepted c h)
+  turned : onward counted (outcome (covering (c .scale) current (coverOf ends) h ds os e)) ≡ outcome (turning accepted c h ds os e)
   turned =
-      ap (λ (v : Cover). onward counted (outcome (covering (c .scale) v h))) (sym (cover-place c r b))
-      ∙ sym (then-is (covering (c .scale) (cover c) h) counted)
-      ∙ ap (λ (x : Bool). outcome (turning x c h)) (sym a)
+      ap (λ (v : Cover). onward counted (outcome (covering (c .scale) current v h ds os e))) (sym (cover-place c r b))
+      ∙ sym (then-is (covering (c .scale) current (cover c) h ds os e) counted)
+      ∙ rw (l, a)
 
-  pub turn-not : (n : ℕ) → refused n ≡ outcome (covering (c .scale) (coverOf ends) h) → refused n ≡ outcome (turning accepted c h)
-  turn-not n e = ap (onward counted) e ∙ turned
+  pub turn-not : (n : ℕ) → refused n ≡ outcome (covering (c .scale) current (coverOf ends) h ds os e) → refused n ≡ outcome (turning accepted c h ds os e)
+  turn-not n q = ap (onward counted) q ∙ turned
 
-  module _ (w : ℕ) (e : answer (microsAt w) ≡ outcome (covering (c .scale) (coverOf ends) h)) where
+  module _ (w : ℕ) (q : answer (microsAt w) ≡ outcome (covering (c .scale) current (coverOf ends) h ds os e)) where
     in-cover : within (coverOf ends) (microsAt w) ≡ true
-    in-cover = turned-in (c .scale) (coverOf ends) h (microsAt w) (sym e)
+    in-cover = turned-in (c .scale) current (coverOf ends) h ds os e (microsAt w) (sym q)
 
     pub near : Near r (c .gain) (c .per) (c .half) (c .ahead) w
     near =
-        near-at r (c .gain) (c .per) (c .half) (c .back) (c .ahead) w (b .runs .whole) (b .runs .back-to) (b .early)
+        near-at r (c .gain) (c .per) (c .half) (c .back) (c .ahead) w (b .runs .whole) (b .runs .back-to) (omega (arith, b .early))
         (sym (within-place ends w) ∙ in-cover)
 
     covered : covers c (microsAt w) ≡ true
@@ -131,8 +197,8 @@ module _ (accepted : Bool) (a : accepted ≡ true) (c : Clock) (r : ℕ) (b : Ba
     pub few : lastAt r (c .gain) (c .per) (c .half) w < 2 * c .half
     few = last-few c r b w covered (near .low)
 
-    pub turn-is : answer (shownAt (c .half) (c .reference) (lastAt r (c .gain) (c .per) (c .half) w)) ≡ outcome (turning accepted c h)
+    pub turn-is : answer (shownAt (c .half) (c .reference) (lastAt r (c .gain) (c .per) (c .half) w)) ≡ outcome (turning accepted c h ds os e)
     turn-is =
         ap answer (sym (ap (countAt c) (last-is c (b .runs) (microsAt w) covered ∙ divided-place c r b w (near .low))
         ∙ count-place c (lastAt r (c .gain) (c .per) (c .half) w) (omega (arith, b .runs .ahead-to))))
-        ∙ ap (onward counted) e ∙ turned
+        ∙ ap (onward counted) q ∙ turned

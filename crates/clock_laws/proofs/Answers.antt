@@ -1,94 +1,146 @@
--- What an answer tells of a correlated counter, both ways. Assumes nothing.
-use mathlib.Core.Path.{_≡_, sym, ap, _∙_}
-use mathlib.Core.Bool.{Bool, true, cond}
-use Prim.Native.Nat.{ℕ, _-_, _*_, _%_}
+-- What an answer tells of a correlated counter, both ways. A list is its steps' days ds, its offsets os and its last day e. Assumes
+-- nothing.
+use mathlib.Core.Path.{_≡_, refl, sym, ap, subst, _∙_}
+use mathlib.Core.Bool.{Bool, true, not, _&&_, _||_}
+use mathlib.Core.List.{List}
+use Prim.Native.Nat.{ℕ, _-_, _*_, _%_, _≤_}
 use native.Mathlib.Omega.{arith}
 use lib.IntN.{ℤ, pos, negℤ}
 use lib.Signed.{leZ}
 use borrow.Author.Tests.{le-leb}
-use Rattle.axis.specs.Meaning.{Moment, since}
-use Rattle.scales.specs.Meaning.{inSpan, answer, outcome, given, gives, resulting}
+use Rattle.axis.specs.Meaning.{microsAt, Moment, since, momentOf}
+use Rattle.scales.specs.Meaning.{inSpan, Judged, given, answer, outcome, resulting}
 use Rattle.scales.specs.Place.{and-both}
 use Rattle.scales.specs.declared.Scale.{Scale}
+use Rattle.scales.specs.declared.Scale.the-variants as S
 use Rattle.handed.specs.declared.Handed.{Handed}
-use Rattle.scales.specs.Order.{passed}
-use Rattle.handed.specs.Meaning.{isFinite, isInSpan}
-use Rattle.clock.specs.Meaning.{Clock, instant, momentAfter, receivable, elapsed, time, inWindow, covers, inForce, dating, lastCount, countAt, instantOf, hasImage, turning}
+use Rattle.scales.specs.Order.{Answers, next, last, is-answers, ends}
+use Rattle.handed.specs.Meaning.{isFinite, isInSpan, dayOf, microOf}
+use Rattle.clock.specs.Meaning.{Clock, instant, momentAfter, listServes, isCurrent, isCurrentAt, hasSecond, isKnown, elapsed, time, inWindow, covers, coversTime, dating, lastCount, countAt, instantOf, hasImage, turning}
 use Rattle.clock.specs.Signs.{le-trans}
-use Rattle.clock.specs.Stage.{moment-is}
+use Rattle.clock.specs.Stage.{placing, at-place}
 use Rattle.clock.specs.Window.{Runs}
+use Rattle.clock.specs.Places.{timeAt, countFrom, elapsed-place, Based, time-place, time-far}
+use Rattle.leap_laws.proofs.Stands.{leaves}
+use Rattle.leap_laws.proofs.Arrives.{found-utc}
 use Rattle.clock_laws.proofs.Counts.{further, whole, elapsed-one}
 
 -- ---- a date
-pub record Dates (accepted : Bool) (c : Clock) (t : ℕ) (d : ℤ) (u : ℕ) (m : Moment) : Type 0 where
+pub record Dates (accepted : Bool) (c : Clock) (t : ℕ) (d : ℤ) (u : ℕ) (ds : List ℤ) (os : List ℕ) (e : ℤ) (m : Moment) : Type 0 where
+  pub serves : listServes (c .scale) ds os e ≡ true
   pub accepts : accepted ≡ true
-  pub received : receivable (c .scale) d u ≡ true
+  pub received : inSpan (c .scale) d u ≡ true
   pub window : inWindow c (elapsed c t) ≡ true
-  pub cover : covers c (instant (c .scale) d u) ≡ true
+  pub reference : isCurrent (c .scale) e (c .day) ≡ true
+  pub known : isKnown (c .scale) ds e d u ≡ true
+  pub cover : covers c (instant (c .scale) ds os d u) ≡ true
+  pub current : isCurrentAt (c .scale) ds os e (time c (elapsed c t)) ≡ true
   pub span : inSpan (c .scale) (m .day) (m .micro) ≡ true
-  pub is : momentAfter (c .scale) (time c (elapsed c t)) ≡ m
+  pub is : momentAfter (c .scale) ds os (time c (elapsed c t)) ≡ m
 
-gave : {A : Type 0} (a b : A) → outcome (gives a) ≡ answer b → a ≡ b
-gave a b e = cc
-
-pub dates : (accepted : Bool) (c : Clock) (t : ℕ) (d : ℤ) (u : ℕ) (m : Moment) → outcome (dating accepted c t d u) ≡ answer m →
-    Dates accepted c t d u m
-dates accepted c t d u m e =
-    let k = elapsed c t in
-    let x = momentAfter (c .scale) (time c k) in
-    let f = inForce c k (instant (c .scale) d u) in
-    let w = passed accepted 6 (given (receivable (c .scale) d u) 7 (given f 8 (resulting (c .scale) x))) m e in
-    let r = passed (receivable (c .scale) d u) 7 (given f 8 (resulting (c .scale) x)) m (w .1) in
-    let g = passed f 8 (resulting (c .scale) x) m (r .1) in
-    let s = passed (inSpan (c .scale) (x .day) (x .micro)) 11 (gives x) m (g .1) in
-    let v = and-both (inWindow c k) (covers c (instant (c .scale) d u)) (g .0) in
-    let i = gave x m (s .1) in
-    record {
-      accepts = w .0;
-      received = r .0;
-      window = v .0;
-      cover = v .1;
-      span = ap (λ (y : Moment). inSpan (c .scale) (y .day) (y .micro)) (sym i) ∙ s .0;
-      is = i;
-    }
+pub dates : (accepted : Bool) (c : Clock) (t : ℕ) (d : ℤ) (u : ℕ) (ds : List ℤ) (os : List ℕ) (e : ℤ) (m : Moment) →
+    outcome (dating accepted c t d u ds os e) ≡ answer m → Dates accepted c t d u ds os e m
+dates accepted c t d u ds os e m h = told (is-answers (dating accepted c t d u ds os e) m h)
+  where
+    told : {m : Moment} → Answers (dating accepted c t d u ds os e) m → Dates accepted c t d u ds os e m
+    told (next l (next a (next i (next f (next g (next n (next s last))))))) =
+        let k = elapsed c t in
+        let w = and-both (inWindow c k) (coversTime c d u ds os e) f in
+        let x = and-both (isCurrent (c .scale) e (c .day)) (isCurrent (c .scale) e d && isCurrentAt (c .scale) ds os e (time c k)) g in
+        let y = and-both (isCurrent (c .scale) e d) (isCurrentAt (c .scale) ds os e (time c k)) (x .1) in
+        record {
+          serves = l;
+          accepts = a;
+          received = i;
+          window = w .0;
+          reference = x .0;
+          known = rw (y .0, n);
+          cover = rw (x .0, y .0, n) at (w .1);
+          current = y .1;
+          span = s;
+          is = refl;
+        }
 
 -- ---- a count
-pub record Turns (accepted : Bool) (c : Clock) (h : Handed) (n : ℕ) : Type 0 where
+pub record Turns (accepted : Bool) (c : Clock) (h : Handed) (ds : List ℤ) (os : List ℕ) (e : ℤ) (n : ℕ) : Type 0 where
   pub finite : isFinite h ≡ true
+  pub serves : listServes (c .scale) ds os e ≡ true
   pub accepts : accepted ≡ true
   pub inside : isInSpan h ≡ true
   pub image : hasImage (c .scale) h ≡ true
-  pub cover : covers c (instantOf h) ≡ true
-  pub is : countAt c (lastCount c (instantOf h)) ≡ n
+  pub reference : isCurrent (c .scale) e (c .day) ≡ true
+  pub known : isKnown (c .scale) ds e (dayOf h) (microOf h) ≡ true
+  pub cover : covers c (instantOf (c .scale) ds os h) ≡ true
+  pub is : countAt c (lastCount c (instantOf (c .scale) ds os h)) ≡ n
 
-pub turns : (accepted : Bool) (c : Clock) (h : Handed) (n : ℕ) → outcome (turning accepted c h) ≡ answer n → Turns accepted c h n
-turns accepted c h n e =
-    let x = countAt c (lastCount c (instantOf h)) in
-    let p = hasImage (c .scale) h in
-    let v = cond p (covers c (instantOf h)) true in
-    let f = passed (isFinite h) 4 (given accepted 6 (given (isInSpan h) 7 (given v 8 (given p 12 (gives x))))) n e in
-    let a = passed accepted 6 (given (isInSpan h) 7 (given v 8 (given p 12 (gives x)))) n (f .1) in
-    let s = passed (isInSpan h) 7 (given v 8 (given p 12 (gives x))) n (a .1) in
-    let w = passed v 8 (given p 12 (gives x)) n (s .1) in
-    let i = passed p 12 (gives x) n (w .1) in
-    record {
-      finite = f .0;
-      accepts = a .0;
-      inside = s .0;
-      image = i .0;
-      cover = rw (i .0) at (w .0);
-      is = gave x n (i .1);
-    }
+pub turns : (accepted : Bool) (c : Clock) (h : Handed) (ds : List ℤ) (os : List ℕ) (e : ℤ) (n : ℕ) →
+    outcome (turning accepted c h ds os e) ≡ answer n → Turns accepted c h ds os e n
+turns accepted c h ds os e n q = told (is-answers (turning accepted c h ds os e) n q)
+  where
+    told : {n : ℕ} → Answers (turning accepted c h ds os e) n → Turns accepted c h ds os e n
+    told (next f (next l (next a (next i (next v (next g (next z (next p last)))))))) =
+        let w = and-both (isCurrent (c .scale) e (c .day)) (not (hasImage (c .scale) h) || isCurrent (c .scale) e (dayOf h)) g in
+        let x : isCurrent (c .scale) e (dayOf h) ≡ true = rw p at (w .1) in
+        let y : hasSecond (c .scale) ds (dayOf h) (microOf h) ≡ true = rw p at z in
+        record {
+          finite = f;
+          serves = l;
+          accepts = a;
+          inside = i;
+          image = p;
+          reference = w .0;
+          known = rw (x, y);
+          cover = rw (p, w .0, x, y) at v;
+          is = refl;
+        }
 
--- ---- the moment of a microsecond since day 0, and what the counter shows at a count
-pub instant-moment : (s : Scale) (z : ℤ) → since (momentAfter s z .day) (momentAfter s z .micro) ≡ z
-instant-moment s z = ap (λ (m : Moment). since (m .day) (m .micro)) (moment-is s z) ∙ whole z
+-- ---- a known time m of scale s that stands at the instant z
+pub record KnownAt (s : Scale) (m : Moment) (ds : List ℤ) (os : List ℕ) (e z : ℤ) : Type 0 where
+  pub current : isCurrent s e (m .day) ≡ true
+  pub second : hasSecond s ds (m .day) (m .micro) ≡ true
+  pub is : instant s ds os (m .day) (m .micro) ≡ z
 
--- an answered date is time(k) of the elapsed count
-pub exact : (accepted : Bool) (c : Clock) (t : ℕ) (d : ℤ) (u : ℕ) (m : Moment) → outcome (dating accepted c t d u) ≡ answer m →
-    since (m .day) (m .micro) ≡ time c (elapsed c t)
-exact accepted c t d u m e =
-    ap (λ (x : Moment). since (x .day) (x .micro)) (sym (dates accepted c t d u m e .is)) ∙ instant-moment (c .scale) (time c (elapsed c t))
+-- an instant, brought back to a scale
+abbrev settling : Scale → ℤ → List ℤ → List ℕ → ℤ → Judged Moment
+settling s z ds os e =
+    given (isCurrentAt s ds os e z) 9
+    (resulting s (momentAfter s ds os z))
+
+-- ---- an instant that comes back as a moment is that moment's, which is known: of every scale, wherever the first offset of a list can be
+-- taken away
+module _ (ds : List ℤ) (os : List ℕ) (e : ℤ) (w : ℕ) (m : Moment) where
+  even : (s : Scale) → outcome (resulting s (momentOf (microsAt w))) ≡ answer m → since (m .day) (m .micro) ≡ microsAt w
+  even s h = ends (λ (y : Moment). since (y .day) (y .micro) ≡ microsAt w) (resulting s (momentOf (microsAt w))) m (λ i. whole (microsAt w)) h
+
+  pub settles : (s : Scale) → listServes s ds os e ≡ true → 10000000 ≤ w → outcome (settling s (microsAt w) ds os e) ≡ answer m → KnownAt s m ds os e (microsAt w)
+  settles S.Tai l f h = record { current = refl; second = refl; is = even S.Tai h }
+  settles S.Gps l f h = record { current = refl; second = refl; is = even S.Gps h }
+  settles S.Utc l f h =
+      let q = found-utc ds os e l w f m h in
+      let a =
+      at-place m ds os e (microsAt w)
+      (sym (ap (λ (x : Moment). outcome (placing x ds os e)) (q .is)
+      ∙ leaves ds os e l S.Utc (q .place) (q .micro) (q .stands)
+      ∙ ap (λ (n : ℕ). answer (microsAt n)) (q .tai))) in
+      record { current = rw (a .current); second = a .second; is = a .is }
+
+-- ---- an answered date is time(k) of the elapsed count, in TAI under a UTC correlation
+module _ (accepted : Bool) (c : Clock) (r : ℕ) (based : accepted ≡ true → Based c r) (t : ℕ) (d : ℤ) (u : ℕ)
+    (ds : List ℤ) (os : List ℕ) (e : ℤ) (m : Moment) (h : outcome (dating accepted c t d u ds os e) ≡ answer m) where
+  -- and a known time
+  pub exactly : KnownAt (c .scale) m ds os e (time c (elapsed c t))
+  exactly =
+      let q = dates accepted c t d u ds os e m h in
+      let b = based (q .accepts) in
+      let n = countFrom (c .half) t (c .reference) in
+      let w = timeAt r (c .gain) (c .per) (c .half) n in
+      let p : time c (elapsed c t) ≡ microsAt w = ap (time c) (elapsed-place c t (omega (arith, b .runs .ahead-to))) ∙ time-place c r b n in
+      subst (KnownAt (c .scale) m ds os e) (sym p)
+      (settles ds os e w m (c .scale) (q .serves) (time-far c r b n)
+      (ap (λ (z : ℤ). outcome (settling (c .scale) z ds os e)) (sym p) ∙ rw (q .current, q .is, q .span)))
+
+  pub exact : instant (c .scale) ds os (m .day) (m .micro) ≡ time c (elapsed c t)
+  exact = exactly .is
 
 -- a count of the window is the elapsed count of every t that equals the reference plus it modulo 2 * half
 pub window-elapsed : (c : Clock) → Runs c → (t : ℕ) (k : ℤ) → inWindow c k ≡ true → countAt c k ≡ t % (2 * c .half) → k ≡ elapsed c t

@@ -1,7 +1,9 @@
 pub mod Counts
 pub mod Answers
 pub mod Trips
+pub mod Window
 pub mod Wider
+pub mod Stays
 pub mod Night
 pub mod Cases
 pub mod Desks

@@ -3,54 +3,54 @@ use mathlib.Core.Path.{_≡_, ap, sym, _∙_}
 use lib.IntN.{ℤ}
 use mir.Facts.{toZ-ofZ}
 use borrow.Author.Tests.{not-true, not-false}
+use Rattle.clock.specs.Dating.{own-7, own-out, own-8, own-at}
 use Rattle.clock.specs.Stage.{placeIn}
-use Rattle.clock.specs.Dating.{date-7, date-out, date-8, date-at}
 use Rattle.clock.specs.declared.inner.Place.the-variants as P
 use borrow.Author.Needs.{needs}
 use Rattle.clock.proofs.inner.date.Statement.{statement}
 use Rattle.clock.proofs.inner.date.Tie as tie
 
-abbrev entry : tie.After-known-told → tie.Start
-entry c = c .before .before .before .before
-
--- the receipt's place, and the test on it
+-- the receipt's place
 seen : (c : tie.After-place-in) → let a = c .before .args in c .place-in .result ≡ placeIn (a .scale) (a .receipt-day) (a .receipt-micro)
 seen c =
     let z = c .before in
     c .place-in .ensures ∙ ap (λ (d : ℤ). placeIn (z .args .scale) d (z .args .receipt-micro)) (toZ-ofZ (z .fits .receipt-day))
 
-known-w : (c : tie.After-w) → let a = c .before .before .before .args in placeIn (a .scale) (a .receipt-day) (a .receipt-micro) ≡ P.At (c .w .given .0 .0)
-known-w c = sym (seen (c .before .before)) ∙ c .w .given .1
+abbrev entry : tie.After-known-told → tie.Start
+entry c = c .before .before .before .before
+
+known-w : (c : tie.After-known-told) → let a = entry c .args in placeIn (a .scale) (a .receipt-day) (a .receipt-micro) ≡ P.At (c .before .w .given .0 .0)
+known-w c = sym (seen (c .before .before .before)) ∙ c .before .w .given .1
 
 returns : tie.Need-returns
 returns c =
     let b = c .before .before in
     let a = b .before .args in
-    date-7 (a .scale) (a .inside) (a .v) (a .at) (a .receipt-day) (a .receipt-micro) (sym (seen b) ∙ c .enum-told .given .1)
+    own-7 (a .scale) (a .k .inside) (a .k .ends) (a .k .at) (a .receipt-day) (a .receipt-micro) (sym (seen b) ∙ c .enum-told .given .1)
 
 returns-2 : tie.Need-returns-2
 returns-2 c =
-    let w = c .before .before in
-    let a = entry (c .before) .args in
-    date-out (a .scale) (a .inside) (a .v) (a .at) (a .receipt-day) (a .receipt-micro) (w .w .given .0 .0) (known-w w) (not-true _ (c .if1 .taken))
+    let k = c .before .before in
+    let a = entry k .args in
+    own-out (a .scale) (a .k .inside) (a .k .ends) (a .k .at) (a .receipt-day) (a .receipt-micro) (k .before .w .given .0 .0) (known-w k) (not-true _ (c .if1 .taken))
 
 returns-3 : tie.Need-returns-3
 returns-3 c =
-    let e = c .before .before in
-    let w = e .before .before in
-    let a = entry (e .before) .args in
-    date-8 (a .scale) (a .inside) (a .v) (a .at) (a .receipt-day) (a .receipt-micro) (w .w .given .0 .0) (known-w w) (not-false _ (e .if1 .left))
+    let e = c .before .before .before in
+    let k = e .before .before in
+    let a = entry k .args in
+    own-8 (a .scale) (a .k .inside) (a .k .ends) (a .k .at) (a .receipt-day) (a .receipt-micro) (k .before .w .given .0 .0) (known-w k) (not-false _ (e .if1 .left))
     (sym (c .before .covers .ensures) ∙ not-true _ (c .if2 .taken))
 
 returns-4 : tie.Need-returns-4
 returns-4 c =
-    let k = c .before .before in
-    let e = k .before in
-    let w = e .before .before in
-    let a = entry (e .before) .args in
-    c .record-in .ensures
-    ∙ date-at (a .scale) (a .inside) (a .v) (a .at) (a .receipt-day) (a .receipt-micro) (w .w .given .0 .0) (known-w w) (not-false _ (e .if1 .left))
-    (sym (k .covers .ensures) ∙ not-false _ (c .before .if2 .left))
+    let v = c .before .before in
+    let e = v .before .before in
+    let k = e .before .before in
+    let a = entry k .args in
+    c .record-at .ensures
+    ∙ own-at (a .scale) (a .k .inside) (a .k .ends) (a .k .at) (a .receipt-day) (a .receipt-micro) (k .before .w .given .0 .0) (known-w k) (not-false _ (e .if1 .left))
+    (sym (v .covers .ensures) ∙ not-false _ (c .before .if2 .left))
 
 pub date-spec : {M : Type 1} → statement M
 date-spec =

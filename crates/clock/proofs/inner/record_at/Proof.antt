@@ -1,4 +1,4 @@
--- `clock::inner::record_in` meets its contract. Assumes nothing.
+-- `clock::inner::record_at` meets its contract. Assumes nothing.
 use mathlib.Core.Path.{_≡_, ap, sym, _∙_}
 use Prim.Native.Nat.{_/_, _%_}
 use lib.IntN.{ℤ}
@@ -10,8 +10,8 @@ use Rattle.scales.specs.declared.Record.{Record}
 use Rattle.scales.specs.declared.Dated.the-variants as D
 use Rattle.clock.proofs.Ways.{result-at, result-out}
 use borrow.Author.Needs.{needs}
-use Rattle.clock.proofs.inner.record_in.Statement.{statement}
-use Rattle.clock.proofs.inner.record_in.Tie as tie
+use Rattle.clock.proofs.inner.record_at.Statement.{statement}
+use Rattle.clock.proofs.inner.record_at.Tie as tie
 
 -- the day of the place, and the record made of it
 made : (c : tie.After-new) → let a = c .before .before .args in c .new .result ≡ recordOf (a .scale) (dayAt (a .place / 86400000000)) (a .place % 86400000000)
@@ -37,8 +37,8 @@ returns-2 c =
     result-out (a .scale) (a .place) (c .enum-told2 .given .0 .0) (c .enum-told2 .given .0 .1 .0)
     (ap slipTimed (sym (c .enum-told2 .given .1)) ∙ seen b)
 
-pub record-in-spec : {M : Type 1} → statement M
-record-in-spec =
+pub record-at-spec : {M : Type 1} → statement M
+record-at-spec =
     tie.close
     (tie.spec
     (λ c. search needs)
