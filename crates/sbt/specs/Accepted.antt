@@ -1,17 +1,21 @@
 -- The tests of acceptance, one after the other, and what they tell together. Assumes nothing.
-use mathlib.Core.Path.{_≡_}
+use mathlib.Core.Path.{_≡_, ap, _∙_}
 use mathlib.Core.Bool.{true}
-use Prim.Native.Nat.{_-_, _≤_, _<_}
+use mathlib.Core.List.{List}
+use Prim.Native.Nat.{ℕ, _-_, _*_, _≤_, _<_}
 use native.Mathlib.Omega.{arith}
 use lib.Dec.{leb, ltb, lit<}
+use lib.IntN.{ℤ, pos, _*ℤ_}
 use borrow.Author.Tests.{leb-true, ltb-true, le-leb, lt-leb}
 use Rattle.axis.specs.Meaning.{dayMicros}
+use Rattle.axis.specs.Diff.{sub-mul}
 use Rattle.scales.specs.Meaning.{inSpan}
 use Rattle.scales.specs.Place.{and-both}
 use Rattle.sbt.specs.Meaning.{accepted, clockOf}
-use Rattle.clock.specs.Stage.{placeIn, Held, held}
+use Rattle.clock.specs.Places.{Based}
+use Rattle.clock.specs.Stage.{placeIn, Held, held, instant-place}
 use Rattle.clock.specs.Window.{Runs}
-use Rattle.sbt.specs.Places.{placeOf}
+use Rattle.sbt.specs.Places.{placeOf, shifted}
 use Rattle.sbt.specs.declared.Correlation.{Correlation}
 use Rattle.clock.specs.declared.inner.Place.the-variants as P
 
@@ -67,7 +71,19 @@ sound c e =
       ahead-to = leb-true (c .ahead) 2147483647 (v .0);
     }
 
-pub runs : (c : Correlation) → accepted c ≡ true → Runs (clockOf c)
-runs c e =
+pub runs : (c : Correlation) → accepted c ≡ true → (ds : List ℤ) (os : List ℕ) → Runs (clockOf c ds os)
+runs c e ds os =
     let s = sound c e in
     record { whole = lit< tt; fast = omega (arith, s .fast); back-to = s .back-to; ahead-to = omega (arith, s .ahead-to) }
+
+-- the clock stands on the axis, at the reference's place
+pub based : (c : Correlation) → accepted c ≡ true → (ds : List ℤ) (os : List ℕ) → Based (clockOf c ds os) (shifted c ds os * 1000000)
+based c e ds os =
+    let s = sound c e in
+    record {
+      runs = runs c e ds os;
+      start =
+          ap (λ (x : ℤ). x *ℤ pos 1000000) (instant-place (c .scale) (c .day) (c .micro) ds os (s .day))
+          ∙ sub-mul (shifted c ds os) 3456000000000000 1000000;
+      early = omega (arith, s .day .from, s .slow);
+    }

@@ -1,5 +1,7 @@
--- The SBT correlation in the paper's signed numbers: what it accepts, its clock, the date of a tick and the tick of a time. Assumes nothing.
+-- The SBT correlation in the paper's signed numbers: what it accepts, its clock, the date of a tick and the tick of a time. A list is its
+-- steps' days ds, its offsets os and its last day e. Assumes nothing.
 use mathlib.Core.Bool.{Bool, _&&_}
+use mathlib.Core.List.{List}
 use Prim.Native.Nat.{ℕ}
 use lib.Dec.{leb, ltb}
 use lib.IntN.{ℤ, pos, _*ℤ_}
@@ -21,29 +23,30 @@ accepted c =
     && ltb (c .micro) dayMicros))))
 
 -- ---- a counter of 32 bits; "the reference plus k x P / 1,000,000 microseconds, rounded down (towards the past)"
-abbrev pub clockOf : Correlation → C.Clock
-clockOf c =
+abbrev pub clockOf : Correlation → List ℤ → List ℕ → C.Clock
+clockOf c ds os =
     record {
       scale = c .scale;
       half = 2147483648;
       reference = c .tick .0;
-      start = C.instant (c .scale) (c .day) (c .micro) *ℤ pos 1000000;
+      day = c .day;
+      start = C.instant (c .scale) ds os (c .day) (c .micro) *ℤ pos 1000000;
       gain = c .period;
       per = 1000000;
       back = c .back;
       ahead = c .ahead;
     }
 
--- ---- the date of tick t, received at microsecond u of day d: 6, 7, 8, 11
-abbrev pub dating : Correlation → ℕ → ℤ → ℕ → Judged Moment
-dating c t d u = C.dating (accepted c) (clockOf c) t d u
+-- ---- the date of tick t, received at microsecond u of day d: 5, 6, 7, 8, 9, 10, 11
+abbrev pub dating : Correlation → ℕ → ℤ → ℕ → List ℤ → List ℕ → ℤ → Judged Moment
+dating c t d u ds os e = C.dating (accepted c) (clockOf c ds os) t d u ds os e
 
-unfoldable pub dateOf : Correlation → ℕ → ℤ → ℕ → Slip
-dateOf c t d u = dated (c .scale) (outcome (dating c t d u))
+unfoldable pub dateOf : Correlation → ℕ → ℤ → ℕ → List ℤ → List ℕ → ℤ → Slip
+dateOf c t d u ds os e = dated (c .scale) (outcome (dating c t d u ds os e))
 
--- ---- the tick of a time: 4, 6, 7, 8, 12
-abbrev pub turning : Correlation → Handed → Judged ℕ
-turning c h = C.turning (accepted c) (clockOf c) h
+-- ---- the tick of a time: 4, 5, 6, 7, 8, 9, 10, 12
+abbrev pub turning : Correlation → Handed → List ℤ → List ℕ → ℤ → Judged ℕ
+turning c h ds os e = C.turning (accepted c) (clockOf c ds os) h ds os e
 
-unfoldable pub tickOf : Correlation → Handed → Valued ℕ
-tickOf c h = valued 0 (outcome (turning c h))
+unfoldable pub tickOf : Correlation → Handed → List ℤ → List ℕ → ℤ → Valued ℕ
+tickOf c h ds os e = valued 0 (outcome (turning c h ds os e))

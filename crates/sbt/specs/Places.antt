@@ -1,12 +1,21 @@
 -- The correlation on the places of the axis, as the code reckons: `clock`'s numbers at the reference's place r and the period p. Assumes
 -- nothing.
 use mathlib.Core.Bool.{cond}
+use mathlib.Core.List.{List}
 use Prim.Native.Nat.{ℕ, _+_, _*_, _≤_, _<_}
+use lib.IntN.{ℤ}
+use Rattle.scales.specs.Meaning.{refused, answer, Valued, valued, numberOf}
+use Rattle.clock.specs.Meaning.{isCurrent}
 use Rattle.clock.specs.Places as C
-use Rattle.clock.specs.Stage.{spot}
+use Rattle.clock.specs.Stage.{spot, secondsIn}
+use Rattle.clock.specs.declared.inner.Base.{Base}
+use Rattle.clock.specs.declared.inner.Base.the-variants as B
 use Rattle.clock.specs.declared.inner.Ends.{Ends}
 use Rattle.clock.specs.declared.inner.Place.{Place}
 use Rattle.clock.specs.declared.inner.Place.the-variants as P
+use Rattle.clock.specs.declared.inner.Placed.{Placed}
+use Rattle.clock.specs.declared.inner.Placed.the-variants as T
+use Rattle.clock.specs.declared.inner.Reckoned.{Reckoned}
 use Rattle.sbt.specs.Meaning.{accepted}
 use Rattle.sbt.specs.declared.Correlation.{Correlation}
 
@@ -14,11 +23,21 @@ use Rattle.sbt.specs.declared.Correlation.{Correlation}
 abbrev pub placeOf : Correlation → Place
 placeOf c = cond (accepted c) (P.At (spot (c .day) (c .micro))) P.Outside
 
+-- on the clock's axis, with whether its day is not expired
+abbrev pub shifted : Correlation → List ℤ → List ℕ → ℕ
+shifted c ds os = spot (c .day) (c .micro) + secondsIn (c .scale) (c .day) ds os * 1000000
+
+abbrev pub baseOf : Correlation → List ℤ → List ℕ → ℤ → Base
+baseOf c ds os e = cond (accepted c) (B.At (shifted c ds os) (isCurrent (c .scale) e (c .day))) B.Outside
+
 abbrev pub timeAt : ℕ → ℕ → ℕ → ℕ
 timeAt r p k = C.timeAt (r * 1000000) p 1000000 2147483648 k
 
 abbrev pub endsAt : ℕ → ℕ → ℕ → ℕ → Ends
 endsAt r p b a = C.endsAt (r * 1000000) p 1000000 2147483648 b a
+
+abbrev pub reckonedAt : ℕ → ℕ → ℕ → ℕ → ℕ → Reckoned
+reckonedAt r p b a k = C.reckonedAt (r * 1000000) p 1000000 2147483648 b a k
 
 abbrev pub countFrom : ℕ → ℕ → ℕ
 countFrom t r = C.countFrom 2147483648 t r
@@ -29,10 +48,14 @@ lastAt r p w = C.lastAt (r * 1000000) p 1000000 2147483648 w
 abbrev pub tickFrom : ℕ → ℕ → ℕ
 tickFrom r k = C.shownAt 2147483648 r k
 
--- ---- what they require: a reference of the span and a period, as accepted
+abbrev pub tickedAt : ℕ → ℕ → ℕ → Placed → Valued ℕ
+tickedAt t r p (T.At w) = valued 0 (answer (tickFrom t (lastAt r p w)))
+tickedAt t r p (T.Refused f) = valued 0 (refused (numberOf f))
+
+-- ---- what they require: a reference of the span, up to 73 s later in TAI, and a period, as accepted
 pub record Based (r p : ℕ) : Type 0 where
   pub early : 2572387200000000 ≤ r
-  pub late : r < 6611760000000000
+  pub late : r < 6611760073000000
   pub fast : 3906000000 ≤ p
   pub slow : p ≤ 3906500000
 
@@ -46,3 +69,8 @@ pub record Near (r p w : ℕ) : Type 0 where
   pub based : Based r p
   pub low : r * 1000000 < (w + 1) * 1000000 + 2147483648 * p
   pub high : w ≤ r + 8389144870912
+
+-- where a place was found
+abbrev pub Reached : ℕ → ℕ → Placed → Type 0
+Reached r p (T.At w) = (Near r p w) × (lastAt r p w < 4294967296)
+Reached r p (T.Refused f) = 0 ≤ 0

@@ -1,13 +1,19 @@
 // The SBT correlation: the date of a tick, and the tick of a time.
-// Inside, a time is its place on the axis of microseconds, and an elapsed count k is held as k + 2^31.
+// Inside, a time is its place on the clock's axis of microseconds, TAI under a UTC correlation, and an elapsed count k is held as
+// k + 2^31.
 ghost use mathlib.Core.Path.{_≡_};
+ghost use mathlib.Core.Bool.{true};
 ghost use Prim.Native.Nat.{_<_};
 ghost use Rattle.scales.specs.Meaning.{slip, tickSlip};
+ghost use Rattle.leap.specs.Meaning as Leap;
+ghost use Rattle.via_tai.specs.Meaning.{isUtc};
 ghost use Rattle.sbt.specs.Meaning.{dateOf, tickOf};
-ghost use Rattle.sbt.specs.Places.{placeOf, timeAt, endsAt, countFrom, lastAt, tickFrom, Based, Windowed, Near};
+ghost use Rattle.sbt.specs.Places.{placeOf, baseOf, reckonedAt, timeAt, endsAt, countFrom, lastAt, tickFrom, tickedAt, Based, Windowed, Near, Reached};
+use clock::inner::Base;
 use clock::inner::Ends;
 use clock::inner::Place;
-use clock::inner::Turned;
+use clock::inner::Placed;
+use clock::inner::Reckoned;
 use handed::Handed;
 use scales::Dated;
 use scales::Refusal;
@@ -26,7 +32,7 @@ pub struct Correlation {
     pub ahead: u64,
 }
 
-// The place of the reference, where the correlation is accepted.
+// The place of the reference in its own scale, where the correlation is accepted.
 fn reference_of(c: Correlation) -> Place
     ensures { λ r. ⌜ r ≡ placeOf c ⌝ }
 {
@@ -44,6 +50,21 @@ fn reference_of(c: Correlation) -> Place
     }
     let scale = c.scale;
     clock::inner::place_in(scale, c.day, c.micro)
+}
+
+// The reference of a UTC correlation in TAI, where it is accepted.
+fn base_of(c: Correlation, days: &[i64], offsets: &[u64], last: i64) -> Base
+    requires { ⌜ isUtc (c .scale) ≡ true ⌝ }
+    requires { ⌜ Leap.accepted (now days) (now offsets) last ≡ true ⌝ }
+    ensures { λ r. ⌜ r ≡ baseOf c (now (days .entry)) (now (offsets .entry)) last ⌝ }
+{
+    let Place::At(p) = reference_of(c) else {
+        return Base::Outside;
+    };
+    let day = p / 86_400_000_000;
+    let offset = leap::inner::offset_on(days, offsets, day);
+    let current = clock::inner::is_current(day, last);
+    Base::At(p + offset * 1_000_000, current)
 }
 
 // Time(k). A time before the reference at r is rounded away from it, towards the past.
@@ -78,25 +99,62 @@ fn count(tick: u32, reference: u32) -> u64
     ((tick as u64) + 6_442_450_944 - (reference as u64)) % 4_294_967_296
 }
 
-// The date of a tick, received on a day at a microsecond of the correlation's scale.
-pub fn date(c: Correlation, tick: Tick, receipt_day: i64, receipt_micro: u64) -> Dated
-    ensures { λ r. ⌜ slip r ≡ dateOf c (tick .0) «receipt_day» «receipt_micro» ⌝ }
+// What is reckoned of a tick, for the reference at r.
+fn reckon(c: Correlation, tick: u32, r: u64) -> Reckoned
+    requires { ⌜ Windowed r (c .period) (c .back) (c .ahead) ⌝ }
+    ensures { λ k. ⌜ k ≡ reckonedAt r (c .period) (c .back) (c .ahead) (countFrom tick (c .tick .0)) ⌝ }
+{
+    let k = count(tick, c.tick.0);
+    let inside = clock::inner::in_window(2_147_483_648, c.back, c.ahead, k);
+    let ends = ends_of(r, c.period, c.back, c.ahead);
+    let at = time_at(r, c.period, k);
+    Reckoned { inside, ends, at }
+}
+
+// The date of a tick under a UTC correlation, by the list.
+fn date_by_list(
+    c: Correlation,
+    tick: Tick,
+    receipt_day: i64,
+    receipt_micro: u64,
+    days: &[i64],
+    offsets: &[u64],
+    last: i64,
+) -> Dated
+    requires { ⌜ isUtc (c .scale) ≡ true ⌝ }
+    ensures { λ r. ⌜ slip r ≡ dateOf c (tick .0) «receipt_day» «receipt_micro» (now (days .entry)) (now (offsets .entry)) last ⌝ }
+{
+    if !leap::is_accepted(days, offsets, last) {
+        return Dated::Refused(Refusal::ListNotAccepted, Scale::Utc);
+    }
+    let Base::At(r, current) = base_of(c, days, offsets, last) else {
+        return Dated::Refused(Refusal::CorrelationNotAccepted, Scale::Utc);
+    };
+    let k = reckon(c, tick.0, r);
+    clock::inner::date_by_list(k, current, receipt_day, receipt_micro, days, offsets, last)
+}
+
+// The date of a tick, received on a day at a microsecond of the correlation's scale. A list is used under a UTC correlation alone.
+pub fn date(
+    c: Correlation,
+    tick: Tick,
+    receipt_day: i64,
+    receipt_micro: u64,
+    days: &[i64],
+    offsets: &[u64],
+    last: i64,
+) -> Dated
+    ensures { λ r. ⌜ slip r ≡ dateOf c (tick .0) «receipt_day» «receipt_micro» (now (days .entry)) (now (offsets .entry)) last ⌝ }
 {
     let scale = c.scale;
+    if changes::inner::is_utc(scale) {
+        return date_by_list(c, tick, receipt_day, receipt_micro, days, offsets, last);
+    }
     let Place::At(r) = reference_of(c) else {
         return Dated::Refused(Refusal::CorrelationNotAccepted, scale);
     };
-    let k = count(tick.0, c.tick.0);
-    let inside = clock::inner::in_window(2_147_483_648, c.back, c.ahead, k);
-    let v = ends_of(r, c.period, c.back, c.ahead);
-    clock::inner::date(
-        scale,
-        inside,
-        v,
-        time_at(r, c.period, k),
-        receipt_day,
-        receipt_micro,
-    )
+    let k = reckon(c, tick.0, r);
+    clock::inner::date(scale, k, receipt_day, receipt_micro)
 }
 
 // ---- the tick of a time
@@ -121,16 +179,47 @@ fn tick_from(reference: u32, k: u64) -> u32
     (((reference as u64) + k + 2_147_483_648) % 4_294_967_296) as u32
 }
 
-// The tick of a handed time: the last of the window whose time is not later.
-pub fn tick_of(c: Correlation, h: Handed) -> Ticked
-    ensures { λ r. ⌜ tickSlip r ≡ tickOf c h ⌝ }
+// The tick of a place in the cover, for the reference at r, or the refusal that was found instead.
+fn tick_at(c: Correlation, r: u64, p: Placed) -> Ticked
+    requires { ⌜ Reached r (c .period) p ⌝ }
+    ensures { λ t. ⌜ tickSlip t ≡ tickedAt (c .tick .0) r (c .period) p ⌝ }
 {
-    let Place::At(r) = reference_of(c) else {
-        return Ticked::Refused(clock::inner::unaccepted(h));
-    };
-    let scale = c.scale;
-    match clock::inner::turn(scale, ends_of(r, c.period, c.back, c.ahead), h) {
-        Turned::At(w) => Ticked::Tick(Tick(tick_from(c.tick.0, last_at(r, c.period, w)))),
-        Turned::Refused(f) => Ticked::Refused(f),
+    match p {
+        Placed::At(w) => Ticked::Tick(Tick(tick_from(c.tick.0, last_at(r, c.period, w)))),
+        Placed::Refused(f) => Ticked::Refused(f),
     }
+}
+
+// The tick of a handed time under a UTC correlation, by the list.
+fn tick_by_list(c: Correlation, h: Handed, days: &[i64], offsets: &[u64], last: i64) -> Ticked
+    requires { ⌜ isUtc (c .scale) ≡ true ⌝ }
+    ensures { λ r. ⌜ tickSlip r ≡ tickOf c h (now (days .entry)) (now (offsets .entry)) last ⌝ }
+{
+    if !leap::is_accepted(days, offsets, last) {
+        return Ticked::Refused(clock::inner::unaccepted(h, Refusal::ListNotAccepted));
+    }
+    let Base::At(r, current) = base_of(c, days, offsets, last) else {
+        return Ticked::Refused(clock::inner::unaccepted(h, Refusal::CorrelationNotAccepted));
+    };
+    let v = ends_of(r, c.period, c.back, c.ahead);
+    tick_at(
+        c,
+        r,
+        clock::inner::turn_by_list(current, v, h, days, offsets, last),
+    )
+}
+
+// The tick of a handed time: the last of the window whose time is not later. A list is used under a UTC correlation alone.
+pub fn tick_of(c: Correlation, h: Handed, days: &[i64], offsets: &[u64], last: i64) -> Ticked
+    ensures { λ r. ⌜ tickSlip r ≡ tickOf c h (now (days .entry)) (now (offsets .entry)) last ⌝ }
+{
+    let scale = c.scale;
+    if changes::inner::is_utc(scale) {
+        return tick_by_list(c, h, days, offsets, last);
+    }
+    let Place::At(r) = reference_of(c) else {
+        return Ticked::Refused(clock::inner::unaccepted(h, Refusal::CorrelationNotAccepted));
+    };
+    let v = ends_of(r, c.period, c.back, c.ahead);
+    tick_at(c, r, clock::inner::turn(scale, v, h))
 }
