@@ -1,7 +1,8 @@
 -- The tests of acceptance, on the places, and what they tell together. Assumes nothing.
 use mathlib.Core.Path.{_≡_, sym, ap, ap₂, _∙_}
 use mathlib.Core.Bool.{true, false, _&&_}
-use Prim.Native.Nat.{ℕ, _+_, _≤_, _<_}
+use mathlib.Core.List.{List}
+use Prim.Native.Nat.{ℕ, _+_, _*_, _≤_, _<_}
 use native.Mathlib.Omega.{arith}
 use lib.Dec.{leb, ltb, lit<, lit≤}
 use lib.IntN.{ℤ, pos, _+ℤ_, _*ℤ_}
@@ -9,14 +10,17 @@ use lib.Signed.{leZ, ltZ}
 use borrow.Author.Tests.{leb-true, ltb-true, le-leb, lt-leb, lt-ltb, le-ltb}
 use Rattle.axis.specs.Meaning.{placeOfCounts, countsAt}
 use Rattle.axis.specs.Axis.{counts-place, counts-from, counts-to}
-use Rattle.axis.specs.Diff.{Way, way, below, above, is-pos, sub-add, sub-le-same, sub-lt}
+use Rattle.axis.specs.Diff.{Way, way, below, above, is-pos, sub-add, sub-mul, sub-le-same, sub-lt}
+use Rattle.axis.specs.Shift.{number-add}
 use Rattle.scales.specs.Meaning.{first, last}
 use Rattle.scales.specs.Place.{and-both, and-false}
 use Rattle.scales.specs.declared.Scale.the-variants as S
+use Rattle.leap.specs.Meaning.{offsetOn}
+use Rattle.clock.specs.Places.{Based}
 use Rattle.clock.specs.Window.{Runs}
 use Rattle.clock.specs.declared.inner.Place.the-variants as P
-use Rattle.goce.specs.Meaning.{dayCounts, inLimits, isOffset, reference, isInUtc, accepted, clockOf}
-use Rattle.goce.specs.Places.{spot, placeOf}
+use Rattle.goce.specs.Meaning.{dayCounts, inLimits, isOffset, reference, isInUtc, accepted, dayOn, clockOf}
+use Rattle.goce.specs.Places.{spot, placeOf, shifted}
 use Rattle.goce.specs.declared.Correlation.{Correlation}
 
 -- ---- Offset: within a day of the axis's day 0
@@ -130,7 +134,21 @@ sound c e =
       ahead-to = ltb-true (c .ahead) 140737488355328 (h .1);
     }
 
-pub runs : (c : Correlation) → accepted c ≡ true → Runs (clockOf c)
-runs c e =
+pub runs : (c : Correlation) → accepted c ≡ true → (ds : List ℤ) (os : List ℕ) → Runs (clockOf c ds os)
+runs c e ds os =
     let s = sound c e in
     record { whole = lit< tt; fast = omega (arith, s .slow); back-to = s .back-to; ahead-to = s .ahead-to }
+
+-- the clock stands on the axis, at the reference's place
+pub based : (c : Correlation) → accepted c ≡ true → (ds : List ℤ) (os : List ℕ) → Based (clockOf c ds os) (shifted c ds os * 1000000000)
+based c e ds os =
+    let s = sound c e in
+    let n = offsetOn ds os (dayOn c) * 65536 in
+    record {
+      runs = runs c e ds os;
+      start =
+          ap (λ (x : ℤ). x *ℤ pos 1000000000)
+          (ap (λ (x : ℤ). x +ℤ pos n) (reference-place c (s .offset)) ∙ sym (number-add 226492416000000 (spot c) n))
+          ∙ sub-mul (shifted c ds os) 226492416000000 1000000000;
+      early = omega (arith, s .offset .from, s .fast);
+    }

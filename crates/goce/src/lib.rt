@@ -1,13 +1,17 @@
 // GOCE's correlation: the date of a 48-bit count, and the count of a time.
-// Inside, the reference is a place in counts, a time one in microseconds, and an elapsed count k is held as k + 2^47.
+// Inside, the reference is a place in counts, a time one in microseconds, both of TAI, and an elapsed count k is held as k + 2^47.
 ghost use mathlib.Core.Path.{_≡_};
+ghost use mathlib.Core.Bool.{true};
 ghost use Prim.Native.Nat.{_<_};
 ghost use Rattle.scales.specs.Meaning.{slip, countSlip};
+ghost use Rattle.leap.specs.Meaning as Leap;
 ghost use Rattle.goce.specs.Meaning.{inLimits, dateOf, obtOf};
-ghost use Rattle.goce.specs.Places.{placeOf, timeAt, endsAt, countFrom, lastAt, obtFrom, Based, Windowed, Near};
+ghost use Rattle.goce.specs.Places.{placeOf, baseOf, reckonedAt, timeAt, endsAt, countFrom, lastAt, obtFrom, Based, Windowed, Near};
+use clock::inner::Base;
 use clock::inner::Ends;
 use clock::inner::Place;
-use clock::inner::Turned;
+use clock::inner::Placed;
+use clock::inner::Reckoned;
 use handed::Handed;
 use scales::Counted;
 use scales::Dated;
@@ -46,7 +50,7 @@ fn in_limits(c: Correlation) -> bool
     c.ahead < 140_737_488_355_328
 }
 
-// The place of the reference, in counts, where the correlation is accepted.
+// The place of the reference in UTC, in counts, where the correlation is accepted.
 fn reference_of(c: Correlation) -> Place
     ensures { λ r. ⌜ r ≡ placeOf c ⌝ }
 {
@@ -65,6 +69,20 @@ fn reference_of(c: Correlation) -> Place
         return Place::Outside;
     }
     Place::At(s)
+}
+
+// The reference in TAI, where the correlation is accepted: a second is 65,536 counts, and a day 5,662,310,400.
+fn base_of(c: Correlation, days: &[i64], offsets: &[u64], last: i64) -> Base
+    requires { ⌜ Leap.accepted (now days) (now offsets) last ≡ true ⌝ }
+    ensures { λ r. ⌜ r ≡ baseOf c (now (days .entry)) (now (offsets .entry)) last ⌝ }
+{
+    let Place::At(p) = reference_of(c) else {
+        return Base::Outside;
+    };
+    let day = p / 5_662_310_400;
+    let offset = leap::inner::offset_on(days, offsets, day);
+    let current = clock::inner::is_current(day, last);
+    Base::At(p + offset * 65_536, current)
 }
 
 // Time(k), by way of nanoseconds: counts are split into seconds and fractions of 1/65536, so that no product needs more than 64 bits.
@@ -98,27 +116,42 @@ fn count(obt: u64, reference: u64) -> u64
     (obt + 422_212_465_065_984 - reference) % 281_474_976_710_656
 }
 
+// What is reckoned of a count, for the reference at s.
+fn reckon(c: Correlation, obt: u64, s: u64) -> Reckoned
+    requires { ⌜ Windowed s (c .gradient) (c .back) (c .ahead) ⌝ }
+    requires { ⌜ (obt < 281474976710656) × (c .obt0 < 281474976710656) ⌝ }
+    ensures { λ k. ⌜ k ≡ reckonedAt s (c .gradient) (c .back) (c .ahead) (countFrom obt (c .obt0)) ⌝ }
+{
+    let k = count(obt, c.obt0);
+    let inside = clock::inner::in_window(140_737_488_355_328, c.back, c.ahead, k);
+    let ends = ends_of(s, c.gradient, c.back, c.ahead);
+    let at = time_at(s, c.gradient, k);
+    Reckoned { inside, ends, at }
+}
+
 // The date of a count, received on a UTC day at a microsecond.
-pub fn date(c: Correlation, obt: u64, receipt_day: i64, receipt_micro: u64) -> Dated
-    ensures { λ r. ⌜ slip r ≡ dateOf c obt «receipt_day» «receipt_micro» ⌝ }
+pub fn date(
+    c: Correlation,
+    obt: u64,
+    receipt_day: i64,
+    receipt_micro: u64,
+    days: &[i64],
+    offsets: &[u64],
+    last: i64,
+) -> Dated
+    ensures { λ r. ⌜ slip r ≡ dateOf c obt «receipt_day» «receipt_micro» (now (days .entry)) (now (offsets .entry)) last ⌝ }
 {
     if 281_474_976_710_656 <= obt {
         return Dated::Refused(Refusal::FieldOver, Scale::Utc);
     }
-    let Place::At(s) = reference_of(c) else {
+    if !leap::is_accepted(days, offsets, last) {
+        return Dated::Refused(Refusal::ListNotAccepted, Scale::Utc);
+    }
+    let Base::At(s, current) = base_of(c, days, offsets, last) else {
         return Dated::Refused(Refusal::CorrelationNotAccepted, Scale::Utc);
     };
-    let k = count(obt, c.obt0);
-    let inside = clock::inner::in_window(140_737_488_355_328, c.back, c.ahead, k);
-    let v = ends_of(s, c.gradient, c.back, c.ahead);
-    clock::inner::date(
-        Scale::Utc,
-        inside,
-        v,
-        time_at(s, c.gradient, k),
-        receipt_day,
-        receipt_micro,
-    )
+    let k = reckon(c, obt, s);
+    clock::inner::date_by_list(k, current, receipt_day, receipt_micro, days, offsets, last)
 }
 
 // ---- the count of a time
@@ -144,14 +177,18 @@ fn obt_from(reference: u64, k: u64) -> u64
 }
 
 // The count of a handed time: the last of the window whose time is not later.
-pub fn count_of(c: Correlation, h: Handed) -> Counted
-    ensures { λ r. ⌜ countSlip r ≡ obtOf c h ⌝ }
+pub fn count_of(c: Correlation, h: Handed, days: &[i64], offsets: &[u64], last: i64) -> Counted
+    ensures { λ r. ⌜ countSlip r ≡ obtOf c h (now (days .entry)) (now (offsets .entry)) last ⌝ }
 {
-    let Place::At(s) = reference_of(c) else {
-        return Counted::Refused(clock::inner::unaccepted(h));
+    if !leap::is_accepted(days, offsets, last) {
+        return Counted::Refused(clock::inner::unaccepted(h, Refusal::ListNotAccepted));
+    }
+    let Base::At(s, current) = base_of(c, days, offsets, last) else {
+        return Counted::Refused(clock::inner::unaccepted(h, Refusal::CorrelationNotAccepted));
     };
-    match clock::inner::turn(Scale::Utc, ends_of(s, c.gradient, c.back, c.ahead), h) {
-        Turned::At(w) => Counted::Count(obt_from(c.obt0, last_at(s, c.gradient, w))),
-        Turned::Refused(f) => Counted::Refused(f),
+    let v = ends_of(s, c.gradient, c.back, c.ahead);
+    match clock::inner::turn_by_list(current, v, h, days, offsets, last) {
+        Placed::At(w) => Counted::Count(obt_from(c.obt0, last_at(s, c.gradient, w))),
+        Placed::Refused(f) => Counted::Refused(f),
     }
 }

@@ -1,7 +1,11 @@
 pub mod Counts
 pub mod Answers
 pub mod Trips
+pub mod Window
 pub mod Wider
+pub mod Stays
+pub mod Fresh
 pub mod Night
 pub mod Cases
+pub mod NewYear
 pub mod Wrong
