@@ -127,23 +127,24 @@ module _ (c : VrkSbtCorrelation) (d : ℤ) (q : d ≡ c .day) where
   unfolding correlationOf
   correlate-unknown e = let k = named-bad (c .scale) e in rw (k, unknown-tai (c .scale) k, q)
 
-pub tick-known : (h : VrkHanded) (c : VrkSbtCorrelation) (t : Handed) → givenOf h ≡ G.Handed t → countOut (tickOf (correlationOf c) t) ≡ sbtTick h c
-unfolding sbtTick tickOf
-tick-known h c t e = let k = given-good h t e in rw (k .0, k .1)
+module _ (h : VrkHanded) (c : VrkSbtCorrelation) (ds : List ℤ) (os : List ℕ) (e : ℤ) where
+  pub tick-known : (t : Handed) → givenOf h ≡ G.Handed t → countOut (tickOf (correlationOf c) t ds os e) ≡ sbtTick h c ds os e
+  unfolding sbtTick tickOf
+  tick-known t q = let k = given-good h t q in rw (k .0, k .1)
 
-pub tick-unknown : (h : VrkHanded) (c : VrkSbtCorrelation) → givenOf h ≡ G.Unknown → record { refusal = 3; count = 0 } ≡ sbtTick h c
-unfolding sbtTick
-tick-unknown h c e = rw (given-bad h e)
+  pub tick-unknown : givenOf h ≡ G.Unknown → record { refusal = 3; count = 0 } ≡ sbtTick h c ds os e
+  unfolding sbtTick
+  tick-unknown q = rw (given-bad h q)
 
 -- ---- GOCE
-module _ (h : VrkHanded) (c : VrkGoceCorrelation) where
-  pub count-known : (t : Handed) → givenOf h ≡ G.Handed t → countOut (obtOf (goceOf c) t) ≡ goceCount h c
+module _ (h : VrkHanded) (c : VrkGoceCorrelation) (ds : List ℤ) (os : List ℕ) (e : ℤ) where
+  pub count-known : (t : Handed) → givenOf h ≡ G.Handed t → countOut (obtOf (goceOf c) t ds os e) ≡ goceCount h c ds os e
   unfolding goceCount obtOf
-  count-known t e = let k = given-good h t e in rw (k .0, k .1)
+  count-known t q = let k = given-good h t q in rw (k .0, k .1)
 
-  pub count-unknown : givenOf h ≡ G.Unknown → record { refusal = 3; count = 0 } ≡ goceCount h c
+  pub count-unknown : givenOf h ≡ G.Unknown → record { refusal = 3; count = 0 } ≡ goceCount h c ds os e
   unfolding goceCount
-  count-unknown e = rw (given-bad h e)
+  count-unknown q = rw (given-bad h q)
 
 -- ---- changes of scale
 module _ (h : VrkHanded) (c : ℕ) (ds : List ℤ) (os : List ℕ) (e : ℤ) where

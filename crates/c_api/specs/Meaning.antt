@@ -68,11 +68,11 @@ correlationOf c =
       ahead = c .ahead;
     }
 
-unfoldable pub sbtDate : ℕ → VrkSbtCorrelation → ℤ → ℕ → VrkTime
-sbtDate t c d u = timeOut (dateOf (correlationOf c) t d u)
+unfoldable pub sbtDate : ℕ → VrkSbtCorrelation → ℤ → ℕ → List ℤ → List ℕ → ℤ → VrkTime
+sbtDate t c d u ds os e = timeOut (dateOf (correlationOf c) t d u ds os e)
 
-unfoldable pub sbtTick : VrkHanded → VrkSbtCorrelation → VrkCount
-sbtTick h c = countOut (valued 0 (outcome (given (known h) 3 (turning (correlationOf c) (handedOf h)))))
+unfoldable pub sbtTick : VrkHanded → VrkSbtCorrelation → List ℤ → List ℕ → ℤ → VrkCount
+sbtTick h c ds os e = countOut (valued 0 (outcome (given (known h) 3 (turning (correlationOf c) (handedOf h) ds os e))))
 
 abbrev pub listAccepted : List ℤ → List ℕ → ℤ → ℕ
 listAccepted ds os e = cond (accepted ds os e) 1 0

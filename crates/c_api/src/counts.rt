@@ -39,18 +39,37 @@ pub extern "C" fn vrk_goce_date(
     correlation: VrkGoceCorrelation,
     receipt_day: i64,
     receipt_micro: u64,
+    days: &[i64],
+    offsets: &[u64],
+    last: i64,
 ) -> VrkTime
-    ensures { λ r. ⌜ r ≡ goceDate obt correlation «receipt_day» «receipt_micro» ⌝ }
+    ensures { λ r. ⌜ r ≡ goceDate obt correlation «receipt_day» «receipt_micro» (now (days .entry)) (now (offsets .entry)) last ⌝ }
 {
-    time_out(goce::date(correlate(correlation), obt, receipt_day, receipt_micro))
+    time_out(goce::date(
+        correlate(correlation),
+        obt,
+        receipt_day,
+        receipt_micro,
+        days,
+        offsets,
+        last,
+    ))
 }
 
 #[no_mangle]
-pub extern "C" fn vrk_goce_count(time: VrkHanded, correlation: VrkGoceCorrelation) -> VrkCount
-    ensures { λ r. ⌜ r ≡ goceCount time correlation ⌝ }
+pub extern "C" fn vrk_goce_count(
+    time: VrkHanded,
+    correlation: VrkGoceCorrelation,
+    days: &[i64],
+    offsets: &[u64],
+    last: i64,
+) -> VrkCount
+    ensures { λ r. ⌜ r ≡ goceCount time correlation (now (days .entry)) (now (offsets .entry)) last ⌝ }
 {
     match hand(time) {
-        Given::Handed(h) => count_out(goce::count_of(correlate(correlation), h)),
+        Given::Handed(h) => {
+            count_out(goce::count_of(correlate(correlation), h, days, offsets, last))
+        }
         Given::Unknown => VrkCount {
             refusal: 3,
             count: 0,

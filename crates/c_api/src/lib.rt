@@ -209,23 +209,37 @@ pub extern "C" fn vrk_sbt_date(
     correlation: VrkSbtCorrelation,
     receipt_day: i64,
     receipt_micro: u64,
+    days: &[i64],
+    offsets: &[u64],
+    last: i64,
 ) -> VrkTime
-    ensures { λ r. ⌜ r ≡ sbtDate tick correlation «receipt_day» «receipt_micro» ⌝ }
+    ensures { λ r. ⌜ r ≡ sbtDate tick correlation «receipt_day» «receipt_micro» (now (days .entry)) (now (offsets .entry)) last ⌝ }
 {
     time_out(sbt::date(
         correlate(correlation),
         Tick(tick),
         receipt_day,
         receipt_micro,
+        days,
+        offsets,
+        last,
     ))
 }
 
 #[no_mangle]
-pub extern "C" fn vrk_sbt_tick(time: VrkHanded, correlation: VrkSbtCorrelation) -> VrkCount
-    ensures { λ r. ⌜ r ≡ sbtTick time correlation ⌝ }
+pub extern "C" fn vrk_sbt_tick(
+    time: VrkHanded,
+    correlation: VrkSbtCorrelation,
+    days: &[i64],
+    offsets: &[u64],
+    last: i64,
+) -> VrkCount
+    ensures { λ r. ⌜ r ≡ sbtTick time correlation (now (days .entry)) (now (offsets .entry)) last ⌝ }
 {
     match hand(time) {
-        Given::Handed(h) => tick_out(sbt::tick_of(correlate(correlation), h)),
+        Given::Handed(h) => {
+            tick_out(sbt::tick_of(correlate(correlation), h, days, offsets, last))
+        }
         Given::Unknown => VrkCount {
             refusal: 3,
             count: 0,

@@ -8,9 +8,10 @@ use lib.IntN.{ℤ, pos, negsuc}
 use lib.Ieee.{Float, nan}
 use Rattle.evidence.specs.ShutOut.{ShutOut, differ}
 use Rattle.scales.specs.Meaning.{scaleAt, given, outcome, dated, valued}
+use Rattle.scales.specs.declared.Scale.the-variants as S
 use Rattle.decimal.specs.Meaning.{reading}
 use Rattle.clock.specs.Meaning.{inWindow, within, clock}
-use Rattle.sbt.specs.Meaning.{accepted, dateOf, turning}
+use Rattle.sbt.specs.Meaning.{accepted, dating, dateOf, turning}
 use Rattle.calendar.specs.Meaning.{leap, monthLength, lengthOf, firstDay, dayAfter, daysTo, walk, isFirst}
 use Rattle.double.specs.Meaning.{plusZero}
 use Rattle.leap.specs.Meaning as L
@@ -70,33 +71,51 @@ write-four = (right, refl, forbidden (record { refusal = 4; day = plusZero }) (�
 abbrev dead : ℕ → VrkSbtCorrelation
 dead scale = record { tick = 7; scale = scale; day = pos 0; micro = 0; period = 3906250000; back = 0; ahead = 0 }
 
--- an unknown scale taken for TAI
-abbrev unknownDated : ℕ → VrkSbtCorrelation → ℤ → ℕ → VrkTime
-unknownDated t c d u = timeOut (dateOf (correlationOf (record { tick = c .tick; scale = 0; day = c .day; micro = c .micro; period = c .period; back = c .back; ahead = c .ahead })) t d u)
+-- a list without steps, which a TAI correlation does not look at
+abbrev datedBare : ℕ → VrkSbtCorrelation → VrkTime
+datedBare t c = sbtDate t c (pos 0) 0 [] [] (pos 0)
 
-pub date-unknown : ShutOut (sbtDate 7 (dead 3) (pos 0) 0) (record { refusal = 6; scale = 0; day = pos 0; micro = 0 }) (unknownDated 7 (dead 3) (pos 0) 0) (record { refusal = 0; scale = 0; day = pos 0; micro = 0 })
+abbrev timed : ℕ → ℕ → VrkTime
+timed n u = record { refusal = n; scale = 0; day = pos 0; micro = u }
+
+-- an unknown scale taken for TAI
+abbrev takenForTai : VrkSbtCorrelation → VrkSbtCorrelation
+takenForTai c = record { tick = c .tick; scale = 0; day = c .day; micro = c .micro; period = c .period; back = c .back; ahead = c .ahead }
+
+pub date-unknown : ShutOut (datedBare 7 (dead 3)) (timed 6 0) (datedBare 7 (takenForTai (dead 3))) (timed 0 0)
 unfolding sbtDate correlationOf dateOf accepted inWindow within clock
 date-unknown = (refl, refl, differ (λ (t : VrkTime). t .refusal) (λ e. omega arith))
 
+-- the list judged, though the scale is unknown
+abbrev listFirst : ℕ → VrkSbtCorrelation → VrkTime
+listFirst t c = timeOut (dated S.Tai (outcome (given (L.accepted [] [] (pos 0)) 5 (dating (correlationOf c) t (pos 0) 0 [] [] (pos 0)))))
+
+pub date-unknown-list : ShutOut (datedBare 7 (dead 3)) (timed 6 0) (listFirst 7 (dead 3)) (timed 5 0)
+unfolding sbtDate correlationOf dateOf accepted L.accepted
+date-unknown-list = (refl, refl, differ (λ (t : VrkTime). t .refusal) (λ e. omega arith))
+
 -- the window left to the caller
-pub date-window : ShutOut (sbtDate 8 (dead 0) (pos 0) 0) (record { refusal = 8; scale = 0; day = pos 0; micro = 0 }) (sbtDate 8 (record { tick = 7; scale = 0; day = pos 0; micro = 0; period = 3906250000; back = 1; ahead = 1 }) (pos 0) 0) (record { refusal = 0; scale = 0; day = pos 0; micro = 3906 })
+pub date-window : ShutOut (datedBare 8 (dead 0)) (timed 8 0) (datedBare 8 (record { tick = 7; scale = 0; day = pos 0; micro = 0; period = 3906250000; back = 1; ahead = 1 })) (timed 0 3906)
 unfolding sbtDate correlationOf dateOf accepted inWindow within clock
 date-window = (refl, refl, differ (λ (t : VrkTime). t .refusal) (λ e. omega arith))
 
 -- ---- vrk_sbt_tick
+abbrev tickBare : VrkHanded → VrkSbtCorrelation → VrkCount
+tickBare h c = sbtTick h c [] [] (pos 0)
+
 -- an unknown kind judged after the correlation
 abbrev sixFirst : VrkHanded → VrkSbtCorrelation → VrkCount
-sixFirst h c = countOut (valued 0 (outcome (turning (correlationOf c) (handedOf h))))
+sixFirst h c = countOut (valued 0 (outcome (turning (correlationOf c) (handedOf h) [] [] (pos 0))))
 
-pub tick-kind : ShutOut (sbtTick strange (dead 3)) (record { refusal = 3; count = 0 }) (sixFirst strange (dead 3)) (record { refusal = 6; count = 0 })
+pub tick-kind : ShutOut (tickBare strange (dead 3)) (record { refusal = 3; count = 0 }) (sixFirst strange (dead 3)) (record { refusal = 6; count = 0 })
 unfolding sbtTick correlationOf accepted
 tick-kind = (refl, refl, differ (λ (t : VrkCount). t .refusal) (λ e. omega arith))
 
 -- a refusal that hands back the reference tick
 abbrev handsTick : VrkHanded → VrkSbtCorrelation → VrkCount
-handsTick h c = record { refusal = sbtTick h c .refusal; count = c .tick }
+handsTick h c = record { refusal = tickBare h c .refusal; count = c .tick }
 
-pub tick-handed : ShutOut (sbtTick strange (dead 0)) (record { refusal = 3; count = 0 }) (handsTick strange (dead 0)) (record { refusal = 3; count = 7 })
+pub tick-handed : ShutOut (tickBare strange (dead 0)) (record { refusal = 3; count = 0 }) (handsTick strange (dead 0)) (record { refusal = 3; count = 7 })
 unfolding sbtTick
 tick-handed = (refl, refl, differ (λ (t : VrkCount). t .count) (λ e. omega arith))
 

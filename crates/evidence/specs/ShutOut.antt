@@ -1,5 +1,5 @@
 -- What shuts a wrong program out: an input at which its answer is not the meaning's, both computed. Assumes nothing.
-use mathlib.Core.Path.{_≡_, ap}
+use mathlib.Core.Path.{_≡_, sym, ap, _∙_}
 use mathlib.Core.List.{List}
 use Prim.Native.Nat.{ℕ}
 use lib.ListN.{getD}
@@ -7,6 +7,10 @@ use lib.ListN.{getD}
 -- the right answer is a, the wrong one b, and they are not the same
 abbrev pub ShutOut : {A : Type 0} → A → A → A → A → Type 0
 ShutOut right a wrong b = (right ≡ a) × (wrong ≡ b) × (right ≡ wrong → ⊥)
+
+-- both answers found by laws, and what was found differs
+pub shut : {A : Type 0} {right a wrong b : A} → right ≡ a → wrong ≡ b → (a ≡ b → ⊥) → ShutOut right a wrong b
+shut p q d = (p, q, λ e. d (sym p ∙ e ∙ q))
 
 -- a wrong program meets an older statement, and does not meet the one that stands in its place
 abbrev pub Outgrown : Type 0 → Type 0 → Type 0

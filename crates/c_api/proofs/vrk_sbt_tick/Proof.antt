@@ -1,5 +1,8 @@
 -- `c_api::vrk_sbt_tick` meets its contract. Assumes nothing.
-use mathlib.Core.Path.{ap, sym, _∙_}
+use mathlib.Core.Path.{ap, ap₂, sym, _∙_}
+use lib.IntN.{ℤ}
+use denote.Ref.{now}
+use mir.Facts.{toZ-ofZ}
 use Rattle.sbt.specs.Meaning.{tickOf}
 use Rattle.sbt.specs.declared.Correlation.{Correlation}
 use Rattle.c_api.specs.Meaning.{countOut}
@@ -14,16 +17,19 @@ returns c =
     let r = t .before in
     let k = r .before .before in
     let b = k .before .before in
-    let a = b .before .args in
+    let s = b .before .before in
+    let a = s .args in
     c .tick-out .ensures
-    ∙ ap countOut (t .tick-of .ensures ∙ ap (λ (x : Correlation). tickOf x (k .h .given .0 .0)) (r .correlate .ensures))
-    ∙ tick-known (a .time) (a .correlation) (k .h .given .0 .0) (sym (b .hand .ensures) ∙ k .h .given .1)
+    ∙ ap countOut
+    (t .tick-of .ensures
+    ∙ ap₂ (λ (x : Correlation) (e : ℤ). tickOf x (k .h .given .0 .0) (now (a .days)) (now (a .offsets)) e) (r .correlate .ensures) (toZ-ofZ (s .fits .last)))
+    ∙ tick-known (a .time) (a .correlation) (now (a .days)) (now (a .offsets)) (a .last) (k .h .given .0 .0) (sym (b .hand .ensures) ∙ k .h .given .1)
 
 returns-2 : tie.Need-returns-2
 returns-2 c =
     let b = c .before .before in
-    let a = b .before .args in
-    tick-unknown (a .time) (a .correlation) (sym (b .hand .ensures) ∙ c .enum-told .given .1)
+    let a = b .before .before .args in
+    tick-unknown (a .time) (a .correlation) (now (a .days)) (now (a .offsets)) (a .last) (sym (b .hand .ensures) ∙ c .enum-told .given .1)
 
 pub vrk-sbt-tick-spec : {M : Type 1} → statement M
 vrk-sbt-tick-spec =

@@ -1,9 +1,8 @@
 -- `c_api::counts::vrk_goce_date` meets its contract. Assumes nothing.
-use mathlib.Core.Path.{ap, ap₂, _∙_}
-use lib.IntN.{ℤ}
+use mathlib.Core.Path.{ap, _∙_}
+use denote.Ref.{now}
 use mir.Facts.{toZ-ofZ}
 use Rattle.goce.specs.Meaning.{dateOf}
-use Rattle.goce.specs.declared.Correlation.{Correlation}
 use Rattle.c_api.specs.Meaning.{timeOut}
 use Rattle.c_api.specs.Counts.{goceDate}
 use borrow.Author.Needs.{needs}
@@ -15,12 +14,12 @@ unfolding goceDate
 returns c =
     let d = c .before in
     let k = d .before in
-    let s = k .before in
+    let s = k .before .before in
     let a = s .args in
     c .time-out .ensures
     ∙ ap timeOut
     (d .date .ensures
-    ∙ ap₂ (λ (x : Correlation) (z : ℤ). dateOf x (a .obt) z (a .receipt-micro)) (k .correlate .ensures) (toZ-ofZ (s .fits .receipt-day)))
+    ∙ (λ i. dateOf (k .correlate .ensures i) (a .obt) (toZ-ofZ (s .fits .receipt-day) i) (a .receipt-micro) (now (a .days)) (now (a .offsets)) (toZ-ofZ (s .fits .last) i)))
 
 pub vrk-goce-date-spec : {M : Type 1} → statement M
 vrk-goce-date-spec = tie.close (tie.spec (λ c κs. search needs) (λ c κs. search needs) (λ c κs. search needs) returns)
