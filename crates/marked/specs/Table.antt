@@ -100,23 +100,27 @@ abbrev pub correlated : Scale → ℕ → ℕ → Correlation
 correlated s tick reach =
     record { tick = record { 0 = tick }; scale = s; day = pos 0; micro = 1000000; period = 3906250000; back = reach; ahead = reach }
 
+-- a tick's date, received at microsecond u of day 0
+abbrev pub datedBy : Correlation → ℕ → ℕ → List ℤ
+datedBy c t u = slipped (dateOf c t (pos 0) u publishedDays publishedOffsets publishedLast)
+
 -- 8. Reference tick FFFFFFFF, in force: tick 0 adds 3,906; FFFFFFFE takes away 3,907
 abbrev pub forward : Scale → Row
 forward s =
-    record { case = 8; meaning = slipped (dateOf (correlated s 4294967295 10) 0 (pos 0) 1003906); paper = answered s (pos 0) 1003906 }
+    record { case = 8; meaning = datedBy (correlated s 4294967295 10) 0 1003906; paper = answered s (pos 0) 1003906 }
 
 abbrev pub backward : Scale → Row
 backward s =
-    record { case = 8; meaning = slipped (dateOf (correlated s 4294967295 10) 4294967294 (pos 0) 1000000); paper = answered s (pos 0) 996093 }
+    record { case = 8; meaning = datedBy (correlated s 4294967295 10) 4294967294 1000000; paper = answered s (pos 0) 996093 }
 
 -- 9. b = a = 0: the reference tick received at the reference time answers; the next tick: 8
 abbrev pub atReference : Scale → Row
 atReference s =
-    record { case = 9; meaning = slipped (dateOf (correlated s 7 0) 7 (pos 0) 1000000); paper = answered s (pos 0) 1000000 }
+    record { case = 9; meaning = datedBy (correlated s 7 0) 7 1000000; paper = answered s (pos 0) 1000000 }
 
 abbrev pub nextTick : Scale → Row
 nextTick s =
-    record { case = 9; meaning = slipped (dateOf (correlated s 7 0) 8 (pos 0) 1000000); paper = refusedBy 8 s }
+    record { case = 9; meaning = datedBy (correlated s 7 0) 8 1000000; paper = refusedBy 8 s }
 
 -- 10. Decimal -0.5: day -1, 43,200,000,000 ("a decimal day, an f64 with a scale")
 abbrev pub minusHalf : Float

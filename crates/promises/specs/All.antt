@@ -2,16 +2,22 @@
 use Rattle.leap.specs.Published.{published}
 use Rattle.calendar_laws.specs.Firsts.{all-of-months, months-of-all}
 use Rattle.calendar_laws.specs.Undo.{date-of-day, day-of-date, has-date}
-use Rattle.decimal_laws.proofs.Trip.{later as decimal-laws-trip-later, trip}
+use Rattle.decimal_laws.proofs.Trip.{later as decimal-laws-trip-later, trip as decimal-laws-trip-trip}
 use Rattle.decimal_laws.proofs.Unique.{wrote-one}
 use Rattle.leap_laws.proofs.Functions.{later as leap-laws-functions-later, only, the-one, undoes}
 use Rattle.sbt_laws.proofs.Answers.{dates as sbt-laws-answers-dates, exact as sbt-laws-answers-exact, turns as sbt-laws-answers-turns}
 use Rattle.sbt_laws.proofs.Cases.{night, receipt-covered as sbt-laws-cases-receipt-covered, receipt-received as sbt-laws-cases-receipt-received}
-use Rattle.sbt_laws.proofs.Night.{no-wrap as sbt-laws-night-no-wrap, received-after as sbt-laws-night-received-after, received-before as sbt-laws-night-received-before}
+use Rattle.sbt_laws.proofs.Fresh.{kept-date as sbt-laws-fresh-kept-date, kept-lacking as sbt-laws-fresh-kept-lacking, kept-tick, now-dates as sbt-laws-fresh-now-dates, tai-date-base, tai-kept, tai-tick-base, utc-date-stays as sbt-laws-fresh-utc-date-stays, utc-tick-stays}
+use Rattle.sbt_laws.proofs.NewYear.{across as sbt-laws-new-year-across, back-across as sbt-laws-new-year-back-across, dating-refusals as sbt-laws-new-year-dating-refusals, exactly-time, receipt-covered as sbt-laws-new-year-receipt-covered, receipt-received as sbt-laws-new-year-receipt-received, time-trip as sbt-laws-new-year-time-trip, too-far as sbt-laws-new-year-too-far, too-late as sbt-laws-new-year-too-late, trip as sbt-laws-new-year-trip, turning-refusals as sbt-laws-new-year-turning-refusals}
+use Rattle.sbt_laws.proofs.Night.{no-wrap as sbt-laws-night-no-wrap, outside-window as sbt-laws-night-outside-window, received-after as sbt-laws-night-received-after, received-before as sbt-laws-night-received-before}
+use Rattle.sbt_laws.proofs.Stays.{date-base, date-stays as sbt-laws-stays-date-stays, tick-base, tick-stays}
 use Rattle.sbt_laws.proofs.Trips.{little-earlier as sbt-laws-trips-little-earlier, never-later as sbt-laws-trips-never-later, record-back as sbt-laws-trips-record-back, same-tick}
 use Rattle.goce_laws.proofs.Answers.{dates as goce-laws-answers-dates, exact as goce-laws-answers-exact, turns as goce-laws-answers-turns}
-use Rattle.goce_laws.proofs.Cases.{receipt-covered as goce-laws-cases-receipt-covered, receipt-received as goce-laws-cases-receipt-received}
-use Rattle.goce_laws.proofs.Night.{no-wrap as goce-laws-night-no-wrap, received-after as goce-laws-night-received-after, received-before as goce-laws-night-received-before}
+use Rattle.goce_laws.proofs.Cases.{receipt-covered as goce-laws-cases-receipt-covered, receipt-received as goce-laws-cases-receipt-received, sum}
+use Rattle.goce_laws.proofs.Fresh.{kept-count, kept-date as goce-laws-fresh-kept-date, kept-lacking as goce-laws-fresh-kept-lacking, now-dates as goce-laws-fresh-now-dates, utc-count-stays, utc-date-stays as goce-laws-fresh-utc-date-stays}
+use Rattle.goce_laws.proofs.NewYear.{across as goce-laws-new-year-across, back-across as goce-laws-new-year-back-across, dating-refusals as goce-laws-new-year-dating-refusals, receipt-covered as goce-laws-new-year-receipt-covered, time-trip as goce-laws-new-year-time-trip, too-far as goce-laws-new-year-too-far, too-late as goce-laws-new-year-too-late, trip as goce-laws-new-year-trip, turning-refusals as goce-laws-new-year-turning-refusals}
+use Rattle.goce_laws.proofs.Night.{no-wrap as goce-laws-night-no-wrap, outside-window as goce-laws-night-outside-window, received-after as goce-laws-night-received-after, received-before as goce-laws-night-received-before}
+use Rattle.goce_laws.proofs.Stays.{count-stays, date-stays as goce-laws-stays-date-stays}
 use Rattle.goce_laws.proofs.Trips.{little-earlier as goce-laws-trips-little-earlier, never-later as goce-laws-trips-never-later, record-back as goce-laws-trips-record-back, same-count}
 use Rattle.layout_laws.proofs.Back.{cryosat-again, cuc-again, proteus-again, siral-again}
 use Rattle.layout_laws.proofs.Fields.{cryosat-exact, cuc-exact, goce-exact, obet-exact, proteus-exact, sbt-exact, siral-exact}

@@ -16,9 +16,10 @@ use Rattle.calendar.specs.Meaning.{isDate, dayOfDate}
 use Rattle.calendar.specs.declared.Date.{Date}
 use Rattle.double.specs.Meaning.{finite, exactOf}
 use Rattle.handed.specs.declared.Handed.{Handed}
-use Rattle.handed.specs.Meaning.{spans, scaleOf, isFinite, isInSpan, dayOf, microOf}
+use Rattle.handed.specs.Meaning.{spans, scaleOf, isFinite, isInSpan, dayOf, microOf, momentIn}
 use Rattle.leap.specs.Meaning as Leap
-use Rattle.clock.specs.Meaning.{Clock, receivable, elapsed, instant, instantOf, inWindow, covers, plainMicro}
+use Rattle.via_tai.specs.Meaning.{isUtc}
+use Rattle.clock.specs.Meaning.{Clock, elapsed, time, instant, inWindow, covers}
 use Rattle.sbt.specs.Meaning as Sbt
 use Rattle.sbt.specs.declared.Correlation.{Correlation}
 use Rattle.goce.specs.Meaning as Goce
@@ -141,24 +142,46 @@ textOutside s =
     let t = stampIn (bodyIn s) in
     not (eqb (dayOfDate (t .date) .number) 0 && inSpan (scaleIn s) (stampMoment t .day) (stampMoment t .micro))
 
--- "a day and a microsecond below 86,400,000,000 in the correlation's scale (7 otherwise)"
-abbrev pub receiptOutside : Clock → ℤ → ℕ → Bool
-receiptOutside c d u = not (receivable (c .scale) d u)
+-- the receipt is a time of the correlation's scale
+abbrev pub receiptOutside : Clock → Moment → Bool
+receiptOutside c m = outsideSpan (c .scale) m
 
--- ---- "8 correlation not in force": "in force when k is from -b to a and the receipt is from time(-b) to time(a)"
-abbrev pub notInForce : Clock → ℕ → ℤ → ℕ → Bool
-notInForce c t d u = not (inWindow c (elapsed c t) && covers c (instant (c .scale) d u))
+-- ---- "8 correlation not in force": "in force when k is from -b to a and the receipt is from time(-b) to time(a)"; "A tick outside the
+-- window is refused 8 at once; the rest of 8 is judged only when the reference and the receipt (or time to be turned back) both have a
+-- TAI time"
+abbrev pub bothInTai : Clock → Moment → List ℤ → ℤ → Bool
+bothInTai c m ds e =
+    not (isUtc (c .scale) && Leap.isExpiredDay e (c .day))
+    && (not (isUtc (c .scale) && Leap.isExpiredDay e (m .day)) && not (isUtc (c .scale) && not (Leap.hasMicro ds (m .day) (m .micro))))
 
--- "A time of another scale, or in second 60, gets 12, and 8 is not judged for it"
+abbrev pub uncovered : Clock → Moment → List ℤ → List ℕ → ℤ → Bool
+uncovered c m ds os e = bothInTai c m ds e && not (covers c (instant (c .scale) ds os (m .day) (m .micro)))
+
+abbrev pub notInForce : Clock → ℕ → Moment → List ℤ → List ℕ → ℤ → Bool
+notInForce c t m ds os e = not (inWindow c (elapsed c t)) || uncovered c m ds os e
+
+-- "A time of another scale .. gets 12, and 8 is not judged for it"
 abbrev pub hasCount : Clock → Handed → Bool
-hasCount c h = sameScale (scaleOf h) (c .scale) && plainMicro (scaleOf h) (microOf h)
+hasCount c h = sameScale (scaleOf h) (c .scale)
 
-abbrev pub notCovered : Clock → Handed → Bool
-notCovered c h = hasCount c h && not (covers c (instantOf h))
+abbrev pub notCovered : Clock → Handed → List ℤ → List ℕ → ℤ → Bool
+notCovered c h ds os e = hasCount c h && uncovered c (momentIn h) ds os e
 
 -- ---- "9 leap list expired", where one is used
 abbrev pub dayExpired : Bool → ℤ → Moment → Bool
 dayExpired used e m = used && Leap.isExpiredDay e (m .day)
+
+-- "9 to the reference, receipt, time given (where it is UTC) and result"
+abbrev pub referenceExpired : Clock → ℤ → Bool
+referenceExpired c e = isUtc (c .scale) && Leap.isExpiredDay e (c .day)
+
+abbrev pub dateExpired : Clock → ℕ → Moment → List ℤ → List ℕ → ℤ → Bool
+dateExpired c t m ds os e =
+    referenceExpired c e
+    || (dayExpired (isUtc (c .scale)) e m || (isUtc (c .scale) && Leap.isExpiredTai ds os e (time c (elapsed c t))))
+
+abbrev pub countExpired : Clock → Handed → ℤ → Bool
+countExpired c h e = referenceExpired c e || (hasCount c h && dayExpired (isUtc (c .scale)) e (momentIn h))
 
 abbrev pub taiExpired : List ℤ → List ℕ → ℤ → ℤ → Bool
 taiExpired ds os e c = Leap.isExpiredTai ds os e c
@@ -167,12 +190,15 @@ taiExpired ds os e c = Leap.isExpiredTai ds os e c
 abbrev pub secondLacking : Bool → List ℤ → Moment → Bool
 secondLacking used ds m = used && not (Leap.hasMicro ds (m .day) (m .micro))
 
+abbrev pub givenLacking : Clock → Handed → List ℤ → Bool
+givenLacking c h ds = hasCount c h && secondLacking (isUtc (c .scale)) ds (momentIn h)
+
 -- ---- "11 result outside its scale's span"
 abbrev pub resultOutside : Scale → Moment → Bool
 resultOutside s m = not (inSpan s (m .day) (m .micro))
 
--- ---- "12 time has no image: wrong scale, leap second in Proteus, decimal or a UTC correlation, microseconds in a short text, day or
--- week the field cannot hold"
+-- ---- "12 time has no image: wrong scale, leap second in Proteus, decimal .., microseconds in a short text, day or week the field cannot
+-- hold"
 abbrev pub wrongScale : Scale → Handed → Bool
 wrongScale s h = not (sameScale s (scaleOf h))
 

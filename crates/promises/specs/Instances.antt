@@ -34,11 +34,11 @@ use Rattle.text_read.specs.Meaning.{digitOf, twoOf, fourOf, sixOf, isNamed, see
 use Rattle.text_write.specs.Meaning.{textOf}
 use Rattle.text_laws.specs.Computed.{blank}
 use Rattle.sbt.specs.Meaning as Sbt
-use Rattle.sbt_laws.proofs.Cases.{marked, either-side}
-use Rattle.sbt_laws.proofs.Wider.{widened}
+use Rattle.sbt_laws.proofs.Fresh.{eve, old-dates, old-tick}
+use Rattle.sbt_laws.proofs.Window.{widened}
 use Rattle.goce.specs.Meaning as Goce
-use Rattle.goce_laws.proofs.Cases as GoceCases
-use Rattle.goce_laws.proofs.Wider as GoceWider
+use Rattle.goce_laws.proofs.Fresh as GoceFresh
+use Rattle.goce_laws.proofs.Window as GoceWindow
 use Rattle.lines.specs.Meaning.{refusedText, answerTo}
 use Rattle.promises.specs.Meaning.{applies, firstOf}
 use Rattle.promises.specs.Conditions.{lengthIsNone, handedUnknown}
@@ -52,7 +52,9 @@ use Rattle.c_api.specs.Meaning as CApi
 use Rattle.c_api.specs.Bytes as Bytes
 use Rattle.c_api.specs.Counts as Counts
 use Rattle.c_api.specs.Texts as Texts
+use Rattle.c_api.specs.declared.VrkCount.{VrkCount}
 use Rattle.c_api.specs.declared.VrkHanded.{VrkHanded}
+use Rattle.c_api.specs.declared.VrkTime.{VrkTime}
 use Rattle.c_api.specs.declared.VrkSbtCorrelation.{VrkSbtCorrelation}
 use Rattle.c_api.specs.declared.counts.VrkGoceCorrelation.{VrkGoceCorrelation}
 use Rattle.promises.specs.Three.{FreshPaper, old-dates-stay, widenedForC, goceWidenedForC, change-for-c, text-read-for-c, text-write-for-c, date-for-c, tick-for-c, goce-date-for-c, goce-count-for-c}
@@ -133,27 +135,27 @@ pub siral-time-instance : since (pos 2) 32 ≡ since Cryosat.epoch 172800000032
 unfolding number
 siral-time-instance = siral-time (0 ∷ 1 ∷ 5 ∷ 38 ∷ 91 ∷ 255 ∷ 3 ∷ 231 ∷ 0 ∷ 16 ∷ []) (record { day = pos 2; micro = 32 }) refl
 
--- ---- demand 3: the first 27 steps with E = 6000 and the published list, and windows of 10 ticks and 10 counts widened
-accepts : Sbt.accepted (marked 10) ≡ true
-unfolding Sbt.accepted
-accepts = refl
-
-wider : Sbt.accepted (widened (marked 10) 11 12) ≡ true
-unfolding Sbt.accepted
-wider = refl
-
-goce-accepts : Goce.accepted (GoceCases.zero 10) ≡ true
+-- ---- demand 3: the first 27 steps with E = 6000 and the published list, and windows of 4 ticks and 4 counts widened, both under UTC
+goce-accepts : Goce.accepted GoceFresh.eve ≡ true
 unfolding Goce.accepted
 goce-accepts = refl
 
-goce-wider : Goce.accepted (GoceWider.widened (GoceCases.zero 10) 11 12) ≡ true
+goce-wider : Goce.accepted (GoceWindow.widened GoceFresh.eve 8 20) ≡ true
 unfolding Goce.accepted
 goce-wider = refl
 
-pub paper-instance : FreshPaper earlierDays earlierOffsets earlierLast publishedDays publishedOffsets publishedLast (marked 10) 11 12 (GoceCases.zero 10) 11 12
+accepts : Sbt.accepted (eve S.Utc) ≡ true
+unfolding Sbt.accepted
+accepts = refl
+
+wider : Sbt.accepted (widened (eve S.Utc) 8 20) ≡ true
+unfolding Sbt.accepted
+wider = refl
+
+pub paper-instance : FreshPaper earlierDays earlierOffsets earlierLast publishedDays publishedOffsets publishedLast (eve S.Utc) 8 20 GoceFresh.eve 8 20
 paper-instance =
     old-dates-stay earlierDays earlierOffsets earlierLast publishedDays publishedOffsets publishedLast earlier published step-more
-    (marked 10) 11 12 (lit≤ tt) (lit≤ tt) accepts wider (GoceCases.zero 10) 11 12 (lit≤ tt) (lit≤ tt) goce-accepts goce-wider
+    (eve S.Utc) 8 20 (lit≤ tt) (lit≤ tt) accepts wider GoceFresh.eve 8 20 (lit≤ tt) (lit≤ tt) goce-accepts goce-wider
 
 -- UTC=30-JUN-2015 23:59:60.000000, the last second 60 of the 27 steps
 abbrev june : List ℕ
@@ -203,58 +205,65 @@ text-write-for-c-instance =
     (λ q. let z : _≡_ {A = ℕ} 0 9 = (λ i. sym written-earlier i .number) ∙ q in omega arith)
     ∙ written-earlier
 
--- marked case 8: tick 0 adds 3,906, and the time gives the tick
-abbrev reference : VrkSbtCorrelation
-reference = record { tick = 4294967295; scale = 0; day = pos 0; micro = 0; period = 3906250000; back = 10; ahead = 10 }
+-- what was answered, and is for C as well, is neither 8 nor 9
+no : {n m : ℕ} → (n ≡ m → ⊥) → {k : ℕ} → k ≡ n → k ≡ m → ⊥
+no d p q = d (sym p ∙ q)
 
-dated-before : CApi.sbtDate 0 reference (pos 0) 3906 ≡ record { refusal = 0; scale = 0; day = pos 0; micro = 3906 }
+-- a UTC correlation: tick 8 at the end of day 6000, and the time gives the tick
+abbrev reference : VrkSbtCorrelation
+reference = record { tick = 7; scale = 1; day = pos 6000; micro = 86399990000; period = 3906250000; back = 4; ahead = 4 }
+
+abbrev ending : ℕ → VrkTime
+ending u = record { refusal = 0; scale = 1; day = pos 6000; micro = u }
+
+dated-before : CApi.sbtDate 8 reference (pos 6000) 86399995000 earlierDays earlierOffsets earlierLast ≡ ending 86399993906
 unfolding CApi.sbtDate CApi.correlationOf Sbt.dateOf
-dated-before = ap (λ (o : Outcome Moment). CApi.timeOut (dated S.Tai o)) (either-side .0)
+dated-before = ap (λ (o : Outcome Moment). CApi.timeOut (dated S.Utc o)) (old-dates .0)
 
 reference-accepted : Sbt.accepted (CApi.correlationOf reference) ≡ true
 unfolding CApi.correlationOf
 reference-accepted = accepts
 
-reference-wider : Sbt.accepted (CApi.correlationOf (widenedForC reference 11 12)) ≡ true
+reference-wider : Sbt.accepted (CApi.correlationOf (widenedForC reference 8 20)) ≡ true
 unfolding CApi.correlationOf
 reference-wider = wider
 
-pub date-for-c-instance : CApi.sbtDate 0 (widenedForC reference 11 12) (pos 0) 3906 ≡ record { refusal = 0; scale = 0; day = pos 0; micro = 3906 }
+pub date-for-c-instance : CApi.sbtDate 8 (widenedForC reference 8 20) (pos 6000) 86399995000 publishedDays publishedOffsets publishedLast ≡ ending 86399993906
 date-for-c-instance =
-    date-for-c reference 11 12 (lit≤ tt) (lit≤ tt) reference-accepted reference-wider 0 (pos 0) 3906
-    (λ q. let z : _≡_ {A = ℕ} 0 8 = (λ i. sym dated-before i .refusal) ∙ q in omega arith)
+    date-for-c earlierDays earlierOffsets earlierLast publishedDays publishedOffsets publishedLast earlier published step-more reference 8 20 (lit≤ tt) (lit≤ tt) reference-accepted reference-wider 8 (pos 6000) 86399995000
+    (no (λ q. omega arith) (ap (λ (t : VrkTime). t .refusal) dated-before)) (no (λ q. omega arith) (ap (λ (t : VrkTime). t .refusal) dated-before))
     ∙ dated-before
 
-turned-before : CApi.sbtTick (handed 0 (pos 0) 3906) reference ≡ record { refusal = 0; count = 0 }
+turned-before : CApi.sbtTick (handed 1 (pos 6000) 86399993906) reference earlierDays earlierOffsets earlierLast ≡ record { refusal = 0; count = 8 }
 unfolding CApi.sbtTick CApi.correlationOf
-turned-before = ap (λ (o : Outcome ℕ). CApi.countOut (valued 0 o)) (either-side .2)
+turned-before = ap (λ (o : Outcome ℕ). CApi.countOut (valued 0 o)) old-tick
 
-pub tick-for-c-instance : CApi.sbtTick (handed 0 (pos 0) 3906) (widenedForC reference 11 12) ≡ record { refusal = 0; count = 0 }
+pub tick-for-c-instance : CApi.sbtTick (handed 1 (pos 6000) 86399993906) (widenedForC reference 8 20) publishedDays publishedOffsets publishedLast ≡ record { refusal = 0; count = 8 }
 tick-for-c-instance =
-    tick-for-c reference 11 12 (lit≤ tt) (lit≤ tt) reference-accepted reference-wider (handed 0 (pos 0) 3906)
-    (λ q. let z : _≡_ {A = ℕ} 0 8 = (λ i. sym turned-before i .refusal) ∙ q in omega arith)
+    tick-for-c earlierDays earlierOffsets earlierLast publishedDays publishedOffsets publishedLast earlier published step-more reference 8 20 (lit≤ tt) (lit≤ tt) reference-accepted reference-wider (handed 1 (pos 6000) 86399993906)
+    (no (λ q. omega arith) (ap (λ (t : VrkCount). t .refusal) turned-before)) (no (λ q. omega arith) (ap (λ (t : VrkCount). t .refusal) turned-before))
     ∙ turned-before
 
--- GOCE: the count before OBT0 takes away 16, and the time gives the count
+-- GOCE: the last count of day 6000, and the time gives the count
 abbrev clock : VrkGoceCorrelation
-clock = record { obt0 = 0; utc0 = 0; offset = pos 0; gradient = 1000000000; back = 10; ahead = 10 }
+clock = record { obt0 = 5; utc0 = 33979524710399; offset = pos 0; gradient = 1000000000; back = 4; ahead = 4 }
 
-goce-dated-before : Counts.goceDate 281474976710655 clock (pos 0) 0 ≡ record { refusal = 0; scale = 1; day = negsuc 0; micro = 86399999984 }
+goce-dated-before : Counts.goceDate 5 clock (pos 6000) 86399999990 earlierDays earlierOffsets earlierLast ≡ ending 86399999984
 unfolding Counts.goceDate Goce.dateOf
-goce-dated-before = ap (λ (o : Outcome Moment). CApi.timeOut (dated S.Utc o)) (GoceCases.either-side .1)
+goce-dated-before = ap (λ (o : Outcome Moment). CApi.timeOut (dated S.Utc o)) (GoceFresh.old-dates .0)
 
-pub goce-date-for-c-instance : Counts.goceDate 281474976710655 (goceWidenedForC clock 11 12) (pos 0) 0 ≡ record { refusal = 0; scale = 1; day = negsuc 0; micro = 86399999984 }
+pub goce-date-for-c-instance : Counts.goceDate 5 (goceWidenedForC clock 8 20) (pos 6000) 86399999990 publishedDays publishedOffsets publishedLast ≡ ending 86399999984
 goce-date-for-c-instance =
-    goce-date-for-c clock 11 12 (lit≤ tt) (lit≤ tt) goce-accepts goce-wider 281474976710655 (pos 0) 0
-    (λ q. let z : _≡_ {A = ℕ} 0 8 = (λ i. sym goce-dated-before i .refusal) ∙ q in omega arith)
+    goce-date-for-c earlierDays earlierOffsets earlierLast publishedDays publishedOffsets publishedLast earlier published step-more clock 8 20 (lit≤ tt) (lit≤ tt) goce-accepts goce-wider 5 (pos 6000) 86399999990
+    (no (λ q. omega arith) (ap (λ (t : VrkTime). t .refusal) goce-dated-before)) (no (λ q. omega arith) (ap (λ (t : VrkTime). t .refusal) goce-dated-before))
     ∙ goce-dated-before
 
-goce-turned-before : Counts.goceCount (handed 1 (negsuc 0) 86399999984) clock ≡ record { refusal = 0; count = 281474976710655 }
+goce-turned-before : Counts.goceCount (handed 1 (pos 6000) 86399999984) clock earlierDays earlierOffsets earlierLast ≡ record { refusal = 0; count = 5 }
 unfolding Counts.goceCount
-goce-turned-before = ap (λ (o : Outcome ℕ). CApi.countOut (valued 0 o)) (GoceCases.either-side .3)
+goce-turned-before = ap (λ (o : Outcome ℕ). CApi.countOut (valued 0 o)) GoceFresh.old-count
 
-pub goce-count-for-c-instance : Counts.goceCount (handed 1 (negsuc 0) 86399999984) (goceWidenedForC clock 11 12) ≡ record { refusal = 0; count = 281474976710655 }
+pub goce-count-for-c-instance : Counts.goceCount (handed 1 (pos 6000) 86399999984) (goceWidenedForC clock 8 20) publishedDays publishedOffsets publishedLast ≡ record { refusal = 0; count = 5 }
 goce-count-for-c-instance =
-    goce-count-for-c clock 11 12 (lit≤ tt) (lit≤ tt) goce-accepts goce-wider (handed 1 (negsuc 0) 86399999984)
-    (λ q. let z : _≡_ {A = ℕ} 0 8 = (λ i. sym goce-turned-before i .refusal) ∙ q in omega arith)
+    goce-count-for-c earlierDays earlierOffsets earlierLast publishedDays publishedOffsets publishedLast earlier published step-more clock 8 20 (lit≤ tt) (lit≤ tt) goce-accepts goce-wider (handed 1 (pos 6000) 86399999984)
+    (no (λ q. omega arith) (ap (λ (t : VrkCount). t .refusal) goce-turned-before)) (no (λ q. omega arith) (ap (λ (t : VrkCount). t .refusal) goce-turned-before))
     ∙ goce-turned-before

@@ -11,8 +11,8 @@ use Rattle.scales.specs.Meaning.{Judged, gives, sameScale, inSpan, momentAt}
 use Rattle.scales.specs.declared.Scale.{Scale}
 use Rattle.scales.specs.declared.Scale.the-variants as S
 use Rattle.handed.specs.declared.Handed.{Handed}
-use Rattle.handed.specs.Meaning.{scaleOf, isInSpan, momentIn}
-use Rattle.leap.specs.Meaning.{seconds, accepted, isExpiredDay, isExpiredTai}
+use Rattle.handed.specs.Meaning.{scaleOf, isFinite, isInSpan, dayOf, microOf, momentIn}
+use Rattle.leap.specs.Meaning.{seconds, accepted, hasMicro, isExpiredDay, isExpiredTai}
 use Rattle.via_tai.specs.Meaning.{isUtc, ofCount}
 use Rattle.changes.specs.Meaning as Changes
 use Rattle.clock.specs.Meaning as Clock
@@ -114,13 +114,57 @@ module _ (ds : List ℤ) (os : List ℕ) (e : ℤ) where
       (asked-rows z (isInSpan h) m (TextWrite.imaging f z m out)
       ∙ ap (λ (n : ℕ). Rows.asked z ds os e (C.timeOutside h) m ++ ((12, C.noText f h) ∷ (13, C.outputShorter n out) ∷ [])) (image-length f z m))
 
--- ---- back to a count: 8 is judged of a time that has an image
-pub turning-rows : (accepted : Bool) (c : Clock.Clock) (h : Handed)
-    → tests (Clock.turning accepted c h) ≡ (4, C.decimalNotFinite h) ∷ (6, not accepted) ∷ Rows.turning c h
-turning-rows accepted c h =
-    ap (λ (b : Bool). (4, C.decimalNotFinite h) ∷ (6, not accepted) ∷ (7, C.timeOutside h) ∷ (8, b) ∷ (12, C.noCount c h) ∷ [])
-    (go (Clock.hasImage (c .scale) h) (Clock.covers c (Clock.instantOf h)))
-  where
-    go : (has covered : Bool) → not (cond has covered true) ≡ has && not covered
-    go true covered = refl
-    go false covered = refl
+-- ---- a correlated counter: u says whether a list is used, a and b whether the days of reference and time are expired, x whether the
+-- time's second is there, z whether the result is expired
+date-tests : (u l k s w a b x z v r : Bool) →
+    _≡_ {A = List (ℕ × Bool)}
+    ((5, not (not u || l)) ∷ (6, not k) ∷ (7, not s)
+    ∷ (8, not (w && cond ((not u || not a) && ((not u || not b) && (not u || x))) v true))
+    ∷ (9, not ((not u || not a) && ((not u || not b) && (not u || not z)))) ∷ (10, not (not u || x)) ∷ (11, not r) ∷ [])
+    ((5, u && not l) ∷ (6, not k) ∷ (7, not s)
+    ∷ (8, not w || ((not (u && a) && (not (u && b) && not (u && not x))) && not v))
+    ∷ (9, (u && a) || ((u && b) || (u && z))) ∷ (10, u && not x) ∷ (11, not r) ∷ [])
+date-tests false l k s true a b x z v r = refl
+date-tests false l k s false a b x z v r = refl
+date-tests true l k s true true b x z v r = refl
+date-tests true l k s false true b x z v r = refl
+date-tests true l k s true false true x z v r = refl
+date-tests true l k s false false true x z v r = refl
+date-tests true l k s true false false true true v r = refl
+date-tests true l k s true false false true false v r = refl
+date-tests true l k s true false false false true v r = refl
+date-tests true l k s true false false false false v r = refl
+date-tests true l k s false false false x true v r = refl
+date-tests true l k s false false false x false v r = refl
+
+pub dating-rows : (accepted : Bool) (c : Clock.Clock) (t : ℕ) (d : ℤ) (u : ℕ) (ds : List ℤ) (os : List ℕ) (e : ℤ)
+    → tests (Clock.dating accepted c t d u ds os e) ≡ Rows.dating (not accepted) c t d u ds os e
+dating-rows k c t d u ds os e =
+    let z = Clock.time c (Clock.elapsed c t) in
+    let m = Clock.momentAfter (c .scale) ds os z in
+    date-tests (isUtc (c .scale)) (accepted ds os e) k (inSpan (c .scale) d u) (Clock.inWindow c (Clock.elapsed c t)) (isExpiredDay e (c .day)) (isExpiredDay e d)
+    (hasMicro ds d u) (isExpiredTai ds os e z) (Clock.covers c (Clock.instant (c .scale) ds os d u)) (inSpan (c .scale) (m .day) (m .micro))
+
+-- back to a count: i says whether the time is of the clock's scale
+count-tests : (f u l k s i a b x v : Bool) →
+    _≡_ {A = List (ℕ × Bool)}
+    ((4, not f) ∷ (5, not (not u || l)) ∷ (6, not k) ∷ (7, not s)
+    ∷ (8, not (not i || cond ((not u || not a) && ((not u || not b) && (not u || x))) v true))
+    ∷ (9, not ((not u || not a) && (not i || (not u || not b)))) ∷ (10, not (not i || (not u || x))) ∷ (12, not i) ∷ [])
+    ((4, not f) ∷ (5, u && not l) ∷ (6, not k) ∷ (7, not s)
+    ∷ (8, i && ((not (u && a) && (not (u && b) && not (u && not x))) && not v))
+    ∷ (9, (u && a) || (i && (u && b))) ∷ (10, i && (u && not x)) ∷ (12, not i) ∷ [])
+count-tests f false l k s true a b x v = refl
+count-tests f false l k s false a b x v = refl
+count-tests f true l k s true true b x v = refl
+count-tests f true l k s false true b x v = refl
+count-tests f true l k s true false true x v = refl
+count-tests f true l k s true false false true v = refl
+count-tests f true l k s true false false false v = refl
+count-tests f true l k s false false b x v = refl
+
+pub turning-rows : (accepted : Bool) (c : Clock.Clock) (h : Handed) (ds : List ℤ) (os : List ℕ) (e : ℤ)
+    → tests (Clock.turning accepted c h ds os e) ≡ Rows.turning (not accepted) c h ds os e
+turning-rows k c h ds os e =
+    count-tests (isFinite h) (isUtc (c .scale)) (accepted ds os e) k (isInSpan h) (Clock.hasImage (c .scale) h) (isExpiredDay e (c .day)) (isExpiredDay e (dayOf h))
+    (hasMicro ds (dayOf h) (microOf h)) (Clock.covers c (Clock.instantOf (c .scale) ds os h))

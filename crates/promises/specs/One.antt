@@ -49,8 +49,9 @@ use Rattle.text_write.specs.declared.Form.{Form}
 use Rattle.lines.specs.Meaning.{refusedText, told, lineDating, answerTo}
 use Rattle.lines_laws.specs.First.{lineJudging, line-outcome, line-order}
 use Rattle.promises.specs.Meaning.{tests, applies, firstOf, Promise}
+use Rattle.promises.specs.Conditions as C
 use Rattle.promises.specs.Rows as Rows
-use Rattle.promises.specs.Judging.{change-rows, list-rows, turning-rows, text-read-rows, text-write-rows, line-rows}
+use Rattle.promises.specs.Judging.{change-rows, list-rows, dating-rows, turning-rows, text-read-rows, text-write-rows, line-rows}
 use Rattle.promises.specs.First.{numberIn, order-clear, first-is, promised}
 
 -- ---- the kinds of answers
@@ -160,23 +161,25 @@ gps-to-utc n ds os e = times S.Utc (Changes.withList ds os e (Changes.gpsInUtc d
 
 -- ---- SBT correlation
 
-pub sbt-date : (c : Correlation) (t : ℕ) (d : ℤ) (u : ℕ) → Times (c .scale) (Sbt.dateOf c t d u) (Sbt.dating c t d u) (Rows.sbtDate c t d u)
+pub sbt-date : (c : Correlation) (t : ℕ) (d : ℤ) (u : ℕ) (ds : List ℤ) (os : List ℕ) (e : ℤ) → Times (c .scale) (Sbt.dateOf c t d u ds os e) (Sbt.dating c t d u ds os e) (Rows.sbtDate c t d u ds os e)
 unfolding Sbt.dateOf
-sbt-date c t d u = times (c .scale) (Sbt.dating c t d u) refl refl
+sbt-date c t d u ds os e = times (c .scale) (Sbt.dating c t d u ds os e) (dating-rows (Sbt.accepted c) (Sbt.clockOf c ds os) t d u ds os e) refl
 
-pub sbt-tick : (c : Correlation) (h : Handed) → Values 0 (Sbt.tickOf c h) (Sbt.turning c h) (Rows.sbtTick c h)
+pub sbt-tick : (c : Correlation) (h : Handed) (ds : List ℤ) (os : List ℕ) (e : ℤ) → Values 0 (Sbt.tickOf c h ds os e) (Sbt.turning c h ds os e) (Rows.sbtTick c h ds os e)
 unfolding Sbt.tickOf
-sbt-tick c h = values 0 (Sbt.turning c h) (turning-rows (Sbt.accepted c) (Sbt.clockOf c) h) refl
+sbt-tick c h ds os e = values 0 (Sbt.turning c h ds os e) (turning-rows (Sbt.accepted c) (Sbt.clockOf c ds os) h ds os e) refl
 
 -- ---- GOCE's correlation
 
-pub goce-date : (c : GoceDeclared.Correlation) (t : ℕ) (d : ℤ) (u : ℕ) → Times S.Utc (Goce.dateOf c t d u) (Goce.dating c t d u) (Rows.goceDate c t d u)
+pub goce-date : (c : GoceDeclared.Correlation) (t : ℕ) (d : ℤ) (u : ℕ) (ds : List ℤ) (os : List ℕ) (e : ℤ) → Times S.Utc (Goce.dateOf c t d u ds os e) (Goce.dating c t d u ds os e) (Rows.goceDate c t d u ds os e)
 unfolding Goce.dateOf
-goce-date c t d u = times S.Utc (Goce.dating c t d u) refl refl
+goce-date c t d u ds os e =
+    times S.Utc (Goce.dating c t d u ds os e)
+    (ap (λ (rs : List (ℕ × Bool)). (3, C.countOver 48 t) ∷ rs) (dating-rows (Goce.accepted c) (Goce.clockOf c ds os) t d u ds os e)) refl
 
-pub goce-count : (c : GoceDeclared.Correlation) (h : Handed) → Values 0 (Goce.obtOf c h) (Goce.turning c h) (Rows.goceCount c h)
+pub goce-count : (c : GoceDeclared.Correlation) (h : Handed) (ds : List ℤ) (os : List ℕ) (e : ℤ) → Values 0 (Goce.obtOf c h ds os e) (Goce.turning c h ds os e) (Rows.goceCount c h ds os e)
 unfolding Goce.obtOf
-goce-count c h = values 0 (Goce.turning c h) (turning-rows (Goce.accepted c) (Goce.clockOf c) h) refl
+goce-count c h ds os e = values 0 (Goce.turning c h ds os e) (turning-rows (Goce.accepted c) (Goce.clockOf c ds os) h ds os e) refl
 
 -- ---- bytes and fields
 

@@ -90,27 +90,33 @@ unfolding CApi.changed
 change h c ds os e = times (scaleAt c) (CApi.changingOf h c ds os e) (in-front (CApi.knownScale c && CApi.known h) (Changes.changing (CApi.handedOf h) (scaleAt c) ds os e) (change-rows ds os e (CApi.handedOf h) (scaleAt c)))
     (any (CApi.handedOf h) (scaleAt c) ds os e)
 
-pub sbt-date : (t : ℕ) (c : VrkSbtCorrelation) (d : ℤ) (u : ℕ) → Times (CApi.correlationOf c .scale) (CApi.sbtDate t c d u) (Sbt.dating (CApi.correlationOf c) t d u)
-    (Rows.sbtDate (CApi.correlationOf c) t d u)
+pub sbt-date : (t : ℕ) (c : VrkSbtCorrelation) (d : ℤ) (u : ℕ) (ds : List ℤ) (os : List ℕ) (e : ℤ) →
+    Times (CApi.correlationOf c .scale) (CApi.sbtDate t c d u ds os e) (Sbt.dating (CApi.correlationOf c) t d u ds os e)
+    (Rows.sbtDate (CApi.correlationOf c) t d u ds os e)
 unfolding CApi.sbtDate Sbt.dateOf
-sbt-date t c d u = times (CApi.correlationOf c .scale) (Sbt.dating (CApi.correlationOf c) t d u) refl refl
+sbt-date t c d u ds os e =
+    times (CApi.correlationOf c .scale) (Sbt.dating (CApi.correlationOf c) t d u ds os e) (One.sbt-date (CApi.correlationOf c) t d u ds os e .judges) refl
 
-pub sbt-tick : (h : VrkHanded) (c : VrkSbtCorrelation) → Counts (CApi.sbtTick h c) (given (CApi.known h) 3 (Sbt.turning (CApi.correlationOf c) (CApi.handedOf h)))
-    ((3, C.handedUnknown h) ∷ Rows.sbtTick (CApi.correlationOf c) (CApi.handedOf h))
+pub sbt-tick : (h : VrkHanded) (c : VrkSbtCorrelation) (ds : List ℤ) (os : List ℕ) (e : ℤ) →
+    Counts (CApi.sbtTick h c ds os e) (given (CApi.known h) 3 (Sbt.turning (CApi.correlationOf c) (CApi.handedOf h) ds os e))
+    ((3, C.handedUnknown h) ∷ Rows.sbtTick (CApi.correlationOf c) (CApi.handedOf h) ds os e)
 unfolding CApi.sbtTick
-sbt-tick h c = counts (given (CApi.known h) 3 (Sbt.turning (CApi.correlationOf c) (CApi.handedOf h)))
-    (in-front (CApi.known h) (Sbt.turning (CApi.correlationOf c) (CApi.handedOf h)) (One.sbt-tick (CApi.correlationOf c) (CApi.handedOf h) .judges)) refl
+sbt-tick h c ds os e =
+    let j = Sbt.turning (CApi.correlationOf c) (CApi.handedOf h) ds os e in
+    counts (given (CApi.known h) 3 j) (in-front (CApi.known h) j (One.sbt-tick (CApi.correlationOf c) (CApi.handedOf h) ds os e .judges)) refl
 
-pub goce-date : (t : ℕ) (c : VrkGoceCorrelation) (d : ℤ) (u : ℕ) → Times S.Utc (CountsForC.goceDate t c d u) (Goce.dating (CountsForC.goceOf c) t d u)
-    (Rows.goceDate (CountsForC.goceOf c) t d u)
+pub goce-date : (t : ℕ) (c : VrkGoceCorrelation) (d : ℤ) (u : ℕ) (ds : List ℤ) (os : List ℕ) (e : ℤ) →
+    Times S.Utc (CountsForC.goceDate t c d u ds os e) (Goce.dating (CountsForC.goceOf c) t d u ds os e) (Rows.goceDate (CountsForC.goceOf c) t d u ds os e)
 unfolding CountsForC.goceDate Goce.dateOf
-goce-date t c d u = times S.Utc (Goce.dating (CountsForC.goceOf c) t d u) refl refl
+goce-date t c d u ds os e = times S.Utc (Goce.dating (CountsForC.goceOf c) t d u ds os e) (One.goce-date (CountsForC.goceOf c) t d u ds os e .judges) refl
 
-pub goce-count : (h : VrkHanded) (c : VrkGoceCorrelation) → Counts (CountsForC.goceCount h c) (given (CApi.known h) 3 (Goce.turning (CountsForC.goceOf c) (CApi.handedOf h)))
-    ((3, C.handedUnknown h) ∷ Rows.goceCount (CountsForC.goceOf c) (CApi.handedOf h))
+pub goce-count : (h : VrkHanded) (c : VrkGoceCorrelation) (ds : List ℤ) (os : List ℕ) (e : ℤ) →
+    Counts (CountsForC.goceCount h c ds os e) (given (CApi.known h) 3 (Goce.turning (CountsForC.goceOf c) (CApi.handedOf h) ds os e))
+    ((3, C.handedUnknown h) ∷ Rows.goceCount (CountsForC.goceOf c) (CApi.handedOf h) ds os e)
 unfolding CountsForC.goceCount
-goce-count h c = counts (given (CApi.known h) 3 (Goce.turning (CountsForC.goceOf c) (CApi.handedOf h)))
-    (in-front (CApi.known h) (Goce.turning (CountsForC.goceOf c) (CApi.handedOf h)) (One.goce-count (CountsForC.goceOf c) (CApi.handedOf h) .judges)) refl
+goce-count h c ds os e =
+    let j = Goce.turning (CountsForC.goceOf c) (CApi.handedOf h) ds os e in
+    counts (given (CApi.known h) 3 j) (in-front (CApi.known h) j (One.goce-count (CountsForC.goceOf c) (CApi.handedOf h) ds os e .judges)) refl
 
 pub cuc-read : (s : List ℕ) → Times S.Gps (CApi.timeOut (Cuc.read s)) (Cuc.reading s)
     (Rows.cucRead s)

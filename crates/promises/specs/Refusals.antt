@@ -42,17 +42,17 @@ decimal-read x c = refl
 pub decimal-write : (h : VrkHanded) (r : VrkDecimal) (q : CApi.DecimalWrote h r) → refusals (rowsAllowed (OneForC.decimal-write h r q)) ≡ 3 ∷ 4 ∷ 7 ∷ 12 ∷ []
 decimal-write h r q = refl
 
-pub sbt-date : (t : ℕ) (c : VrkSbtCorrelation) (d : ℤ) (u : ℕ) → refusals (rowsOf (OneForC.sbt-date t c d u)) ≡ 6 ∷ 7 ∷ 8 ∷ 11 ∷ []
-sbt-date t c d u = refl
+pub sbt-date : (t : ℕ) (c : VrkSbtCorrelation) (d : ℤ) (u : ℕ) (ds : List ℤ) (os : List ℕ) (e : ℤ) → refusals (rowsOf (OneForC.sbt-date t c d u ds os e)) ≡ 5 ∷ 6 ∷ 7 ∷ 8 ∷ 9 ∷ 10 ∷ 11 ∷ []
+sbt-date t c d u ds os e = refl
 
-pub sbt-tick : (h : VrkHanded) (c : VrkSbtCorrelation) → refusals (rowsOf (OneForC.sbt-tick h c)) ≡ 3 ∷ 4 ∷ 6 ∷ 7 ∷ 8 ∷ 12 ∷ []
-sbt-tick h c = refl
+pub sbt-tick : (h : VrkHanded) (c : VrkSbtCorrelation) (ds : List ℤ) (os : List ℕ) (e : ℤ) → refusals (rowsOf (OneForC.sbt-tick h c ds os e)) ≡ 3 ∷ 4 ∷ 5 ∷ 6 ∷ 7 ∷ 8 ∷ 9 ∷ 10 ∷ 12 ∷ []
+sbt-tick h c ds os e = refl
 
-pub goce-date : (t : ℕ) (c : VrkGoceCorrelation) (d : ℤ) (u : ℕ) → refusals (rowsOf (OneForC.goce-date t c d u)) ≡ 3 ∷ 6 ∷ 7 ∷ 8 ∷ 11 ∷ []
-goce-date t c d u = refl
+pub goce-date : (t : ℕ) (c : VrkGoceCorrelation) (d : ℤ) (u : ℕ) (ds : List ℤ) (os : List ℕ) (e : ℤ) → refusals (rowsOf (OneForC.goce-date t c d u ds os e)) ≡ 3 ∷ 5 ∷ 6 ∷ 7 ∷ 8 ∷ 9 ∷ 10 ∷ 11 ∷ []
+goce-date t c d u ds os e = refl
 
-pub goce-count : (h : VrkHanded) (c : VrkGoceCorrelation) → refusals (rowsOf (OneForC.goce-count h c)) ≡ 3 ∷ 4 ∷ 6 ∷ 7 ∷ 8 ∷ 12 ∷ []
-goce-count h c = refl
+pub goce-count : (h : VrkHanded) (c : VrkGoceCorrelation) (ds : List ℤ) (os : List ℕ) (e : ℤ) → refusals (rowsOf (OneForC.goce-count h c ds os e)) ≡ 3 ∷ 4 ∷ 5 ∷ 6 ∷ 7 ∷ 8 ∷ 9 ∷ 10 ∷ 12 ∷ []
+goce-count h c ds os e = refl
 
 pub change : (h : VrkHanded) (ds : List ℤ) (os : List ℕ) (e : ℤ)
     → refusals (overAll (λ (k : ℕ) (s to : Scale). rowsOf (OneForC.change (handedAs k s h) (codeOf to) ds os e))) ≡ 3 ∷ 4 ∷ 5 ∷ 7 ∷ 9 ∷ 10 ∷ 11 ∷ []

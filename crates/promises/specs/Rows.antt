@@ -102,27 +102,42 @@ byList s to n ds os e =
     (5, C.listNotAccepted true ds os e) ∷ moving s to ds os e (C.outsideSpan s m) m
 
 -- ---- a correlated counter: the date of a count, and the count of a time
-abbrev pub dating : Clock → ℕ → ℤ → ℕ → List (ℕ × Bool)
-dating c t d u =
-    (7, C.receiptOutside c d u)
-    ∷ (8, C.notInForce c t d u)
-    ∷ (11, C.resultOutside (c .scale) (momentAfter (c .scale) (time c (elapsed c t))))
+-- `none` says whether the correlation is not accepted
+abbrev pub dating : Bool → Clock → ℕ → ℤ → ℕ → List ℤ → List ℕ → ℤ → List (ℕ × Bool)
+dating none c t d u ds os e =
+    let m : Moment = record { day = d; micro = u } in
+    (5, C.listNotAccepted (isUtc (c .scale)) ds os e)
+    ∷ (6, none)
+    ∷ (7, C.receiptOutside c m)
+    ∷ (8, C.notInForce c t m ds os e)
+    ∷ (9, C.dateExpired c t m ds os e)
+    ∷ (10, C.secondLacking (isUtc (c .scale)) ds m)
+    ∷ (11, C.resultOutside (c .scale) (momentAfter (c .scale) ds os (time c (elapsed c t))))
     ∷ []
 
-abbrev pub turning : Clock → Handed → List (ℕ × Bool)
-turning c h = (7, C.timeOutside h) ∷ (8, C.notCovered c h) ∷ (12, C.noCount c h) ∷ []
+abbrev pub turning : Bool → Clock → Handed → List ℤ → List ℕ → ℤ → List (ℕ × Bool)
+turning none c h ds os e =
+    (4, C.decimalNotFinite h)
+    ∷ (5, C.listNotAccepted (isUtc (c .scale)) ds os e)
+    ∷ (6, none)
+    ∷ (7, C.timeOutside h)
+    ∷ (8, C.notCovered c h ds os e)
+    ∷ (9, C.countExpired c h e)
+    ∷ (10, C.givenLacking c h ds)
+    ∷ (12, C.noCount c h)
+    ∷ []
 
-abbrev pub sbtDate : Correlation → ℕ → ℤ → ℕ → List (ℕ × Bool)
-sbtDate c t d u = (6, C.sbtNotAccepted c) ∷ dating (Sbt.clockOf c) t d u
+abbrev pub sbtDate : Correlation → ℕ → ℤ → ℕ → List ℤ → List ℕ → ℤ → List (ℕ × Bool)
+sbtDate c t d u ds os e = dating (C.sbtNotAccepted c) (Sbt.clockOf c ds os) t d u ds os e
 
-abbrev pub sbtTick : Correlation → Handed → List (ℕ × Bool)
-sbtTick c h = (4, C.decimalNotFinite h) ∷ (6, C.sbtNotAccepted c) ∷ turning (Sbt.clockOf c) h
+abbrev pub sbtTick : Correlation → Handed → List ℤ → List ℕ → ℤ → List (ℕ × Bool)
+sbtTick c h ds os e = turning (C.sbtNotAccepted c) (Sbt.clockOf c ds os) h ds os e
 
-abbrev pub goceDate : GoceDeclared.Correlation → ℕ → ℤ → ℕ → List (ℕ × Bool)
-goceDate c t d u = (3, C.countOver 48 t) ∷ (6, C.goceNotAccepted c) ∷ dating (Goce.clockOf c) t d u
+abbrev pub goceDate : GoceDeclared.Correlation → ℕ → ℤ → ℕ → List ℤ → List ℕ → ℤ → List (ℕ × Bool)
+goceDate c t d u ds os e = (3, C.countOver 48 t) ∷ dating (C.goceNotAccepted c) (Goce.clockOf c ds os) t d u ds os e
 
-abbrev pub goceCount : GoceDeclared.Correlation → Handed → List (ℕ × Bool)
-goceCount c h = (4, C.decimalNotFinite h) ∷ (6, C.goceNotAccepted c) ∷ turning (Goce.clockOf c) h
+abbrev pub goceCount : GoceDeclared.Correlation → Handed → List ℤ → List ℕ → ℤ → List (ℕ × Bool)
+goceCount c h ds os e = turning (C.goceNotAccepted c) (Goce.clockOf c ds os) h ds os e
 
 -- ---- bytes and fields
 abbrev pub cucFieldsRead : List ℕ → List (ℕ × Bool)
