@@ -29,8 +29,8 @@ fn day_of(year: i64, month: u64) -> i64 {
     independent::calendar::day_of(&independent::calendar::Date { day: 1, month, year }).expect("a date")
 }
 
-fn dated(layout: u8, time: &[u8], receipt: Moment) -> Result<(Scale, Moment), Number> {
-    let ticks = Correlation {
+fn dated(layout: u8, time: &[u8], receipt: Moment, list: &List) -> Result<(Scale, Moment), Number> {
+    let mut ticks = Correlation {
         tick: 0xFFFF_F000,
         scale: Scale::Utc,
         reference: Moment { day: 640, micro: 36_000_000_000 },
@@ -38,7 +38,7 @@ fn dated(layout: u8, time: &[u8], receipt: Moment) -> Result<(Scale, Moment), Nu
         back: 86_400 * 256,
         ahead: 30 * 86_400 * 256,
     };
-    let counts = independent::goce::Correlation {
+    let mut counts = independent::goce::Correlation {
         obt0: 0xFFFF_FFFF_0000,
         utc0: (3363 * 86_400 + 57_600) * 65_536,
         offset: -16_384,
@@ -46,13 +46,20 @@ fn dated(layout: u8, time: &[u8], receipt: Moment) -> Result<(Scale, Moment), Nu
         back: 86_400 * 65_536,
         ahead: 30 * 86_400 * 65_536,
     };
+    // the newer correlations, of 31 December 2016
+    if receipt.day >= 6209 {
+        let reference = Moment { day: 6209, micro: 86_399_000_000 };
+        ticks = Correlation { tick: 7, reference, back: 2000, ahead: 2000, ..ticks };
+        let (utc0, window) = ((6209 * 86_400 + 86_399) * 65_536, 8 * 65_536);
+        counts = independent::goce::Correlation { obt0: 7, utc0, offset: 1, gradient: 1_000_000_000, back: window, ahead: window };
+    }
     match layout {
         1 => Ok((Scale::Gps, cuc::read(time)?)),
         2 => Ok((Scale::Utc, proteus::read(time)?.0)),
         3 => Ok((Scale::Tai, cryosat::read(time)?)),
         4 => Ok((Scale::Tai, siral::read(time)?)),
-        5 => Ok((Scale::Utc, ticks.date(sbt::read(time)? as u32, receipt)?)),
-        _ => Ok((Scale::Utc, counts.date(goce::read(time)?, receipt)?)),
+        5 => Ok((Scale::Utc, ticks.date(sbt::read(time)? as u32, receipt, list)?)),
+        _ => Ok((Scale::Utc, counts.date(goce::read(time)?, receipt, list)?)),
     }
 }
 
@@ -69,7 +76,7 @@ fn main() {
             continue;
         }
         let receipt = Moment { day: i64::from(number(&packet[12..16]) as i32), micro: number(&packet[16..]) };
-        let line = dated(layout, &packet[2..2 + count], receipt)
+        let line = dated(layout, &packet[2..2 + count], receipt, &list)
             .and_then(|(scale, moment)| change(Handed::Record(scale, moment), Scale::Utc, &list))
             .and_then(|utc| text::write(Handed::Record(Scale::Utc, utc), 31, &list));
         let said = match line {

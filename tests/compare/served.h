@@ -7,7 +7,7 @@ enum {
 };
 
 enum { ANSWER = 5 };
-enum { WORDS = 12, SLICES = 3 };
+enum { WORDS = 13, SLICES = 3 };
 
 /* How many words and slices a function takes; the bytes of a slice's element, and whether it is written. */
 static const struct shape {
@@ -28,12 +28,12 @@ static const struct shape {
     [SBT_WRITE] = {1, 1, {{1, 1}}},
     [PROTEUS_READ] = {0, 1, {{1, 0}}},
     [PROTEUS_WRITE] = {6, 1, {{1, 1}}},
-    [GOCE_DATE] = {9, 0, {{0, 0}}},
-    [GOCE_COUNT] = {11, 0, {{0, 0}}},
+    [GOCE_DATE] = {10, 2, {{8, 0}, {8, 0}}},
+    [GOCE_COUNT] = {12, 2, {{8, 0}, {8, 0}}},
     [DECIMAL_READ] = {2, 0, {{0, 0}}},
     [DECIMAL_WRITE] = {5, 0, {{0, 0}}},
-    [SBT_DATE] = {10, 0, {{0, 0}}},
-    [SBT_TICK] = {12, 0, {{0, 0}}},
+    [SBT_DATE] = {11, 2, {{8, 0}, {8, 0}}},
+    [SBT_TICK] = {13, 2, {{8, 0}, {8, 0}}},
     [LIST_ACCEPTED] = {1, 2, {{8, 0}, {8, 0}}},
     [CHANGE] = {7, 2, {{8, 0}, {8, 0}}},
     [CUC_FIELDS_READ] = {0, 1, {{1, 0}}},
@@ -121,12 +121,12 @@ static int call(uint64_t function) {
     case SBT_WRITE: written_is(vrk_sbt_write((uint32_t)w[0], LENT(uint8_t, 0))); return 1;
     case PROTEUS_READ: proteus_is(vrk_proteus_read(GIVEN(uint8_t, 0))); return 1;
     case PROTEUS_WRITE: written_is(vrk_proteus_write(handed_at(w), (uint32_t)w[5], LENT(uint8_t, 0))); return 1;
-    case GOCE_DATE: time_is(vrk_goce_date(w[0], goce_correlation_at(w + 1), (int64_t)w[7], w[8])); return 1;
-    case GOCE_COUNT: count_is(vrk_goce_count(handed_at(w), goce_correlation_at(w + 5))); return 1;
+    case GOCE_DATE: time_is(vrk_goce_date(w[0], goce_correlation_at(w + 1), (int64_t)w[7], w[8], GIVEN(int64_t, 0), GIVEN(uint64_t, 1), (int64_t)w[9])); return 1;
+    case GOCE_COUNT: count_is(vrk_goce_count(handed_at(w), goce_correlation_at(w + 5), GIVEN(int64_t, 0), GIVEN(uint64_t, 1), (int64_t)w[11])); return 1;
     case DECIMAL_READ: time_is(vrk_decimal_read(double_of(w[0]), (uint32_t)w[1])); return 1;
     case DECIMAL_WRITE: decimal_is(vrk_decimal_write(handed_at(w))); return 1;
-    case SBT_DATE: time_is(vrk_sbt_date((uint32_t)w[0], sbt_correlation_at(w + 1), (int64_t)w[8], w[9])); return 1;
-    case SBT_TICK: count_is(vrk_sbt_tick(handed_at(w), sbt_correlation_at(w + 5))); return 1;
+    case SBT_DATE: time_is(vrk_sbt_date((uint32_t)w[0], sbt_correlation_at(w + 1), (int64_t)w[8], w[9], GIVEN(int64_t, 0), GIVEN(uint64_t, 1), (int64_t)w[10])); return 1;
+    case SBT_TICK: count_is(vrk_sbt_tick(handed_at(w), sbt_correlation_at(w + 5), GIVEN(int64_t, 0), GIVEN(uint64_t, 1), (int64_t)w[12])); return 1;
     case LIST_ACCEPTED: answer[0] = vrk_list_accepted(GIVEN(int64_t, 0), GIVEN(uint64_t, 1), (int64_t)w[0]); return 1;
     case CHANGE: time_is(vrk_change(handed_at(w), (uint32_t)w[5], GIVEN(int64_t, 0), GIVEN(uint64_t, 1), (int64_t)w[6])); return 1;
     case CUC_FIELDS_READ: cuc_fields_is(vrk_cuc_fields_read(GIVEN(uint8_t, 0))); return 1;

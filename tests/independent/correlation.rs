@@ -1,7 +1,8 @@
 //! SBT ticks and their correlation.
 
-use super::clock::{plain, Clock};
-use super::time::{since_day_0, Handed, Moment, Scale};
+use super::clock::Clock;
+use super::leap::List;
+use super::time::{since_day_0, Handed, Moment, Scale, DAY};
 use super::Number;
 
 pub struct Correlation {
@@ -19,10 +20,15 @@ impl Clock for Correlation {
     }
 
     fn accepted(&self) -> bool {
-        plain(self.scale, self.reference)
+        self.scale.spans(self.reference)
+            && i128::from(self.reference.micro) < DAY
             && (3_906_000_000..=3_906_500_000).contains(&self.period)
             && self.back <= 1 << 31
             && self.ahead < 1 << 31
+    }
+
+    fn reference_day(&self) -> i64 {
+        self.reference.day
     }
 
     fn time(&self, k: i128) -> i128 {
@@ -35,14 +41,14 @@ impl Clock for Correlation {
 }
 
 impl Correlation {
-    /// 6, 7, 8, 11 in this order, or the tick's time.
-    pub fn date(&self, tick: u32, receipt: Moment) -> Result<Moment, Number> {
+    /// 5, 6, 7, 8, 9, 10, 11 in this order, or the tick's time.
+    pub fn date(&self, tick: u32, receipt: Moment, list: &List) -> Result<Moment, Number> {
         // two's complement: the difference in 32 bits, as a signed number
-        self.time_at(i128::from(tick.wrapping_sub(self.tick) as i32), receipt)
+        self.time_at(i128::from(tick.wrapping_sub(self.tick) as i32), receipt, list)
     }
 
-    /// 4, 6, 7, 12, 8 in this order, or the last tick of the window whose time is not later.
-    pub fn tick_of(&self, handed: Handed) -> Result<u32, Number> {
-        Ok(self.tick.wrapping_add(self.last_not_later(handed)? as i32 as u32))
+    /// 4, 5, 6, 7, 8, 9, 10, 12 in this order, or the last tick of the window whose time is not later.
+    pub fn tick_of(&self, handed: Handed, list: &List) -> Result<u32, Number> {
+        Ok(self.tick.wrapping_add(self.last_not_later(handed, list)? as i32 as u32))
     }
 }

@@ -1,6 +1,7 @@
-//! GOCE's counts of 1/65536 s and their correlation, from document 02's first request and document 002, 4.2.6.
+//! GOCE's counts of 1/65536 s and their correlation, from document 02's first two requests and document 002, 4.2.6.
 
 use super::clock::Clock;
+use super::leap::List;
 use super::time::{Handed, Moment, Scale};
 use super::Number;
 
@@ -33,6 +34,10 @@ impl Clock for Correlation {
             && (first..=last).contains(&self.reference().div_euclid(DAY))
     }
 
+    fn reference_day(&self) -> i64 {
+        self.reference().div_euclid(DAY) as i64
+    }
+
     /// The exact sum is in billionths of a count, 65,536,000 to a microsecond; it alone is rounded.
     fn time(&self, k: i128) -> i128 {
         (self.reference() * 1_000_000_000 + k * i128::from(self.gradient)).div_euclid(65_536_000)
@@ -44,23 +49,23 @@ impl Clock for Correlation {
 }
 
 impl Correlation {
-    /// UTC at OBT0, in counts since day 0.
+    /// UTC at OBT0, in counts since day 0, in days of 86,400 s.
     fn reference(&self) -> i128 {
         i128::from(self.utc0) + i128::from(self.offset)
     }
 
-    /// 3, 6, 7, 8, 11 in this order, or the count's time.
-    pub fn date(&self, obt: u64, receipt: Moment) -> Result<Moment, Number> {
+    /// 3, 5, 6, 7, 8, 9, 10, 11 in this order, or the count's time.
+    pub fn date(&self, obt: u64, receipt: Moment, list: &List) -> Result<Moment, Number> {
         if obt >= WRAP {
             return Err(3);
         }
         let (wrap, half) = (i128::from(WRAP), i128::from(WRAP / 2));
         let k = (i128::from(obt) - i128::from(self.obt0) + half).rem_euclid(wrap) - half;
-        self.time_at(k, receipt)
+        self.time_at(k, receipt, list)
     }
 
-    /// 4, 6, 7, 12, 8 in this order, or the last count of the window whose time is not later.
-    pub fn count_of(&self, handed: Handed) -> Result<u64, Number> {
-        Ok((i128::from(self.obt0) + self.last_not_later(handed)?).rem_euclid(i128::from(WRAP)) as u64)
+    /// 4, 5, 6, 7, 8, 9, 10, 12 in this order, or the last count of the window whose time is not later.
+    pub fn count_of(&self, handed: Handed, list: &List) -> Result<u64, Number> {
+        Ok((i128::from(self.obt0) + self.last_not_later(handed, list)?).rem_euclid(i128::from(WRAP)) as u64)
     }
 }

@@ -45,9 +45,15 @@ impl List<'_> {
         Ok(())
     }
 
+    /// TAI minus UTC on a day, in microseconds; 9 where the day is expired.
+    pub fn difference(&self, day: i64) -> Result<i128, Number> {
+        self.exists(Moment { day, micro: 0 })?;
+        Ok(self.offset(day) * SECOND)
+    }
+
     pub fn to_tai(&self, moment: Moment) -> Result<i128, Number> {
         self.exists(moment)?;
-        Ok(since_day_0(moment) + self.offset(moment.day) * SECOND)
+        Ok(since_day_0(moment) + self.difference(moment.day)?)
     }
 
     /// 9, then 11 before the first UTC time, or the UTC time whose TAI this is.

@@ -33,6 +33,11 @@ impl Scale {
     pub fn bound(self) -> u64 {
         if self == Scale::Utc { 86_401_000_000 } else { 86_400_000_000 }
     }
+
+    /// Whether a time lies in the scale's span.
+    pub fn spans(self, moment: Moment) -> bool {
+        self.first_day() <= moment.day && moment.day <= self.last_day() && moment.micro < self.bound()
+    }
 }
 
 #[derive(Clone, Copy, PartialEq, Eq, Debug)]
@@ -65,10 +70,7 @@ impl Handed {
     /// 7, and the time otherwise; of a decimal day that is finite.
     pub fn moment(self) -> Result<Moment, Number> {
         match self {
-            Handed::Record(scale, moment) => {
-                let inside = scale.first_day() <= moment.day && moment.day <= scale.last_day() && moment.micro < scale.bound();
-                if inside { Ok(moment) } else { Err(7) }
-            }
+            Handed::Record(scale, moment) => if scale.spans(moment) { Ok(moment) } else { Err(7) },
             Handed::Decimal(scale, day) => decimal::read(day, scale),
         }
     }

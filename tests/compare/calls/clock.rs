@@ -1,7 +1,12 @@
 //! Windows, receipts and times to be turned back, for the clocks of SBT and of GOCE.
 
-use super::{handed, Call, Random};
+use super::{handed, leap, Call, Function, Random};
+use crate::independent::clock::Clock;
 use crate::independent::time::{moment_at, Moment};
+
+const DAY: u64 = 86_400_000_000;
+/// The counts that GOCE's window may have, either way; SBT's has fewer.
+const FAR: i128 = 1 << 47;
 
 /// How far a window reaches one way, `most` being the farthest.
 pub fn reach(random: &mut Random, most: u64) -> u64 {
@@ -57,4 +62,60 @@ pub fn handed(random: &mut Random, scale: u64, moment: Moment) -> Vec<u64> {
         }
     }
     all
+}
+
+/// The reference of a UTC clock: about a step of its list, or at most so many days from it; seldom in second 60.
+pub fn reference(random: &mut Random, step: i64, days: u64) -> Moment {
+    let mut moment = match random.below(4) {
+        0 => leap::about(random, step),
+        1 => Moment { day: random.near(step, 2), micro: random.below(DAY) },
+        _ => Moment { day: random.near(step, days), micro: random.below(DAY) },
+    };
+    if moment.micro >= DAY && !random.one_in(8) {
+        moment.micro -= DAY;
+    }
+    moment
+}
+
+/// Of a UTC clock, whose words end with its window: a count whose time is about one step of the list, and a moment at which it is
+/// received or which is turned back: about another step, at an end of the window, or in second 60 of some day.
+pub fn about<C: Clock>(
+    random: &mut Random,
+    words: &mut [u64],
+    of: impl Fn(&[u64]) -> C,
+    list: &leap::Made,
+    [step, other]: [i64; 2],
+) -> (i128, Moment) {
+    let clock = of(words);
+    let moved = list.difference(clock.reference_day());
+    let place = |k: i128| clock.time(k.clamp(-FAR, FAR)) + moved;
+    let wanted = list.place(leap::about(random, step));
+    let (mut low, mut high) = (-FAR, FAR);
+    while low < high {
+        let middle = (low + high + 1) >> 1;
+        if place(middle) <= wanted { low = middle } else { high = middle - 1 }
+    }
+    // the last that is not later, or the next
+    let k = low + i128::from(random.one_in(3));
+    let (end, away) = (words.len() - if k < 0 { 2 } else { 1 }, k.abs().min(FAR - 1) as u64);
+    if random.one_in(if words[end] < away { 2 } else { 8 }) {
+        // the window ends with it, or just before it
+        words[end] = away.saturating_sub(u64::from(random.one_in(4)));
+    }
+    let moment = match random.below(8) {
+        0 => {
+            let (back, ahead) = of(words).ends();
+            let end = if random.one_in(2) { back } else { ahead };
+            list.moment_at(place(end) + random.pick(&[-1, 0, 1]))
+        }
+        1 => Moment { day: random.near(clock.reference_day(), 3), micro: DAY + random.below(1_000_000) },
+        _ => leap::about(random, other),
+    };
+    (k, moment)
+}
+
+/// A call with these numbers, the list behind them.
+pub fn call(function: Function, mut words: Vec<u64>, list: &leap::Made) -> Call {
+    words.push(list.last());
+    Call { function, words, slices: list.slices().into() }
 }

@@ -1,4 +1,4 @@
-use super::{answered, clock, counted, handed, timed, Answer, Call, Function, Pair, Random};
+use super::{answered, clock, counted, handed, leap, timed, Answer, Call, Function, Pair, Random};
 use crate::independent::correlation::Correlation;
 use crate::independent::time::{since_day_0, Moment, Scale};
 
@@ -10,7 +10,11 @@ pub const PAIRS: &[Pair] = &[
 /// The seven words of a vrk_sbt_correlation: tick, scale, day, micro, period, back, ahead.
 fn words(random: &mut Random) -> Vec<u64> {
     let tick = if random.one_in(4) { random.pick(&[0, 1, 0xffff_ffff, 0xffff_fffe]) } else { random.next() >> 32 };
-    let scale = if random.one_in(60) { random.pick(&[3, 7, u64::from(u32::MAX)]) } else { random.below(3) };
+    let scale = match random.below(60) {
+        0 => random.pick(&[3, 7, u64::from(u32::MAX)]),
+        1..=30 => Scale::Utc.code(),
+        _ => random.pick(&[Scale::Tai, Scale::Gps]).code(),
+    };
     // a window reaches 97 days at most: times outside the span come from references near its ends
     let day = match random.below(8) {
         0 => handed::day(random),
@@ -47,36 +51,52 @@ fn moment(random: &mut Random, words: &[u64]) -> Moment {
     clock::moment(random, &words[5..], |k| reference + (k * period).div_euclid(1_000_000))
 }
 
+/// A correlation with its list, a count from the reference, and a moment at which it is received or which is turned back.
+fn made(random: &mut Random) -> (Vec<u64>, leap::Made, i128, Moment) {
+    let mut correlation = words(random);
+    let list = leap::made(random, 8);
+    if correlation[1] != Scale::Utc.code() || random.one_in(6) {
+        let k = clock::count(random, &correlation[5..]);
+        let moment = moment(random, &correlation);
+        return (correlation, list, k, moment);
+    }
+    let step = if random.one_in(12) { Scale::Utc.first_day() } else { leap::any_step(random, &list) };
+    let reference = clock::reference(random, step, 90);
+    correlation[2] = reference.day as u64;
+    correlation[3] = reference.micro;
+    let (k, moment) = clock::about(random, &mut correlation, |words| of(words).expect("it is UTC"), &list, [step, step]);
+    (correlation, list, k, moment)
+}
+
 fn make_date(function: Function, random: &mut Random) -> Call {
-    let correlation = words(random);
-    let at = i128::from(correlation[0]) + clock::count(random, &correlation[5..]);
-    let tick = if random.one_in(8) { random.next() as u32 } else { at as u32 };
-    let moment = moment(random, &correlation);
+    let (correlation, list, k, moment) = made(random);
+    let at = i128::from(correlation[0]) + k;
+    let tick = if random.one_in(12) { random.next() as u32 } else { at as u32 };
     let mut all = vec![u64::from(tick)];
     all.extend(correlation);
     all.extend(clock::receipt(random, moment));
-    Call::of(function, all)
+    clock::call(function, all, &list)
 }
 
 fn model_date(call: &Call) -> Answer {
+    // an unknown scale is a correlation that is not accepted, and then no list is used
     let Some(correlation) = of(call.numbers("correlation")) else { return answered(call, &[6]) };
-    timed(call, correlation.scale, correlation.date(call.number("tick") as u32, clock::received(call)))
+    let tick = call.number("tick") as u32;
+    timed(call, correlation.scale, leap::with(call, |list| correlation.date(tick, clock::received(call), list)))
 }
 
 fn make_tick(function: Function, random: &mut Random) -> Call {
-    let correlation = words(random);
-    let moment = moment(random, &correlation);
+    let (correlation, list, _, moment) = made(random);
     let mut all = clock::handed(random, correlation[1], moment);
     all.extend(correlation);
-    Call::of(function, all)
+    clock::call(function, all, &list)
 }
 
 fn model_tick(call: &Call) -> Answer {
     let tick = match (handed::of(call), of(call.numbers("correlation"))) {
         (None, _) => Err(3),
-        // an unknown scale is a correlation that is not accepted
         (Some(handed), None) => handed.finite().and(Err(6)),
-        (Some(handed), Some(correlation)) => correlation.tick_of(handed),
+        (Some(handed), Some(correlation)) => leap::with(call, |list| correlation.tick_of(handed, list)),
     };
     counted(call, tick.map(u64::from))
 }

@@ -1,7 +1,7 @@
-use super::{clock, counted, handed, timed, Answer, Call, Function, Pair, Random};
+use super::{clock, counted, handed, leap, timed, Answer, Call, Function, Pair, Random};
 use crate::independent::clock::Clock;
 use crate::independent::goce::Correlation;
-use crate::independent::time::{Moment, Scale};
+use crate::independent::time::{since_day_0, Moment, Scale};
 
 pub const PAIRS: &[Pair] = &[
     (Function::GoceDate, make_date, model_date),
@@ -73,9 +73,36 @@ fn moment(random: &mut Random, words: &[u64]) -> Moment {
     clock::moment(random, &words[4..], |k| of(words).time(k))
 }
 
+/// A correlation with its list, a count from the reference, and a moment at which it is received or which is turned back.
+fn made(random: &mut Random) -> (Vec<u64>, leap::Made, i128, Moment) {
+    let mut correlation = words(random);
+    let mut list = leap::made(random, 8);
+    if list.ends_before(0) && !random.one_in(6) {
+        // all references lie after 1999
+        list = leap::made(random, 8);
+    }
+    if random.one_in(6) {
+        let k = clock::count(random, &correlation[4..]);
+        let moment = moment(random, &correlation);
+        return (correlation, list, k, moment);
+    }
+    let day = if random.one_in(3) { list.last() as i64 } else { leap::any_step(random, &list) };
+    let reference = clock::reference(random, day.clamp(0, 36524), 3000);
+    // a count in its microsecond, less the offset
+    let counts = since_day_0(reference) * 65_536 / 1_000_000 - i128::from(correlation[2] as i64);
+    if let Ok(utc0) = u64::try_from(counts) {
+        correlation[1] = utc0;
+    }
+    // half a wrap is 68 years: any step may be in the window, and times before 1972
+    let [early, step, other] = [random.below(14_000) as i64, leap::any_step(random, &list), leap::any_step(random, &list)];
+    let step = if random.one_in(8) { Scale::Utc.first_day() - early } else { step };
+    let (k, moment) = clock::about(random, &mut correlation, of, &list, [step, other]);
+    (correlation, list, k, moment)
+}
+
 fn make_date(function: Function, random: &mut Random) -> Call {
-    let correlation = words(random);
-    let at = (i128::from(correlation[0]) + clock::count(random, &correlation[4..])).rem_euclid(i128::from(WRAP)) as u64;
+    let (correlation, list, k, moment) = made(random);
+    let at = (i128::from(correlation[0]) + k).rem_euclid(i128::from(WRAP)) as u64;
     let obt = match random.below(24) {
         0 => random.pick(&[0, WRAP - 1]),
         1 => random.pick(&[WRAP, u64::MAX]),
@@ -84,25 +111,26 @@ fn make_date(function: Function, random: &mut Random) -> Call {
         3 | 4 => random.below(WRAP),
         _ => at,
     };
-    let moment = moment(random, &correlation);
     let mut all = vec![obt];
     all.extend(correlation);
     all.extend(clock::receipt(random, moment));
-    Call::of(function, all)
+    clock::call(function, all, &list)
 }
 
 fn model_date(call: &Call) -> Answer {
-    timed(call, Scale::Utc, of(call.numbers("correlation")).date(call.number("obt"), clock::received(call)))
+    let (correlation, obt) = (of(call.numbers("correlation")), call.number("obt"));
+    timed(call, Scale::Utc, leap::with(call, |list| correlation.date(obt, clock::received(call), list)))
 }
 
 fn make_count(function: Function, random: &mut Random) -> Call {
-    let correlation = words(random);
-    let moment = moment(random, &correlation);
+    let (correlation, list, _, moment) = made(random);
     let mut all = clock::handed(random, Scale::Utc.code(), moment);
     all.extend(correlation);
-    Call::of(function, all)
+    clock::call(function, all, &list)
 }
 
 fn model_count(call: &Call) -> Answer {
-    counted(call, handed::of(call).ok_or(3).and_then(|handed| of(call.numbers("correlation")).count_of(handed)))
+    let correlation = of(call.numbers("correlation"));
+    let count = handed::of(call).ok_or(3).and_then(|handed| leap::with(call, |list| correlation.count_of(handed, list)));
+    counted(call, count)
 }

@@ -196,17 +196,17 @@ pub const SHAPES: &[Shape] = &[
     },
     Shape {
         name: "goce_date",
-        takes: &[numbers("obt", &[("obt", 8)]), numbers("correlation", &[("obt0", 8), ("utc0", 8), ("offset", 8), ("gradient", 8), ("back", 8), ("ahead", 8)]), numbers("receipt_day", &[("receipt_day", 8)]), numbers("receipt_micro", &[("receipt_micro", 8)])],
+        takes: &[numbers("obt", &[("obt", 8)]), numbers("correlation", &[("obt0", 8), ("utc0", 8), ("offset", 8), ("gradient", 8), ("back", 8), ("ahead", 8)]), numbers("receipt_day", &[("receipt_day", 8)]), numbers("receipt_micro", &[("receipt_micro", 8)]), given("days", 8), given("offsets", 8), numbers("last", &[("last", 8)])],
         gives: &["refusal", "scale", "day", "micro"],
         image: None,
-        refuses: &[3, 6, 7, 8, 11],
+        refuses: &[3, 5, 6, 7, 8, 9, 10, 11],
     },
     Shape {
         name: "goce_count",
-        takes: &[numbers("time", &[("kind", 4), ("scale", 4), ("day", 8), ("micro", 8), ("decimal", 8)]), numbers("correlation", &[("obt0", 8), ("utc0", 8), ("offset", 8), ("gradient", 8), ("back", 8), ("ahead", 8)])],
+        takes: &[numbers("time", &[("kind", 4), ("scale", 4), ("day", 8), ("micro", 8), ("decimal", 8)]), numbers("correlation", &[("obt0", 8), ("utc0", 8), ("offset", 8), ("gradient", 8), ("back", 8), ("ahead", 8)]), given("days", 8), given("offsets", 8), numbers("last", &[("last", 8)])],
         gives: &["refusal", "count"],
         image: None,
-        refuses: &[3, 4, 6, 7, 8, 12],
+        refuses: &[3, 4, 5, 6, 7, 8, 9, 10, 12],
     },
     Shape {
         name: "decimal_read",
@@ -224,17 +224,17 @@ pub const SHAPES: &[Shape] = &[
     },
     Shape {
         name: "sbt_date",
-        takes: &[numbers("tick", &[("tick", 4)]), numbers("correlation", &[("tick", 4), ("scale", 4), ("day", 8), ("micro", 8), ("period", 8), ("back", 8), ("ahead", 8)]), numbers("receipt_day", &[("receipt_day", 8)]), numbers("receipt_micro", &[("receipt_micro", 8)])],
+        takes: &[numbers("tick", &[("tick", 4)]), numbers("correlation", &[("tick", 4), ("scale", 4), ("day", 8), ("micro", 8), ("period", 8), ("back", 8), ("ahead", 8)]), numbers("receipt_day", &[("receipt_day", 8)]), numbers("receipt_micro", &[("receipt_micro", 8)]), given("days", 8), given("offsets", 8), numbers("last", &[("last", 8)])],
         gives: &["refusal", "scale", "day", "micro"],
         image: None,
-        refuses: &[6, 7, 8, 11],
+        refuses: &[5, 6, 7, 8, 9, 10, 11],
     },
     Shape {
         name: "sbt_tick",
-        takes: &[numbers("time", &[("kind", 4), ("scale", 4), ("day", 8), ("micro", 8), ("decimal", 8)]), numbers("correlation", &[("tick", 4), ("scale", 4), ("day", 8), ("micro", 8), ("period", 8), ("back", 8), ("ahead", 8)])],
+        takes: &[numbers("time", &[("kind", 4), ("scale", 4), ("day", 8), ("micro", 8), ("decimal", 8)]), numbers("correlation", &[("tick", 4), ("scale", 4), ("day", 8), ("micro", 8), ("period", 8), ("back", 8), ("ahead", 8)]), given("days", 8), given("offsets", 8), numbers("last", &[("last", 8)])],
         gives: &["refusal", "count"],
         image: None,
-        refuses: &[3, 4, 6, 7, 8, 12],
+        refuses: &[3, 4, 5, 6, 7, 8, 9, 10, 12],
     },
     Shape {
         name: "list_accepted",

@@ -2,7 +2,7 @@ use super::{answered, bytes_of, handed, timed, Answer, Call, Function, Pair, Ran
 use crate::independent::calendar::{day_of, Date};
 use crate::independent::leap::{change, List};
 use crate::independent::lines::steps as published;
-use crate::independent::time::Scale;
+use crate::independent::time::{moment_at, since_day_0, Moment, Scale};
 
 pub const PAIRS: &[Pair] = &[
     (Function::ListAccepted, make_accepted, model_accepted),
@@ -85,6 +85,31 @@ pub fn made(random: &mut Random, faulty: u64) -> Made {
 }
 
 impl Made {
+    fn as_list(&self) -> List<'_> {
+        List { days: &self.days, offsets: &self.offsets, last: self.last }
+    }
+
+    /// TAI minus UTC on a day, in microseconds; 0 where the list does not say.
+    pub fn difference(&self, day: i64) -> i128 {
+        let says = day >= -10227 && self.as_list().accepted();
+        if says { self.as_list().difference(day).unwrap_or(0) } else { 0 }
+    }
+
+    /// The TAI count of a UTC time, as far as the list says.
+    pub fn place(&self, moment: Moment) -> i128 {
+        since_day_0(moment) + self.difference(moment.day)
+    }
+
+    /// The UTC time of a TAI count, or where it would lie in days of 86,400 s.
+    pub fn moment_at(&self, place: i128) -> Moment {
+        let known = if self.as_list().accepted() { self.as_list().to_utc(place).ok() } else { None };
+        known.unwrap_or_else(|| moment_at(place))
+    }
+
+    pub fn ends_before(&self, day: i64) -> bool {
+        self.last < day
+    }
+
     /// The last day, as a word.
     pub fn last(&self) -> u64 {
         self.last as u64
@@ -111,21 +136,44 @@ fn model_accepted(call: &Call) -> Answer {
     answered(call, &[u64::from(with(call, |list| list.accepted()))])
 }
 
-/// A time near a step or near the list's end, as a record.
-pub fn near_step(random: &mut Random, list: &Made) -> (i64, u64) {
-    let step = match random.below(4) {
+const SECOND: u64 = 1_000_000;
+
+/// The day of a step, or the first day after the list's end.
+pub fn any_step(random: &mut Random, list: &Made) -> i64 {
+    match random.below(4) {
         0 => list.last.clamp(-20_000, 40_000) + 1,
         _ if list.days.is_empty() => 0,
         _ => list.days[random.below(list.days.len() as u64) as usize].clamp(-20_000, 40_000),
-    };
-    let second = 1_000_000;
-    match random.below(5) {
-        0 => (step - 1, 86_400 * second + random.below(second)),
-        1 => (step - 1, 86_340 * second + random.below(60 * second)),
-        2 => (step, random.below(70 * second)),
-        3 => (step + random.pick(&[0, 1]), random.pick(&[0, 86_400]) * second + random.below(second)),
-        _ => (step + random.below(3) as i64 - 1, random.below(86_400) * second),
     }
+}
+
+fn near(random: &mut Random, step: i64) -> (i64, u64) {
+    match random.below(5) {
+        0 => (step - 1, 86_400 * SECOND + random.below(SECOND)),
+        1 => (step - 1, 86_340 * SECOND + random.below(60 * SECOND)),
+        2 => (step, random.below(70 * SECOND)),
+        3 => (step + random.pick(&[0, 1]), random.pick(&[0, 86_400]) * SECOND + random.below(SECOND)),
+        _ => (step + random.below(3) as i64 - 1, random.below(86_400) * SECOND),
+    }
+}
+
+/// A time near a step or near the list's end, as a record.
+pub fn near_step(random: &mut Random, list: &Made) -> (i64, u64) {
+    let step = any_step(random, list);
+    near(random, step)
+}
+
+/// A time in the second before a step, in second 60 or in the second after it, at their edges too; or near it.
+pub fn about(random: &mut Random, step: i64) -> Moment {
+    let any = random.below(SECOND);
+    let within = random.pick(&[0, 1, SECOND - 1, any]);
+    let (day, micro) = match random.below(8) {
+        0 | 1 => (step - 1, 86_399 * SECOND + within),
+        2 | 3 => (step - 1, 86_400 * SECOND + within),
+        4 | 5 => (step, within),
+        _ => near(random, step),
+    };
+    Moment { day, micro }
 }
 
 fn make_change(function: Function, random: &mut Random) -> Call {
