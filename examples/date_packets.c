@@ -21,17 +21,26 @@ static const uint64_t OFFSETS[] = {10, 11, 12, 13, 14, 15, 16, 17, 18, 19, 20, 2
 #define STEPS (sizeof DAYS / sizeof DAYS[0])
 #define LIST DAYS, STEPS, OFFSETS, STEPS, 9131
 
-/* 2 October 2001, 10:00:00 UTC; it may be relied on a day back and thirty days ahead. */
-static const vrk_sbt_correlation SBT_CORRELATION = {
-    .tick = 0xFFFFF000, .scale = VRK_UTC, .day = 640, .micro = 36000000000, .period = 3906250000,
-    .back = 86400 * 256, .ahead = 30 * 86400 * 256,
+/* What is received from 31 December 2016 on is dated by the newer correlation of its clock. */
+enum { OLDER, NEWER, NEWER_FROM = 6209 };
+
+/* 2 October 2001, 10:00:00 UTC; it may be relied on a day back and thirty days ahead. And 31 December 2016, 23:59:59 UTC; it may
+ * be relied on for 7.8125 s either way. */
+static const vrk_sbt_correlation SBT_CORRELATIONS[] = {
+    [OLDER] = {.tick = 0xFFFFF000, .scale = VRK_UTC, .day = 640, .micro = 36000000000, .period = 3906250000,
+               .back = 86400 * 256, .ahead = 30 * 86400 * 256},
+    [NEWER] = {.tick = 7, .scale = VRK_UTC, .day = 6209, .micro = 86399000000, .period = 3906250000,
+               .back = 2000, .ahead = 2000},
 };
 
-/* 17 March 2009, 16:00:00 UTC less a quarter of a second, with as wide a window; the clock loses 21 ns in a second. */
+/* 17 March 2009, 16:00:00 UTC less a quarter of a second, with as wide a window; the clock loses 21 ns in a second. And 31
+ * December 2016, 23:59:59 UTC and 1/65536 s; it may be relied on for 8 s either way. */
 #define SECOND_OF_COUNTS UINT64_C(65536)
-static const vrk_goce_correlation GOCE_CORRELATION = {
-    .obt0 = 0xFFFFFFFF0000, .utc0 = (3363 * 86400 + 57600) * SECOND_OF_COUNTS, .offset = -16384, .gradient = 1000000021,
-    .back = 86400 * SECOND_OF_COUNTS, .ahead = 30 * 86400 * SECOND_OF_COUNTS,
+static const vrk_goce_correlation GOCE_CORRELATIONS[] = {
+    [OLDER] = {.obt0 = 0xFFFFFFFF0000, .utc0 = (3363 * 86400 + 57600) * SECOND_OF_COUNTS, .offset = -16384,
+               .gradient = 1000000021, .back = 86400 * SECOND_OF_COUNTS, .ahead = 30 * 86400 * SECOND_OF_COUNTS},
+    [NEWER] = {.obt0 = 7, .utc0 = (6209 * 86400 + 86399) * SECOND_OF_COUNTS, .offset = 1,
+               .gradient = 1000000000, .back = 8 * SECOND_OF_COUNTS, .ahead = 8 * SECOND_OF_COUNTS},
 };
 
 static uint64_t number(const uint8_t *bytes, size_t count) {
@@ -49,8 +58,9 @@ static vrk_time correlated(const uint8_t *packet) {
         vrk_time refused = {read.refusal, VRK_UTC, 0, 0};
         return refused;
     }
-    if (packet[0] == SBT) return vrk_sbt_date((uint32_t)read.count, SBT_CORRELATION, day, micro);
-    return vrk_goce_date(read.count, GOCE_CORRELATION, day, micro);
+    int which = day < NEWER_FROM ? OLDER : NEWER;
+    if (packet[0] == SBT) return vrk_sbt_date((uint32_t)read.count, SBT_CORRELATIONS[which], day, micro, LIST);
+    return vrk_goce_date(read.count, GOCE_CORRELATIONS[which], day, micro, LIST);
 }
 
 /* The time of a packet in its own scale. */

@@ -13,22 +13,45 @@ import vrikshonem as vrk
 PACKET = struct.Struct(">BB10siQ")
 LIST = vrk.LeapList.PUBLISHED
 NAMES = ["?", "CUC", "Proteus", "CryoSat", "SIRAL", "SBT", "GOCE"]
-# 2 October 2001, 10:00:00 UTC; it may be relied on a day back and thirty days ahead.
-SBT_CORRELATION = vrk.SbtCorrelation(
-    tick=0xFFFFF000,
-    reference=vrk.Utc(640, 36_000_000_000),
-    period=3_906_250_000,
-    back=86_400 * 256,
-    ahead=30 * 86_400 * 256,
+# What is received from 31 December 2016 on is dated by the newer correlation of its clock, the second of each pair.
+NEWER_FROM = 6209
+# 2 October 2001, 10:00:00 UTC; it may be relied on a day back and thirty days ahead. And 31 December 2016, 23:59:59 UTC; it may be
+# relied on for 7.8125 s either way.
+SBT_CORRELATIONS = (
+    vrk.SbtCorrelation(
+        tick=0xFFFFF000,
+        reference=vrk.Utc(640, 36_000_000_000),
+        period=3_906_250_000,
+        back=86_400 * 256,
+        ahead=30 * 86_400 * 256,
+    ),
+    vrk.SbtCorrelation(
+        tick=7,
+        reference=vrk.Utc(6209, 86_399_000_000),
+        period=3_906_250_000,
+        back=2_000,
+        ahead=2_000,
+    ),
 )
-# 17 March 2009, 16:00:00 UTC less a quarter of a second, with as wide a window; the clock loses 21 ns in a second.
-GOCE_CORRELATION = vrk.GoceCorrelation(
-    obt0=0xFFFFFFFF0000,
-    utc0=(3363 * 86_400 + 57_600) * 65_536,
-    offset=-16_384,
-    gradient=1_000_000_021,
-    back=86_400 * 65_536,
-    ahead=30 * 86_400 * 65_536,
+# 17 March 2009, 16:00:00 UTC less a quarter of a second, with as wide a window; the clock loses 21 ns in a second. And 31 December
+# 2016, 23:59:59 UTC and 1/65536 s; it may be relied on for 8 s either way.
+GOCE_CORRELATIONS = (
+    vrk.GoceCorrelation(
+        obt0=0xFFFFFFFF0000,
+        utc0=(3363 * 86_400 + 57_600) * 65_536,
+        offset=-16_384,
+        gradient=1_000_000_021,
+        back=86_400 * 65_536,
+        ahead=30 * 86_400 * 65_536,
+    ),
+    vrk.GoceCorrelation(
+        obt0=7,
+        utc0=(6209 * 86_400 + 86_399) * 65_536,
+        offset=1,
+        gradient=1_000_000_000,
+        back=8 * 65_536,
+        ahead=8 * 65_536,
+    ),
 )
 
 
@@ -41,9 +64,10 @@ def dated(layout: int, time: bytes, receipt: vrk.Utc) -> vrk.Utc:
         return vrk.cryosat_read(time).to_utc(LIST)
     if layout == 4:
         return vrk.siral_read(time).to_utc(LIST)
+    which = int(receipt.day >= NEWER_FROM)
     if layout == 5:
-        return SBT_CORRELATION.date(vrk.sbt_read(time), receipt)
-    return GOCE_CORRELATION.date(vrk.goce_read(time), receipt)
+        return SBT_CORRELATIONS[which].date(vrk.sbt_read(time), receipt, LIST)
+    return GOCE_CORRELATIONS[which].date(vrk.goce_read(time), receipt, LIST)
 
 
 def said(layout: int, time: bytes, receipt: vrk.Utc) -> str:

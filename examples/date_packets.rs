@@ -15,24 +15,48 @@ const LONGEST: usize = 10;
 const LIST: LeapList<'static> = LeapList::PUBLISHED;
 const NAMES: [&str; 7] = ["?", "CUC", "Proteus", "CryoSat", "SIRAL", "SBT", "GOCE"];
 
-// 2 October 2001, 10:00:00 UTC; it may be relied on a day back and thirty days ahead.
-const SBT_CORRELATION: SbtCorrelation<Utc> = SbtCorrelation {
-    tick: Tick(0xFFFF_F000),
-    reference: Utc { day: 640, micro: 36_000_000_000 },
-    period: 3_906_250_000,
-    back: 86_400 * 256,
-    ahead: 30 * 86_400 * 256,
-};
+// What is received from 31 December 2016 on is dated by the newer correlation of its clock, the second of each pair.
+const NEWER_FROM: i64 = 6209;
 
-// 17 March 2009, 16:00:00 UTC less a quarter of a second, with as wide a window; the clock loses 21 ns in a second.
-const GOCE_CORRELATION: GoceCorrelation = GoceCorrelation {
-    obt0: 0xFFFF_FFFF_0000,
-    utc0: (3363 * 86_400 + 57_600) * 65_536,
-    offset: -16_384,
-    gradient: 1_000_000_021,
-    back: 86_400 * 65_536,
-    ahead: 30 * 86_400 * 65_536,
-};
+// 2 October 2001, 10:00:00 UTC; it may be relied on a day back and thirty days ahead. And 31 December 2016, 23:59:59 UTC; it may be
+// relied on for 7.8125 s either way.
+const SBT_CORRELATIONS: [SbtCorrelation<Utc>; 2] = [
+    SbtCorrelation {
+        tick: Tick(0xFFFF_F000),
+        reference: Utc { day: 640, micro: 36_000_000_000 },
+        period: 3_906_250_000,
+        back: 86_400 * 256,
+        ahead: 30 * 86_400 * 256,
+    },
+    SbtCorrelation {
+        tick: Tick(7),
+        reference: Utc { day: 6209, micro: 86_399_000_000 },
+        period: 3_906_250_000,
+        back: 2_000,
+        ahead: 2_000,
+    },
+];
+
+// 17 March 2009, 16:00:00 UTC less a quarter of a second, with as wide a window; the clock loses 21 ns in a second. And 31 December
+// 2016, 23:59:59 UTC and 1/65536 s; it may be relied on for 8 s either way.
+const GOCE_CORRELATIONS: [GoceCorrelation; 2] = [
+    GoceCorrelation {
+        obt0: 0xFFFF_FFFF_0000,
+        utc0: (3363 * 86_400 + 57_600) * 65_536,
+        offset: -16_384,
+        gradient: 1_000_000_021,
+        back: 86_400 * 65_536,
+        ahead: 30 * 86_400 * 65_536,
+    },
+    GoceCorrelation {
+        obt0: 7,
+        utc0: (6209 * 86_400 + 86_399) * 65_536,
+        offset: 1,
+        gradient: 1_000_000_000,
+        back: 8 * 65_536,
+        ahead: 8 * 65_536,
+    },
+];
 
 fn number(bytes: &[u8]) -> u64 {
     bytes.iter().fold(0, |value, &byte| value << 8 | u64::from(byte))
@@ -41,13 +65,14 @@ fn number(bytes: &[u8]) -> u64 {
 fn dated(packet: &[u8]) -> Result<Utc, Error> {
     let time = &packet[2..2 + usize::from(packet[1])];
     let receipt = Utc::new(i64::from(number(&packet[12..16]) as i32), number(&packet[16..24]));
+    let which = usize::from(receipt.day >= NEWER_FROM);
     match packet[0] {
         1 => cuc::read(time)?.to_utc(&LIST),
         2 => Ok(proteus::read(time)?.0),
         3 => cryosat::read(time)?.to_utc(&LIST),
         4 => siral::read(time)?.to_utc(&LIST),
-        5 => SBT_CORRELATION.date(sbt::read(time)?, receipt),
-        _ => GOCE_CORRELATION.date(goce::read(time)?, receipt),
+        5 => SBT_CORRELATIONS[which].date(sbt::read(time)?, receipt, &LIST),
+        _ => GOCE_CORRELATIONS[which].date(goce::read(time)?, receipt, &LIST),
     }
 }
 

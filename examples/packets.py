@@ -20,6 +20,9 @@ LEAP_SECOND = (6210 + 7300) * 86400 + 17
 # 17 March 2009, 16:00:00 UTC less a quarter of a second.
 REFERENCE, DAY, NOON = 0xFFFFF000, 640, 12 * 3600 * SECOND
 OBT0, LAUNCH, EVENING = 0xFFFFFFFF0000, 3363, 18 * 3600 * SECOND
+# What is received from 31 December 2016 on has correlations of its own: tick 7 and count 7 stood for 23:59:59 UTC of that day, the
+# count 1/65536 s more. A second 60 follows.
+NIGHT_REFERENCE, NIGHT, SECOND_60 = 7, 6209, 86400 * SECOND
 
 
 def packet(layout, time, day=DAY, micro=NOON):
@@ -34,12 +37,20 @@ def proteus(week, low_bits, second, fraction):
     return packet(PROTEUS, struct.pack(">HIH", week << 4 | low_bits, second, fraction))
 
 
-def sbt(ticks, day=DAY, micro=NOON):
-    return packet(SBT, struct.pack(">I", (REFERENCE + ticks) % 2**32), day, micro)
+def sbt(ticks, day=DAY, micro=NOON, reference=REFERENCE):
+    return packet(SBT, struct.pack(">I", (reference + ticks) % 2**32), day, micro)
 
 
-def goce(counts, day=LAUNCH, micro=EVENING):
-    return packet(GOCE, ((OBT0 + counts) % 2**48).to_bytes(6, "big"), day, micro)
+def goce(counts, day=LAUNCH, micro=EVENING, obt0=OBT0):
+    return packet(GOCE, ((obt0 + counts) % 2**48).to_bytes(6, "big"), day, micro)
+
+
+def night_sbt(ticks, day=NIGHT, micro=SECOND_60):
+    return sbt(ticks, day, micro, NIGHT_REFERENCE)
+
+
+def night_goce(counts, day=NIGHT, micro=SECOND_60):
+    return goce(counts, day, micro, NIGHT_REFERENCE)
 
 
 PACKETS = [
@@ -61,7 +72,7 @@ PACKETS = [
     sbt(20 * 86400 * 256, DAY + 20),  # twenty days later
     sbt(31 * 86400 * 256, DAY + 20),  # a tick beyond the window
     sbt(-2 * 86400 * 256, DAY),  # and one before it
-    sbt(0, DAY, 86_400_000_000),  # no such microsecond
+    sbt(0, DAY, SECOND_60),  # that day has no second 60
     packet(SBT, bytes(3)),
     goce(0),
     goce(65536 * 3600),  # an hour later, past the counter's wrap
@@ -73,6 +84,18 @@ PACKETS = [
     goce(0, 36525),  # received in 2100
     packet(GOCE, bytes(5)),
     packet(9, bytes(4)),  # a layout that nobody knows
+    night_sbt(255),  # a tick before second 60, received in it
+    night_sbt(256),  # second 60
+    night_sbt(511, NIGHT + 1, 0),  # its last tick, received after it
+    night_sbt(512, NIGHT + 1, 0),  # midnight
+    night_sbt(0, NIGHT + 1, 5_812_500),  # received at the window's end, 7.8125 s after the reference
+    night_sbt(0, NIGHT + 1, 5_812_501),  # and after it
+    night_sbt(256, NIGHT + 1, SECOND_60),  # received in a second 60 that 1 January 2017 lacks
+    night_sbt(256, 9132, 0),  # received in 2025, where the list has ended
+    night_goce(65536),
+    night_goce(2 * 65536 - 2),  # the last count of second 60
+    night_goce(2 * 65536 - 1),  # midnight, exactly
+    night_goce(2 * 65536, NIGHT + 1, 9_000_000),  # the correlation is dead
 ]
 
 if __name__ == "__main__":

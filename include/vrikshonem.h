@@ -1,4 +1,4 @@
-/* Vrikshonem, the dating desk: its interface for C, version 0.3. Before 1.0 names, structs and functions may change with the
+/* Vrikshonem, the dating desk: its interface for C, version 0.4. Before 1.0 names, structs and functions may change with the
  * middle number of the version; CHANGELOG.md says what to change then.
  *
  * Every function takes every input, and returns a value or the number of one refusal. None keeps anything between calls,
@@ -119,20 +119,29 @@ typedef struct {
     uint64_t ahead;
 } vrk_sbt_correlation;
 
-/* Given     a tick, a correlation, and the receipt: the day and the microsecond at which the packet was received, in the
- *           correlation's scale.
+/* Under a UTC correlation ticks are counted in TAI, by the call's leap list (which is described below): a leap second between
+ * two ticks counts, and a time may lie in second 60. A UTC time is known where its day is not after the list's last day and
+ * has that second. Under a TAI or GPS correlation no list is looked at, and it may be empty. */
+
+/* Given     a tick, a correlation, the receipt (the day and the microsecond at which the packet was received, in the
+ *           correlation's scale), and a leap list.
  * Returned  the time of the tick in that scale, rounded down to the microsecond. The counter wraps: `tick` is taken for the
  *           tick of this number from 2^31 before the reference to 2^31 - 1 after it.
- * Refused   6; 7 the receipt is outside the limits of its scale, or its microsecond is 86,400,000,000 or more; 8 the tick is
- *           outside the window, or the receipt is before the time of the window's first tick or after that of its last; 11.
- *           With a refusal `scale` is the correlation's. */
-vrk_time vrk_sbt_date(uint32_t tick, vrk_sbt_correlation correlation, int64_t receipt_day, uint64_t receipt_micro);
+ * Refused   5; 6; 7 the receipt is outside the limits of its scale; 8 the tick is outside the window, or the receipt is before
+ *           the time of the window's first tick or after that of its last (in UTC the receipt is tested only where it and the
+ *           reference are both known); 9 the reference, the receipt or the result; 10 the receipt; 11 (in UTC only before
+ *           1972). 5, 9 and 10 are for UTC correlations. With a refusal `scale` is the correlation's. */
+vrk_time vrk_sbt_date(uint32_t tick, vrk_sbt_correlation correlation, int64_t receipt_day, uint64_t receipt_micro,
+                      const int64_t *days, size_t day_count, const uint64_t *offsets, size_t offset_count, int64_t last);
 
-/* Given     a time and a correlation.
+/* Given     a time, a correlation and a leap list.
  * Returned  the last tick of the window whose time is not later than the given one; it is at most 3,906 microseconds earlier.
- * Refused   3 unknown kind or scale of the time; 4; 6; 7; 8 the time is before that of the window's first tick or after that
- *           of its last; 12 another scale than the correlation's, or second 60 (8 is not tested then). */
-vrk_count vrk_sbt_tick(vrk_handed time, vrk_sbt_correlation correlation);
+ * Refused   3 unknown kind or scale of the time; 4; 5; 6; 7; 8 the time is before that of the window's first tick or after that
+ *           of its last (in UTC tested only where it and the reference are both known); 9 the reference or the time; 10 the
+ *           time; 12 another scale than the correlation's. 5, 9 and 10 are for UTC correlations. A time of another scale is not
+ *           tested for 8 and 10, and for 9 only the reference is. */
+vrk_count vrk_sbt_tick(vrk_handed time, vrk_sbt_correlation correlation, const int64_t *days, size_t day_count,
+                       const uint64_t *offsets, size_t offset_count, int64_t last);
 
 /* ---- GOCE counts */
 
@@ -152,20 +161,26 @@ typedef struct {
     uint64_t ahead;
 } vrk_goce_correlation;
 
-/* Given     a count, a correlation, and the receipt: the day and the microsecond at which the packet was received, in UTC.
- * Returned  the time of the count in UTC, Gradient x (OBT - OBT0) + Offset + UTC0, the exact sum rounded down to the
+/* Given     a count, a correlation, the receipt (the day and the microsecond at which the packet was received, in UTC), and a
+ *           leap list: counts are counted in TAI by it, as the ticks of a UTC correlation are.
+ * Returned  the time of the count in UTC: Gradient x (OBT - OBT0) after Offset + UTC0, the exact sum rounded down to the
  *           microsecond. The counter wraps: `obt` is taken for the count of this number from 2^47 before the reference to
  *           2^47 - 1 after it.
- * Refused   3 a count of 2^48 or more; 6; 7 the receipt is outside the limits of UTC, or its microsecond is 86,400,000,000 or
- *           more; 8 the count is outside the window, or the receipt is before the time of the window's first count or after
- *           that of its last; 11. With a refusal `scale` is UTC. */
-vrk_time vrk_goce_date(uint64_t obt, vrk_goce_correlation correlation, int64_t receipt_day, uint64_t receipt_micro);
+ * Refused   3 a count of 2^48 or more; 5; 6; 7 the receipt is outside the limits of UTC; 8 the count is outside the window, or
+ *           the receipt is before the time of the window's first count or after that of its last (the receipt is tested only
+ *           where it and the reference are both known); 9 the reference, the receipt or the result; 10 the receipt; 11 (only
+ *           before 1972). With a refusal `scale` is UTC. */
+vrk_time vrk_goce_date(uint64_t obt, vrk_goce_correlation correlation, int64_t receipt_day, uint64_t receipt_micro,
+                       const int64_t *days, size_t day_count, const uint64_t *offsets, size_t offset_count, int64_t last);
 
-/* Given     a time and a correlation.
+/* Given     a time, a correlation and a leap list.
  * Returned  the last count of the window whose time is not later than the given one; it is at most 15 microseconds earlier.
- * Refused   3 unknown kind or scale of the time; 4; 6; 7; 8 the time is before that of the window's first count or after that
- *           of its last; 12 another scale than UTC, or second 60 (8 is not tested then). */
-vrk_count vrk_goce_count(vrk_handed time, vrk_goce_correlation correlation);
+ * Refused   3 unknown kind or scale of the time; 4; 5; 6; 7; 8 the time is before that of the window's first count or after
+ *           that of its last (tested only where it and the reference are both known); 9 the reference or the time; 10 the
+ *           time; 12 another scale than UTC. A time of another scale is not tested for 8 and 10, and for 9 only the reference
+ *           is. */
+vrk_count vrk_goce_count(vrk_handed time, vrk_goce_correlation correlation, const int64_t *days, size_t day_count,
+                         const uint64_t *offsets, size_t offset_count, int64_t last);
 
 /* ---- the leap list, and changes of scale
  *
@@ -173,7 +188,8 @@ vrk_count vrk_goce_count(vrk_handed time, vrk_goce_correlation correlation);
  * the offset beside it, in seconds; `last` is the last day for which the list is known. It is accepted where all of this
  * holds, otherwise refused 5: 1 to 64 steps; the first is day -10227 with offset 10; days rise and are firsts of months; each
  * offset is one more than the one before; `last` is from -10227 to 36524, and no step is later than `last` + 1. A UTC day
- * after `last` is refused 9. A new leap second needs a longer list and nothing else. */
+ * after `last` is refused 9. A new leap second needs a longer list and nothing else. A list is used for changes of scale, for
+ * UTC text, and for ticks and counts under a UTC correlation. */
 
 /* Returned  1 where the list is accepted, 0 where it is not. */
 uint32_t vrk_list_accepted(const int64_t *days, size_t day_count, const uint64_t *offsets, size_t offset_count, int64_t last);

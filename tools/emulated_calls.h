@@ -130,18 +130,20 @@ vrk_written vrk_proteus_write(vrk_handed time, uint32_t h3, uint8_t *out, size_t
     return the_result;
 }
 
-vrk_time vrk_goce_date(uint64_t obt, vrk_goce_correlation correlation, int64_t receipt_day, uint64_t receipt_micro) {
+vrk_time vrk_goce_date(uint64_t obt, vrk_goce_correlation correlation, int64_t receipt_day, uint64_t receipt_micro, const int64_t *days, size_t days_count, const uint64_t *offsets, size_t offsets_count, int64_t last) {
     uint64_t the_answer[ANSWER];
-    const uint64_t the_words[] = {obt, correlation.obt0, correlation.utc0, (uint64_t)correlation.offset, correlation.gradient, correlation.back, correlation.ahead, (uint64_t)receipt_day, receipt_micro};
-    ask(GOCE_DATE, the_words, 9, 0, 0, the_answer);
+    const uint64_t the_words[] = {obt, correlation.obt0, correlation.utc0, (uint64_t)correlation.offset, correlation.gradient, correlation.back, correlation.ahead, (uint64_t)receipt_day, receipt_micro, (uint64_t)last};
+    const struct slice the_slices[] = {{days, days_count, 8, 0}, {offsets, offsets_count, 8, 0}};
+    ask(GOCE_DATE, the_words, 10, the_slices, 2, the_answer);
     vrk_time the_result = {.refusal = (uint32_t)the_answer[0], .scale = (uint32_t)the_answer[1], .day = (int64_t)the_answer[2], .micro = the_answer[3]};
     return the_result;
 }
 
-vrk_count vrk_goce_count(vrk_handed time, vrk_goce_correlation correlation) {
+vrk_count vrk_goce_count(vrk_handed time, vrk_goce_correlation correlation, const int64_t *days, size_t days_count, const uint64_t *offsets, size_t offsets_count, int64_t last) {
     uint64_t the_answer[ANSWER];
-    const uint64_t the_words[] = {time.kind, time.scale, (uint64_t)time.day, time.micro, bits_of(time.decimal), correlation.obt0, correlation.utc0, (uint64_t)correlation.offset, correlation.gradient, correlation.back, correlation.ahead};
-    ask(GOCE_COUNT, the_words, 11, 0, 0, the_answer);
+    const uint64_t the_words[] = {time.kind, time.scale, (uint64_t)time.day, time.micro, bits_of(time.decimal), correlation.obt0, correlation.utc0, (uint64_t)correlation.offset, correlation.gradient, correlation.back, correlation.ahead, (uint64_t)last};
+    const struct slice the_slices[] = {{days, days_count, 8, 0}, {offsets, offsets_count, 8, 0}};
+    ask(GOCE_COUNT, the_words, 12, the_slices, 2, the_answer);
     vrk_count the_result = {.refusal = (uint32_t)the_answer[0], .count = the_answer[1]};
     return the_result;
 }
@@ -162,18 +164,20 @@ vrk_decimal vrk_decimal_write(vrk_handed time) {
     return the_result;
 }
 
-vrk_time vrk_sbt_date(uint32_t tick, vrk_sbt_correlation correlation, int64_t receipt_day, uint64_t receipt_micro) {
+vrk_time vrk_sbt_date(uint32_t tick, vrk_sbt_correlation correlation, int64_t receipt_day, uint64_t receipt_micro, const int64_t *days, size_t days_count, const uint64_t *offsets, size_t offsets_count, int64_t last) {
     uint64_t the_answer[ANSWER];
-    const uint64_t the_words[] = {tick, correlation.tick, correlation.scale, (uint64_t)correlation.day, correlation.micro, correlation.period, correlation.back, correlation.ahead, (uint64_t)receipt_day, receipt_micro};
-    ask(SBT_DATE, the_words, 10, 0, 0, the_answer);
+    const uint64_t the_words[] = {tick, correlation.tick, correlation.scale, (uint64_t)correlation.day, correlation.micro, correlation.period, correlation.back, correlation.ahead, (uint64_t)receipt_day, receipt_micro, (uint64_t)last};
+    const struct slice the_slices[] = {{days, days_count, 8, 0}, {offsets, offsets_count, 8, 0}};
+    ask(SBT_DATE, the_words, 11, the_slices, 2, the_answer);
     vrk_time the_result = {.refusal = (uint32_t)the_answer[0], .scale = (uint32_t)the_answer[1], .day = (int64_t)the_answer[2], .micro = the_answer[3]};
     return the_result;
 }
 
-vrk_count vrk_sbt_tick(vrk_handed time, vrk_sbt_correlation correlation) {
+vrk_count vrk_sbt_tick(vrk_handed time, vrk_sbt_correlation correlation, const int64_t *days, size_t days_count, const uint64_t *offsets, size_t offsets_count, int64_t last) {
     uint64_t the_answer[ANSWER];
-    const uint64_t the_words[] = {time.kind, time.scale, (uint64_t)time.day, time.micro, bits_of(time.decimal), correlation.tick, correlation.scale, (uint64_t)correlation.day, correlation.micro, correlation.period, correlation.back, correlation.ahead};
-    ask(SBT_TICK, the_words, 12, 0, 0, the_answer);
+    const uint64_t the_words[] = {time.kind, time.scale, (uint64_t)time.day, time.micro, bits_of(time.decimal), correlation.tick, correlation.scale, (uint64_t)correlation.day, correlation.micro, correlation.period, correlation.back, correlation.ahead, (uint64_t)last};
+    const struct slice the_slices[] = {{days, days_count, 8, 0}, {offsets, offsets_count, 8, 0}};
+    ask(SBT_TICK, the_words, 13, the_slices, 2, the_answer);
     vrk_count the_result = {.refusal = (uint32_t)the_answer[0], .count = the_answer[1]};
     return the_result;
 }

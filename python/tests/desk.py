@@ -5,6 +5,7 @@ import unittest
 from vrikshonem import GoceCorrelation, LeapList, Refused, SbtCorrelation
 
 LIST = LeapList.PUBLISHED
+NONE = LeapList((), (), 9131)
 DAY = 86_400_000_000
 SECOND = 1_000_000
 

@@ -3,78 +3,125 @@
 import unittest
 
 import vrikshonem as vrk
-from desk import DAY, SECOND, Desk, correlation, goce
-from vrikshonem import Decimal, Gps, Tai, Utc
+from desk import DAY, LIST, NONE, SECOND, Desk, correlation, goce
+from vrikshonem import Decimal, Gps, LeapList, Tai, Utc
+
+# 31 December 2016, 23:59:59; the day has a second 60, and 256 ticks are a second.
+NIGHT = correlation(7, Utc(6209, DAY - SECOND), 2_000, 2_000)
+# Without the last step, to that day, which then has no second 60.
+SHORTER = LeapList(LIST.days[:27], LIST.offsets[:27], 6209)
 
 
 class Correlations(Desk):
     def test_a_tick_is_found_again(self):
         held = correlation(5, Utc(0, 0), 10, 10)
-        self.assertEqual(held.tick_of(held.date(9, held.reference)), 9)
+        self.assertEqual(held.tick_of(held.date(9, held.reference, LIST), LIST), 9)
 
     def test_a_window_has_two_ends(self):
         held = correlation(100, Utc(0, SECOND), 2, 5)
         for tick in 98, 105:
-            held.date(tick, held.reference)
+            held.date(tick, held.reference, LIST)
         for tick in 97, 106:
-            self.refused(vrk.NotInForce, held.date, tick, held.reference)
+            self.refused(vrk.NotInForce, held.date, tick, held.reference, LIST)
         # two ticks back are 7,813 microseconds, rounded down, and five ahead 19,531
         for micro in SECOND - 7813, SECOND + 19_531:
-            self.assertEqual(held.date(100, Utc(0, micro)), held.reference)
+            self.assertEqual(held.date(100, Utc(0, micro), LIST), held.reference)
         for micro in SECOND - 7814, SECOND + 19_532:
-            self.refused(vrk.NotInForce, held.date, 100, Utc(0, micro))
-        self.refused(vrk.OutsideSpan, held.date, 100, Utc(0, DAY))
+            self.refused(vrk.NotInForce, held.date, 100, Utc(0, micro), LIST)
+        self.refused(vrk.OutsideSpan, held.date, 100, Utc(0, DAY + SECOND), LIST)
+
+    def test_a_leap_second_counts(self):
+        received = NIGHT.reference
+        for tick, time in (7, received), (262, Utc(6209, DAY - 3907)), (263, Utc(6209, DAY)), (519, Utc(6210, 0)):
+            self.assertEqual(NIGHT.date(tick, received, LIST), time)
+            self.assertEqual(NIGHT.date(tick, Utc(6209, DAY + 1), LIST), time)
+            self.assertEqual(NIGHT.tick_of(time, LIST), tick)
+        # the window ends 7.8125 s after the reference, and one of these seconds is second 60
+        self.assertEqual(NIGHT.date(7, Utc(6210, 5_812_500), LIST), received)
+        self.refused(vrk.NotInForce, NIGHT.date, 7, Utc(6210, 5_812_501), LIST)
+        counts = goce(utc0=(6209 * 86_400 + 86_399) * 65_536 + 1)
+        self.assertEqual(counts.date(65_536, received, LIST), Utc(6209, DAY + 15))
+        self.assertEqual(counts.count_of(Utc(6209, DAY + 15), LIST), 65_536)
+
+    def test_a_utc_correlation_refuses_by_the_list(self):
+        received = NIGHT.reference
+        self.refused(vrk.ListNotAccepted, NIGHT.date, 7, received, NONE)
+        self.refused(vrk.ListNotAccepted, NIGHT.tick_of, Tai(6209, 0), NONE)
+        self.refused(vrk.ListNotAccepted, goce().date, 0, Utc(0, 0), NONE)
+        self.refused(vrk.ListNotAccepted, goce().count_of, Gps(0, 0), NONE)
+        self.assertEqual(NIGHT.date(262, received, SHORTER), Utc(6209, DAY - 3907))
+        self.refused(vrk.ListExpired, NIGHT.date, 263, received, SHORTER)
+        self.refused(vrk.SecondLacking, NIGHT.date, 262, Utc(6209, DAY), SHORTER)
+        # of the result 9 comes before the 10 of its receipt
+        self.refused(vrk.ListExpired, NIGHT.date, 263, Utc(6209, DAY), SHORTER)
+        self.refused(vrk.SecondLacking, NIGHT.tick_of, Utc(6209, DAY), SHORTER)
+        # an expired reference: a tick outside the window is 8 at once, and another scale is 12 after the reference's 9
+        later = correlation(7, Utc(6210, 0), 2, 2)
+        self.refused(vrk.NotInForce, later.date, 10, later.reference, SHORTER)
+        self.refused(vrk.ListExpired, later.date, 7, Utc(0, 0), SHORTER)
+        self.refused(vrk.ListExpired, later.tick_of, Tai(6210, 0), SHORTER)
+        self.refused(vrk.NoImage, later.tick_of, Tai(6210, 0), LIST)
+
+    def test_other_correlations_look_at_no_list(self):
+        held = correlation(7, Tai(6209, DAY - SECOND), 2_000, 2_000)
+        for leap_list in LIST, NONE:
+            self.assertEqual(held.date(263, held.reference, leap_list), Tai(6210, 0))
+            self.assertEqual(held.tick_of(Tai(6210, 0), leap_list), 263)
+            self.refused(vrk.NoImage, held.tick_of, Utc(6209, DAY), leap_list)
+            self.refused(vrk.OutsideSpan, held.date, 7, Tai(6209, DAY), leap_list)
 
     def test_goce_counts_are_dated(self):
         received = Utc(0, 0)
-        self.assertEqual(goce().date(1, received), Utc(0, 15))
+        self.assertEqual(goce().date(1, received, LIST), Utc(0, 15))
         # a count before the reference, past the wrap, is rounded towards the past
-        self.assertEqual(goce().date(2**48 - 1, received), Utc(-1, DAY - 16))
+        self.assertEqual(goce().date(2**48 - 1, received, LIST), Utc(-1, DAY - 16))
         # one rounding: 45.8 and 45.8 are 91
-        self.assertEqual(goce(utc0=3).date(3, received), Utc(0, 91))
+        self.assertEqual(goce(utc0=3).date(3, received, LIST), Utc(0, 91))
         # the offset has a sign, and the rate is of the difference alone
         held = goce(65_536, 7 * 65_536, -65_536, 1_001_000_000)
-        self.assertEqual(held.date(2 * 65_536, received), Utc(0, 7_001_000))
-        for count in 0, 1, 2**47 - 1, 2**48 - 1:
-            self.assertEqual(goce().count_of(goce().date(count, received)), count)
-        self.assertEqual(goce().count_of(Utc(0, 14)), 0)
-        self.assertEqual(goce().count_of(Decimal(-0.5, Utc)), 2**48 - 43_200 * 65_536)
+        self.assertEqual(held.date(2 * 65_536, received, LIST), Utc(0, 7_001_000))
+        for count in 0, 1, 2**45 - 1, 2**48 - 1:
+            self.assertEqual(goce().count_of(goce().date(count, received, LIST), LIST), count)
+        self.assertEqual(goce().count_of(Utc(0, 14), LIST), 0)
+        self.assertEqual(goce().count_of(Decimal(-0.5, Utc), LIST), 2**48 - 43_200 * 65_536)
 
     def test_goce_refuses(self):
         received = Utc(0, 0)
-        self.refused(vrk.FieldOver, goce().date, 2**48, Utc(0, DAY))
-        self.refused(vrk.CorrelationNotAccepted, goce(obt0=2**48).date, 0, Utc(0, DAY))
-        self.refused(vrk.CorrelationNotAccepted, goce(offset=-5_662_310_401).count_of, received)
-        self.refused(vrk.OutsideSpan, goce().date, 0, Utc(0, DAY))
+        self.refused(vrk.FieldOver, goce().date, 2**48, Utc(0, DAY), LIST)
+        self.refused(vrk.CorrelationNotAccepted, goce(obt0=2**48).date, 0, Utc(0, DAY), LIST)
+        self.refused(vrk.CorrelationNotAccepted, goce(offset=-5_662_310_401).count_of, received, LIST)
+        self.refused(vrk.OutsideSpan, goce().date, 0, Utc(0, DAY + SECOND), LIST)
+        self.refused(vrk.SecondLacking, goce().date, 0, Utc(0, DAY), LIST)
         narrow = goce(back=0, ahead=1)
-        self.assertEqual(narrow.date(1, Utc(0, 15)), Utc(0, 15))
-        self.refused(vrk.NotInForce, narrow.date, 2, received)
-        self.refused(vrk.NotInForce, narrow.date, 1, Utc(0, 16))
-        self.refused(vrk.NotInForce, narrow.count_of, Utc(0, 16))
-        # half a wrap is more than 68 years, and UTC begins in 1972
-        self.refused(vrk.ResultOutside, goce().date, 2**47, received)
-        self.refused(vrk.DecimalNotFinite, goce().count_of, Decimal(float("nan"), Utc))
-        self.refused(vrk.OutsideSpan, goce().count_of, Utc(36525, 0))
-        # of a time without an image 8 is not judged
-        self.refused(vrk.NoImage, narrow.count_of, Utc(1, DAY))
-        self.refused(vrk.NoImage, narrow.count_of, Gps(1, 0))
+        self.assertEqual(narrow.date(1, Utc(0, 15), LIST), Utc(0, 15))
+        self.refused(vrk.NotInForce, narrow.date, 2, received, LIST)
+        self.refused(vrk.NotInForce, narrow.date, 1, Utc(0, 16), LIST)
+        self.refused(vrk.NotInForce, narrow.count_of, Utc(0, 16), LIST)
+        # half a wrap is more than 68 years: UTC begins in 1972, and the list ends with 2024
+        self.refused(vrk.ResultOutside, goce().date, 2**47, received, LIST)
+        self.refused(vrk.ListExpired, goce().date, 2**47 - 1, received, LIST)
+        self.refused(vrk.DecimalNotFinite, goce().count_of, Decimal(float("nan"), Utc), LIST)
+        self.refused(vrk.OutsideSpan, goce().count_of, Utc(36525, 0), LIST)
+        # of a second that its day lacks, and of another scale, 8 is not judged
+        self.refused(vrk.SecondLacking, narrow.count_of, Utc(1, DAY), LIST)
+        self.refused(vrk.NoImage, narrow.count_of, Gps(1, 0), LIST)
 
     # 2^64 more is the same number to a field of 64 bits.
     def test_numbers_too_wide(self):
         held = correlation(0, Tai(0, 0), 1, 1)
-        self.refused(vrk.FieldOver, held.date, 2**32, Tai(0, 0))
-        self.refused(vrk.CorrelationNotAccepted, correlation(2**32, Tai(0, 0), 1, 1).date, 0, Tai(0, 0))
-        self.refused(vrk.CorrelationNotAccepted, correlation(0, Tai(0, 0), 2**64, 1).date, 0, Tai(0, 0))
-        self.refused(vrk.CorrelationNotAccepted, correlation(0, Tai(2**64, 0), 1, 1).date, 0, Tai(0, 0))
-        self.refused(vrk.OutsideSpan, held.date, 0, Tai(2**64, 0))
+        self.refused(vrk.FieldOver, held.date, 2**32, Tai(0, 0), LIST)
+        self.refused(vrk.CorrelationNotAccepted, correlation(2**32, Tai(0, 0), 1, 1).date, 0, Tai(0, 0), LIST)
+        self.refused(vrk.CorrelationNotAccepted, correlation(0, Tai(0, 0), 2**64, 1).date, 0, Tai(0, 0), LIST)
+        self.refused(vrk.CorrelationNotAccepted, correlation(0, Tai(2**64, 0), 1, 1).date, 0, Tai(0, 0), LIST)
+        self.refused(vrk.OutsideSpan, held.date, 0, Tai(2**64, 0), LIST)
         for obt in 2**64, -1:
-            self.refused(vrk.FieldOver, goce().date, obt, Utc(0, 0))
+            self.refused(vrk.FieldOver, goce().date, obt, Utc(0, 0), LIST)
         for name in "obt0", "utc0", "offset", "gradient", "back", "ahead":
             right = getattr(goce(), name)
             for wrong in right + 2**64, right - 2**64:
-                self.refused(vrk.CorrelationNotAccepted, goce(**{name: wrong}).date, 0, Utc(0, 0))
-                self.refused(vrk.CorrelationNotAccepted, goce(**{name: wrong}).count_of, Utc(0, 0))
-        self.refused(vrk.OutsideSpan, goce().date, 0, Utc(2**64, 0))
+                self.refused(vrk.CorrelationNotAccepted, goce(**{name: wrong}).date, 0, Utc(0, 0), LIST)
+                self.refused(vrk.CorrelationNotAccepted, goce(**{name: wrong}).count_of, Utc(0, 0), LIST)
+        self.refused(vrk.OutsideSpan, goce().date, 0, Utc(2**64, 0), LIST)
 
 
 if __name__ == "__main__":

@@ -39,11 +39,11 @@ class Package(Desk):
         self.assertEqual(vrk.siral_read(vrk.siral_fields_write(0, 0, 0, 16)), Tai(0, 33))
         self.assertEqual(vrk.siral_read(vrk.siral_fields_write(0, 0, 0, 1)), Tai(0, 2))
         wrap = correlation(0xFFFFFFFF, Tai(1, SECOND), 1, 1)
-        self.assertEqual(wrap.date(0, wrap.reference), Tai(1, SECOND + 3906))
-        self.assertEqual(wrap.date(0xFFFFFFFE, wrap.reference), Tai(1, SECOND - 3907))
+        self.assertEqual(wrap.date(0, wrap.reference, LIST), Tai(1, SECOND + 3906))
+        self.assertEqual(wrap.date(0xFFFFFFFE, wrap.reference, LIST), Tai(1, SECOND - 3907))
         narrow = correlation(7, Gps(0, 0), 0, 0)
-        self.assertEqual(narrow.date(7, narrow.reference), narrow.reference)
-        self.refused(vrk.NotInForce, narrow.date, 8, narrow.reference)
+        self.assertEqual(narrow.date(7, narrow.reference, LIST), narrow.reference)
+        self.refused(vrk.NotInForce, narrow.date, 8, narrow.reference, LIST)
         self.assertEqual(Utc.from_decimal(-0.5), Utc(-1, 43_200_000_000))
 
     def test_names(self):
@@ -61,9 +61,12 @@ class Package(Desk):
             (vrk.cuc_write, Decimal(0.5, "GPS")),
             (vrk.change, Tai(0, 0), "GPS", LIST),
             (Tai(0, 0).to_utc, None),
-            (correlation(0, (0, 0), 1, 1).date, 0, (0, 0)),
-            (goce(offset=0.5).date, 0, Utc(0, 0)),
-            (goce().count_of, (0, 0)),
+            (correlation(0, (0, 0), 1, 1).date, 0, (0, 0), LIST),
+            (correlation(0, Tai(0, 0), 1, 1).date, 0, Tai(0, 0), None),
+            (correlation(0, Tai(0, 0), 1, 1).tick_of, Tai(0, 0), LIST.days),
+            (goce(offset=0.5).date, 0, Utc(0, 0), LIST),
+            (goce().date, 0, Utc(0, 0), None),
+            (goce().count_of, (0, 0), LIST),
             (vrk.cuc_write, Gps(0, 0), memoryview(bytearray(6))),
         ]:
             with self.assertRaises(TypeError, msg=str(given)):

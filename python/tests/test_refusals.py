@@ -4,8 +4,8 @@ import pickle
 import unittest
 
 import vrikshonem as vrk
-from desk import DAY, LIST, Desk, correlation
-from vrikshonem import Gps, LeapList, Refused, Tai, Utc
+from desk import DAY, LIST, NONE, Desk, correlation
+from vrikshonem import Gps, Refused, Tai, Utc
 
 
 class Refusals(Desk):
@@ -17,12 +17,12 @@ class Refusals(Desk):
         self.refused(vrk.FieldOver, vrk.text_read, "31-FEB-2000 00:00:00", LIST)
         self.refused(vrk.FieldOver, vrk.text_write, Utc(0, 0), 25, LIST, out)
         self.refused(vrk.DecimalNotFinite, Gps.from_decimal, float("inf"))
-        self.refused(vrk.ListNotAccepted, Tai(0, 0).to_utc, LeapList((), (), 9131))
+        self.refused(vrk.ListNotAccepted, Tai(0, 0).to_utc, NONE)
         slow = correlation(0, Tai(0, 0), 1, 1, 3_906_500_001)
-        self.refused(vrk.CorrelationNotAccepted, slow.date, 0, Tai(0, 0))
+        self.refused(vrk.CorrelationNotAccepted, slow.date, 0, Tai(0, 0), LIST)
         self.refused(vrk.OutsideSpan, Gps(Gps.FIRST_DAY - 1, 0).to_tai)
         self.refused(vrk.OutsideSpan, Tai(0, Tai.BOUND).to_gps)
-        self.refused(vrk.NotInForce, correlation(0, Tai(0, 0), 1, 1).tick_of, Tai(1, 0))
+        self.refused(vrk.NotInForce, correlation(0, Tai(0, 0), 1, 1).tick_of, Tai(1, 0), LIST)
         self.refused(vrk.ListExpired, Tai(9133, 0).to_utc, LIST)
         self.refused(vrk.SecondLacking, Utc(0, DAY).to_tai, LIST)
         self.refused(vrk.ResultOutside, Tai(Tai.FIRST_DAY, 0).to_utc, LIST)

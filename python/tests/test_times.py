@@ -16,9 +16,9 @@ class Times(Desk):
     def test_scales_are_kept_apart(self):
         self.assertNotEqual(Tai(0, 0), Gps(0, 0))
         with self.assertRaises(TypeError):
-            correlation(0, Tai(0, 0), 1, 1).date(0, Gps(0, 0))
+            correlation(0, Tai(0, 0), 1, 1).date(0, Gps(0, 0), LIST)
         with self.assertRaises(TypeError):
-            goce().date(0, Tai(0, 0))
+            goce().date(0, Tai(0, 0), LIST)
 
     def test_a_list_ends(self):
         vrk.text_read("31-DEC-2024 23:59:59", LIST)

@@ -19,7 +19,7 @@ NotInForce; each is a Refused, which has .number and .words.
     >>> autumn = vrikshonem.SbtCorrelation(tick=7, reference=utc, period=3_906_250_000, back=0, ahead=663_552_000)
     >>> for tick in 8, 6, -1:
     ...     try:
-    ...         print(autumn.date(tick, receipt=utc))
+    ...         print(autumn.date(tick, utc, vrikshonem.LeapList.PUBLISHED))
     ...     except vrikshonem.NotInForce:
     ...         print("a new correlation is needed")
     ...     except vrikshonem.Refused as refused:
@@ -38,7 +38,7 @@ from ._layouts import *
 from ._refusals import *
 from ._times import *
 
-__version__ = "0.3.1"
+__version__ = "0.4.0"
 # Each module lists its own names, and in this form a checker of types can add them up.
 __all__: list[str] = []
 __all__ += _correlations.__all__

@@ -8,7 +8,7 @@ from typing import Generic
 
 from . import _sys
 from ._library import library
-from ._times import SCALES, Handed, T, Utc, answered, due, handed, narrow, signed, unsigned
+from ._times import SCALES, Handed, LeapList, T, Utc, answered, due, handed, listed, narrow, signed, unsigned
 
 __all__ = ["GoceCorrelation", "SbtCorrelation"]
 
@@ -22,6 +22,17 @@ class SbtCorrelation(Generic[T]):
     period     picoseconds of a tick, from 3,906,000,000 to 3,906,500,000
     back       ticks back, to 2^31
     ahead      ticks ahead, to 2^31 - 1
+
+    A correlation in Utc counts in TAI, by the leap list, so that the leap seconds between two ticks count. One in Tai or Gps
+    looks at no list, and any will do. A second is 256 ticks, and this tick stood for 31 December 2016, 23:59:59:
+
+    >>> night = SbtCorrelation(7, Utc(6209, 86_399_000_000), 3_906_250_000, back=2_000, ahead=2_000)
+    >>> for tick in 263, 519:
+    ...     night.date(tick, night.reference, LeapList.PUBLISHED)
+    Utc(day=6209, micro=86400000000)
+    Utc(day=6210, micro=0)
+    >>> night.tick_of(Utc(6209, 86_400_000_000), LeapList.PUBLISHED)
+    263
     """
 
     tick: int
@@ -44,25 +55,28 @@ class SbtCorrelation(Generic[T]):
             unsigned(self.ahead),
         )
 
-    def date(self, tick: int, receipt: T) -> T:
-        """The time of a tick whose packet was received at `receipt`, rounded down. Refused: 3 where the number is no tick; 6;
-        7 for the receipt; 8 where the tick lies outside the window or the receipt outside the window's times; 11."""
+    def date(self, tick: int, receipt: T, leap_list: LeapList) -> T:
+        """The time of a tick whose packet was received at `receipt`, rounded down. The list is looked at only where the scale is
+        Utc. Refused: 3 where the number is no tick; 5; 6; 7 for the receipt; 8 where the tick lies outside the window or the
+        receipt outside the window's times, which in Utc is judged only where reference and receipt are both known; 9 for
+        reference, receipt or result; 10 for the receipt; 11."""
         scale, correlation = type(self.reference), self._given()
         due(receipt, scale, f"a receipt in {scale.__name__}")
         given = narrow(tick), correlation, signed(receipt.day), unsigned(receipt.micro)
-        return scale._of(library().vrk_sbt_date(*given))
+        return scale._of(library().vrk_sbt_date(*given, *listed(leap_list)))
 
-    def tick_of(self, time: Handed) -> int:
-        """The last tick of the window whose time is not later. Refused: 4; 6; 7; 8 outside the window's times, not judged of a
-        time that gets 12; 12 another scale or second 60."""
-        return answered(library().vrk_sbt_tick(handed(time), self._given())).count
+    def tick_of(self, time: Handed, leap_list: LeapList) -> int:
+        """The last tick of the window whose time is not later. The list is looked at only where the scale is Utc. Refused: 4; 5;
+        6; 7; 8 outside the window's times, judged only of the correlation's scale, and in Utc only where reference and time are
+        both known; 9 for the reference, and for a Utc time; 10 for a Utc time; 12 another scale."""
+        return answered(library().vrk_sbt_tick(handed(time), self._given(), *listed(leap_list))).count
 
 
 @dataclass(frozen=True)
 class GoceCorrelation:
     """A correlation of GOCE's clock, always in UTC: one count, the time it stood for, the clock's rate, and how long it may be
-    relied on. A count is 1/65536 s; its time is Gradient x (OBT - OBT0) + Offset + UTC0 from 1 January 2000, in days of
-    86,400 s. One that is not accepted is refused with 6.
+    relied on. A count is 1/65536 s. The reference is Offset + UTC0 from 1 January 2000, in days of 86,400 s; Gradient x (OBT -
+    OBT0) is added to it in TAI, by the leap list. One that is not accepted is refused with 6.
 
     obt0      the reference count, below 2^48
     utc0      the time that it stood for, in counts, before the offset is added; below 2^48
@@ -75,12 +89,12 @@ class GoceCorrelation:
 
     >>> utc0, month = (3363 * 86_400 + 57_601) * 65_536, 30 * 86_400 * 65_536
     >>> launch = GoceCorrelation(0xFFFFFFFF0000, utc0, -65_536, 1_000_000_021, back=0, ahead=month)
-    >>> launch.date(1, receipt=Utc(3363, 57_660_000_000))
+    >>> launch.date(1, Utc(3363, 57_660_000_000), LeapList.PUBLISHED)
     Utc(day=3363, micro=57601000015)
-    >>> launch.count_of(Utc(3363, 57_601_000_015))
+    >>> launch.count_of(Utc(3363, 57_601_000_015), LeapList.PUBLISHED)
     1
     >>> try:
-    ...     launch.date(1, receipt=Utc(3410, 0))
+    ...     launch.date(1, Utc(3410, 0), LeapList.PUBLISHED)
     ... except NotInForce:
     ...     print("received in May: a new correlation is needed")
     received in May: a new correlation is needed
@@ -103,15 +117,17 @@ class GoceCorrelation:
             unsigned(self.ahead),
         )
 
-    def date(self, obt: int, receipt: Utc) -> Utc:
+    def date(self, obt: int, receipt: Utc, leap_list: LeapList) -> Utc:
         """The time of a count whose packet was received at `receipt`, rounded down once. Refused: 3 where the number is no count
-        of 48 bits; 6; 7 for the receipt; 8 where the count lies outside the window or the receipt outside the window's times;
+        of 48 bits; 5; 6; 7 for the receipt; 8 where the count lies outside the window or the receipt outside the window's times,
+        which is judged only where reference and receipt are both known; 9 for reference, receipt or result; 10 for the receipt;
         11."""
         due(receipt, Utc, "a receipt in Utc")
         given = unsigned(obt), self._given(), signed(receipt.day), unsigned(receipt.micro)
-        return Utc._of(library().vrk_goce_date(*given))
+        return Utc._of(library().vrk_goce_date(*given, *listed(leap_list)))
 
-    def count_of(self, time: Handed) -> int:
-        """The last count of the window whose time is not later. Refused: 4; 6; 7; 8 outside the window's times, not judged of a
-        time that gets 12; 12 another scale than UTC, or second 60."""
-        return answered(library().vrk_goce_count(handed(time), self._given())).count
+    def count_of(self, time: Handed, leap_list: LeapList) -> int:
+        """The last count of the window whose time is not later. Refused: 4; 5; 6; 7; 8 outside the window's times, judged only
+        of UTC, where reference and time are both known; 9 for the reference, and for a Utc time; 10 for a Utc time; 12 another
+        scale than UTC."""
+        return answered(library().vrk_goce_count(handed(time), self._given(), *listed(leap_list))).count

@@ -7,7 +7,7 @@ import ctypes
 from typing import Any, Dict, Tuple
 
 # The library's file carries the first two numbers of its version.
-LIBRARY = "libvrikshonem.so.0.3"
+LIBRARY = "libvrikshonem.so.0.4"
 
 
 class VrkWritten(ctypes.Structure):
@@ -136,12 +136,12 @@ FUNCTIONS: Dict[str, Tuple[Any, Tuple[Any, ...]]] = {
     "vrk_sbt_write": (VrkWritten, (ctypes.c_uint32, ctypes.POINTER(ctypes.c_uint8), ctypes.c_size_t)),
     "vrk_proteus_read": (VrkProteus, (ctypes.POINTER(ctypes.c_uint8), ctypes.c_size_t)),
     "vrk_proteus_write": (VrkWritten, (VrkHanded, ctypes.c_uint32, ctypes.POINTER(ctypes.c_uint8), ctypes.c_size_t)),
-    "vrk_goce_date": (VrkTime, (ctypes.c_uint64, VrkGoceCorrelation, ctypes.c_int64, ctypes.c_uint64)),
-    "vrk_goce_count": (VrkCount, (VrkHanded, VrkGoceCorrelation)),
+    "vrk_goce_date": (VrkTime, (ctypes.c_uint64, VrkGoceCorrelation, ctypes.c_int64, ctypes.c_uint64, ctypes.POINTER(ctypes.c_int64), ctypes.c_size_t, ctypes.POINTER(ctypes.c_uint64), ctypes.c_size_t, ctypes.c_int64)),
+    "vrk_goce_count": (VrkCount, (VrkHanded, VrkGoceCorrelation, ctypes.POINTER(ctypes.c_int64), ctypes.c_size_t, ctypes.POINTER(ctypes.c_uint64), ctypes.c_size_t, ctypes.c_int64)),
     "vrk_decimal_read": (VrkTime, (ctypes.c_double, ctypes.c_uint32)),
     "vrk_decimal_write": (VrkDecimal, (VrkHanded,)),
-    "vrk_sbt_date": (VrkTime, (ctypes.c_uint32, VrkSbtCorrelation, ctypes.c_int64, ctypes.c_uint64)),
-    "vrk_sbt_tick": (VrkCount, (VrkHanded, VrkSbtCorrelation)),
+    "vrk_sbt_date": (VrkTime, (ctypes.c_uint32, VrkSbtCorrelation, ctypes.c_int64, ctypes.c_uint64, ctypes.POINTER(ctypes.c_int64), ctypes.c_size_t, ctypes.POINTER(ctypes.c_uint64), ctypes.c_size_t, ctypes.c_int64)),
+    "vrk_sbt_tick": (VrkCount, (VrkHanded, VrkSbtCorrelation, ctypes.POINTER(ctypes.c_int64), ctypes.c_size_t, ctypes.POINTER(ctypes.c_uint64), ctypes.c_size_t, ctypes.c_int64)),
     "vrk_list_accepted": (ctypes.c_uint32, (ctypes.POINTER(ctypes.c_int64), ctypes.c_size_t, ctypes.POINTER(ctypes.c_uint64), ctypes.c_size_t, ctypes.c_int64)),
     "vrk_change": (VrkTime, (VrkHanded, ctypes.c_uint32, ctypes.POINTER(ctypes.c_int64), ctypes.c_size_t, ctypes.POINTER(ctypes.c_uint64), ctypes.c_size_t, ctypes.c_int64)),
     "vrk_cuc_fields_read": (VrkCucFields, (ctypes.POINTER(ctypes.c_uint8), ctypes.c_size_t)),

@@ -1,6 +1,7 @@
 //! SBT ticks, GOCE counts, and the correlation of each.
 
 use crate::error::{answered, Error};
+use crate::leap::LeapList;
 use crate::sys;
 use crate::time::{at, Handed, Scaled, Utc};
 
@@ -13,7 +14,8 @@ pub struct Tick(pub u32);
 /// Any correlation can be built. One that is not accepted is refused with 6 by each function.
 ///
 /// ```
-/// use vrikshonem::{Error, SbtCorrelation, Tick, Utc};
+/// use vrikshonem::{Error, LeapList, SbtCorrelation, Tick, Utc};
+/// let list = LeapList::PUBLISHED;
 /// let autumn = SbtCorrelation {
 ///     tick: Tick(0xFFFF_FFFF),
 ///     reference: Utc::new(640, 36_000_000_000),
@@ -21,9 +23,28 @@ pub struct Tick(pub u32);
 ///     back: 1,
 ///     ahead: 663_552_000,
 /// };
-/// assert_eq!(autumn.date(Tick(0), autumn.reference), Ok(Utc::new(640, 36_000_003_906)));
+/// assert_eq!(autumn.date(Tick(0), autumn.reference, &list), Ok(Utc::new(640, 36_000_003_906)));
 /// // received in March: the correlation is no longer in force
-/// assert_eq!(autumn.date(Tick(0), Utc::new(786, 9_600_000_000)), Err(Error::NOT_IN_FORCE));
+/// assert_eq!(autumn.date(Tick(0), Utc::new(786, 9_600_000_000), &list), Err(Error::NOT_IN_FORCE));
+/// ```
+///
+/// A UTC correlation counts in TAI, by the list, so that the leap seconds between two ticks count. One in TAI or GPS looks at no
+/// list, and any will do.
+///
+/// ```
+/// # use vrikshonem::{LeapList, SbtCorrelation, Tick, Utc};
+/// # let list = LeapList::PUBLISHED;
+/// // 31 December 2016, 23:59:59; a second is 256 ticks
+/// let night = SbtCorrelation {
+///     tick: Tick(7),
+///     reference: Utc::new(6209, 86_399_000_000),
+///     period: 3_906_250_000,
+///     back: 2_000,
+///     ahead: 2_000,
+/// };
+/// assert_eq!(night.date(Tick(263), night.reference, &list), Ok(Utc::new(6209, 86_400_000_000)));
+/// assert_eq!(night.date(Tick(519), night.reference, &list), Ok(Utc::new(6210, 0)));
+/// assert_eq!(night.tick_of(Utc::new(6209, 86_400_000_000), &list), Ok(Tick(263)));
 /// ```
 #[derive(Clone, Copy, PartialEq, Eq, Debug)]
 pub struct SbtCorrelation<T> {
@@ -52,27 +73,32 @@ impl<T: Scaled> SbtCorrelation<T> {
         }
     }
 
-    /// The time of a tick whose packet was received at `receipt`, rounded down. Refused: 6; 7 for the receipt; 8 where the
-    /// tick lies outside the window or the receipt outside the window's times; 11.
-    pub fn date(&self, tick: Tick, receipt: T) -> Result<T, Error> {
-        at(sys::sbt_date(tick.0, self.given(), receipt.day(), receipt.micro()))
+    /// The time of a tick whose packet was received at `receipt`, rounded down. The list is looked at only where `T` is [`Utc`].
+    /// Refused: 5; 6; 7 for the receipt; 8 where the tick lies outside the window or the receipt outside the window's times, which
+    /// of UTC is judged only where reference and receipt are both known; 9 for reference, receipt or result; 10 for the receipt;
+    /// 11.
+    pub fn date(&self, tick: Tick, receipt: T, list: &LeapList<'_>) -> Result<T, Error> {
+        at(sys::sbt_date(tick.0, self.given(), receipt.day(), receipt.micro(), list.days, list.offsets, list.last))
     }
 
-    /// The last tick of the window whose time is not later. Refused: 4; 6; 7; 8 outside the window's times, not judged of a
-    /// time that gets 12; 12 another scale or second 60.
-    pub fn tick_of(&self, time: impl Into<Handed>) -> Result<Tick, Error> {
-        let counted = sys::sbt_tick(time.into().given(), self.given());
+    /// The last tick of the window whose time is not later. The list is looked at only where `T` is [`Utc`]. Refused: 4; 5; 6; 7;
+    /// 8 outside the window's times, judged only of the correlation's scale, and of UTC only where reference and time are both
+    /// known; 9 for the reference, and for a UTC time; 10 for a UTC time; 12 another scale.
+    pub fn tick_of(&self, time: impl Into<Handed>, list: &LeapList<'_>) -> Result<Tick, Error> {
+        let counted = sys::sbt_tick(time.into().given(), self.given(), list.days, list.offsets, list.last);
         answered(counted.refusal, Tick(counted.count as u32))
     }
 }
 
 /// A correlation of GOCE's clock, always in UTC: one count, the time it stood for, the clock's rate, and how long it may be
-/// relied on. A count is 1/65536 s; its time is Gradient x (OBT - OBT0) + Offset + UTC0 from 1 January 2000, in days of 86,400 s.
+/// relied on. A count is 1/65536 s. The reference is Offset + UTC0 from 1 January 2000, in days of 86,400 s; Gradient x (OBT - OBT0)
+/// is added to it in TAI, by the leap list.
 ///
 /// Any correlation can be built. One that is not accepted is refused with 6 by each function.
 ///
 /// ```
-/// use vrikshonem::{Error, GoceCorrelation, Utc};
+/// use vrikshonem::{Error, GoceCorrelation, LeapList, Utc};
+/// let list = LeapList::PUBLISHED;
 /// // a second before the counter's wrap; UTC0 and Offset together are 17 March 2009, 16:00:00
 /// let launch = GoceCorrelation {
 ///     obt0: 0xFFFF_FFFF_0000,
@@ -83,10 +109,10 @@ impl<T: Scaled> SbtCorrelation<T> {
 ///     ahead: 30 * 86_400 * 65_536,
 /// };
 /// let received = Utc::new(3363, 57_660_000_000);
-/// assert_eq!(launch.date(1, received), Ok(Utc::new(3363, 57_601_000_015)));
-/// assert_eq!(launch.count_of(Utc::new(3363, 57_601_000_015)), Ok(1));
+/// assert_eq!(launch.date(1, received, &list), Ok(Utc::new(3363, 57_601_000_015)));
+/// assert_eq!(launch.count_of(Utc::new(3363, 57_601_000_015), &list), Ok(1));
 /// // received in May: the correlation is no longer in force
-/// assert_eq!(launch.date(1, Utc::new(3410, 0)), Err(Error::NOT_IN_FORCE));
+/// assert_eq!(launch.date(1, Utc::new(3410, 0), &list), Err(Error::NOT_IN_FORCE));
 /// ```
 #[derive(Clone, Copy, PartialEq, Eq, Debug)]
 pub struct GoceCorrelation {
@@ -110,16 +136,18 @@ impl GoceCorrelation {
         sys::VrkGoceCorrelation { obt0, utc0, offset, gradient, back, ahead }
     }
 
-    /// The time of a count whose packet was received at `receipt`, rounded down once. Refused: 3 from 2^48 on; 6; 7 for the
-    /// receipt; 8 where the count lies outside the window or the receipt outside the window's times; 11.
-    pub fn date(&self, obt: u64, receipt: Utc) -> Result<Utc, Error> {
-        at(sys::goce_date(obt, self.given(), receipt.day, receipt.micro))
+    /// The time of a count whose packet was received at `receipt`, rounded down once. Refused: 3 from 2^48 on; 5; 6; 7 for the
+    /// receipt; 8 where the count lies outside the window or the receipt outside the window's times, which is judged only where
+    /// reference and receipt are both known; 9 for reference, receipt or result; 10 for the receipt; 11.
+    pub fn date(&self, obt: u64, receipt: Utc, list: &LeapList<'_>) -> Result<Utc, Error> {
+        at(sys::goce_date(obt, self.given(), receipt.day, receipt.micro, list.days, list.offsets, list.last))
     }
 
-    /// The last count of the window whose time is not later. Refused: 4; 6; 7; 8 outside the window's times, not judged of a
-    /// time that gets 12; 12 another scale than UTC, or second 60.
-    pub fn count_of(&self, time: impl Into<Handed>) -> Result<u64, Error> {
-        let counted = sys::goce_count(time.into().given(), self.given());
+    /// The last count of the window whose time is not later. Refused: 4; 5; 6; 7; 8 outside the window's times, judged only of
+    /// UTC, where reference and time are both known; 9 for the reference, and for a UTC time; 10 for a UTC time; 12 another scale
+    /// than UTC.
+    pub fn count_of(&self, time: impl Into<Handed>, list: &LeapList<'_>) -> Result<u64, Error> {
+        let counted = sys::goce_count(time.into().given(), self.given(), list.days, list.offsets, list.last);
         answered(counted.refusal, counted.count)
     }
 }

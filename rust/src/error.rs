@@ -7,10 +7,10 @@ use std::fmt;
 /// Each has a name, and in a `match` that name is a pattern:
 ///
 /// ```
-/// use vrikshonem::{Error, SbtCorrelation, Tick, Utc};
+/// use vrikshonem::{Error, LeapList, SbtCorrelation, Tick, Utc};
 ///
 /// fn said(correlation: &SbtCorrelation<Utc>, tick: Tick, receipt: Utc) -> String {
-///     match correlation.date(tick, receipt) {
+///     match correlation.date(tick, receipt, &LeapList::PUBLISHED) {
 ///         Ok(time) => format!("day {}, microsecond {}", time.day, time.micro),
 ///         Err(Error::NOT_IN_FORCE) => "a new correlation is needed".to_string(),
 ///         Err(refused) => refused.to_string(),

@@ -23,9 +23,9 @@
 //! A time of one scale is not accepted where another is due:
 //!
 //! ```compile_fail,E0308
-//! use vrikshonem::{Gps, SbtCorrelation, Tick, Utc};
+//! use vrikshonem::{Gps, LeapList, SbtCorrelation, Tick, Utc};
 //! fn dated(correlation: SbtCorrelation<Utc>) {
-//!     let _ = correlation.date(Tick(0), Gps::new(0, 0));
+//!     let _ = correlation.date(Tick(0), Gps::new(0, 0), &LeapList::PUBLISHED);
 //! }
 //! ```
 #![deny(unsafe_code)]

@@ -130,12 +130,12 @@ extern "C" {
     pub fn vrk_sbt_write(tick: u32, out: *mut u8, out_count: usize) -> VrkWritten;
     pub fn vrk_proteus_read(bytes: *const u8, bytes_count: usize) -> VrkProteus;
     pub fn vrk_proteus_write(time: VrkHanded, h3: u32, out: *mut u8, out_count: usize) -> VrkWritten;
-    pub fn vrk_goce_date(obt: u64, correlation: VrkGoceCorrelation, receipt_day: i64, receipt_micro: u64) -> VrkTime;
-    pub fn vrk_goce_count(time: VrkHanded, correlation: VrkGoceCorrelation) -> VrkCount;
+    pub fn vrk_goce_date(obt: u64, correlation: VrkGoceCorrelation, receipt_day: i64, receipt_micro: u64, days: *const i64, days_count: usize, offsets: *const u64, offsets_count: usize, last: i64) -> VrkTime;
+    pub fn vrk_goce_count(time: VrkHanded, correlation: VrkGoceCorrelation, days: *const i64, days_count: usize, offsets: *const u64, offsets_count: usize, last: i64) -> VrkCount;
     pub fn vrk_decimal_read(day: f64, scale: u32) -> VrkTime;
     pub fn vrk_decimal_write(time: VrkHanded) -> VrkDecimal;
-    pub fn vrk_sbt_date(tick: u32, correlation: VrkSbtCorrelation, receipt_day: i64, receipt_micro: u64) -> VrkTime;
-    pub fn vrk_sbt_tick(time: VrkHanded, correlation: VrkSbtCorrelation) -> VrkCount;
+    pub fn vrk_sbt_date(tick: u32, correlation: VrkSbtCorrelation, receipt_day: i64, receipt_micro: u64, days: *const i64, days_count: usize, offsets: *const u64, offsets_count: usize, last: i64) -> VrkTime;
+    pub fn vrk_sbt_tick(time: VrkHanded, correlation: VrkSbtCorrelation, days: *const i64, days_count: usize, offsets: *const u64, offsets_count: usize, last: i64) -> VrkCount;
     pub fn vrk_list_accepted(days: *const i64, days_count: usize, offsets: *const u64, offsets_count: usize, last: i64) -> u32;
     pub fn vrk_change(time: VrkHanded, to_scale: u32, days: *const i64, days_count: usize, offsets: *const u64, offsets_count: usize, last: i64) -> VrkTime;
     pub fn vrk_cuc_fields_read(bytes: *const u8, bytes_count: usize) -> VrkCucFields;
@@ -223,12 +223,12 @@ pub(crate) fn proteus_write(time: VrkHanded, h3: u32, out: &mut [u8]) -> VrkWrit
     unsafe { vrk_proteus_write(time, h3, out.as_mut_ptr(), out.len()) }
 }
 
-pub(crate) fn goce_date(obt: u64, correlation: VrkGoceCorrelation, receipt_day: i64, receipt_micro: u64) -> VrkTime {
-    unsafe { vrk_goce_date(obt, correlation, receipt_day, receipt_micro) }
+pub(crate) fn goce_date(obt: u64, correlation: VrkGoceCorrelation, receipt_day: i64, receipt_micro: u64, days: &[i64], offsets: &[u64], last: i64) -> VrkTime {
+    unsafe { vrk_goce_date(obt, correlation, receipt_day, receipt_micro, days.as_ptr(), days.len(), offsets.as_ptr(), offsets.len(), last) }
 }
 
-pub(crate) fn goce_count(time: VrkHanded, correlation: VrkGoceCorrelation) -> VrkCount {
-    unsafe { vrk_goce_count(time, correlation) }
+pub(crate) fn goce_count(time: VrkHanded, correlation: VrkGoceCorrelation, days: &[i64], offsets: &[u64], last: i64) -> VrkCount {
+    unsafe { vrk_goce_count(time, correlation, days.as_ptr(), days.len(), offsets.as_ptr(), offsets.len(), last) }
 }
 
 pub(crate) fn decimal_read(day: f64, scale: u32) -> VrkTime {
@@ -239,12 +239,12 @@ pub(crate) fn decimal_write(time: VrkHanded) -> VrkDecimal {
     unsafe { vrk_decimal_write(time) }
 }
 
-pub(crate) fn sbt_date(tick: u32, correlation: VrkSbtCorrelation, receipt_day: i64, receipt_micro: u64) -> VrkTime {
-    unsafe { vrk_sbt_date(tick, correlation, receipt_day, receipt_micro) }
+pub(crate) fn sbt_date(tick: u32, correlation: VrkSbtCorrelation, receipt_day: i64, receipt_micro: u64, days: &[i64], offsets: &[u64], last: i64) -> VrkTime {
+    unsafe { vrk_sbt_date(tick, correlation, receipt_day, receipt_micro, days.as_ptr(), days.len(), offsets.as_ptr(), offsets.len(), last) }
 }
 
-pub(crate) fn sbt_tick(time: VrkHanded, correlation: VrkSbtCorrelation) -> VrkCount {
-    unsafe { vrk_sbt_tick(time, correlation) }
+pub(crate) fn sbt_tick(time: VrkHanded, correlation: VrkSbtCorrelation, days: &[i64], offsets: &[u64], last: i64) -> VrkCount {
+    unsafe { vrk_sbt_tick(time, correlation, days.as_ptr(), days.len(), offsets.as_ptr(), offsets.len(), last) }
 }
 
 pub(crate) fn list_accepted(days: &[i64], offsets: &[u64], last: i64) -> u32 {

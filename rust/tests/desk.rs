@@ -1,18 +1,18 @@
 //! The paper's marked cases, and each refusal, through the crate.
 
+#[path = "desk/correlations.rs"]
+mod correlations;
+
 use vrikshonem::*;
 
 const LIST: LeapList<'static> = LeapList::PUBLISHED;
 const DAY: u64 = 86_400_000_000;
 const SECOND: u64 = 1_000_000;
+const NONE: LeapList<'static> = LeapList { days: &[], offsets: &[], last: 9131 };
 
 fn correlation<T>(tick: u32, reference: T, back: u64, ahead: u64) -> SbtCorrelation<T> {
     SbtCorrelation { tick: Tick(tick), reference, period: 3_906_250_000, back, ahead }
 }
-
-// GOCE's clock, exactly as fast as UTC, with its widest window.
-const GOCE: GoceCorrelation =
-    GoceCorrelation { obt0: 0, utc0: 0, offset: 0, gradient: 1_000_000_000, back: 1 << 47, ahead: (1 << 47) - 1 };
 
 #[test]
 fn marked_cases() {
@@ -47,12 +47,12 @@ fn marked_cases() {
     assert_eq!(siral::read(&[0, 0, 0, 0, 0, 0, 0, 0, 0, 1]), Ok(Tai::new(0, 2)));
     // 8
     let wrap = correlation(0xFFFF_FFFF, Tai::new(1, SECOND), 1, 1);
-    assert_eq!(wrap.date(Tick(0), wrap.reference), Ok(Tai::new(1, SECOND + 3906)));
-    assert_eq!(wrap.date(Tick(0xFFFF_FFFE), wrap.reference), Ok(Tai::new(1, SECOND - 3907)));
+    assert_eq!(wrap.date(Tick(0), wrap.reference, &LIST), Ok(Tai::new(1, SECOND + 3906)));
+    assert_eq!(wrap.date(Tick(0xFFFF_FFFE), wrap.reference, &LIST), Ok(Tai::new(1, SECOND - 3907)));
     // 9
     let narrow = correlation(7, Gps::new(0, 0), 0, 0);
-    assert_eq!(narrow.date(Tick(7), narrow.reference), Ok(narrow.reference));
-    assert_eq!(narrow.date(Tick(8), narrow.reference), Err(Error::NOT_IN_FORCE));
+    assert_eq!(narrow.date(Tick(7), narrow.reference, &LIST), Ok(narrow.reference));
+    assert_eq!(narrow.date(Tick(8), narrow.reference, &LIST), Err(Error::NOT_IN_FORCE));
     // 10
     assert_eq!(Utc::from_decimal(-0.5), Ok(Utc::new(-1, 43_200_000_000)));
 }
@@ -65,15 +65,14 @@ fn every_refusal() {
     assert_eq!(goce::write(1 << 48, &mut out), Err(Error::FIELD_OVER));
     assert_eq!(text::read("31-FEB-2000 00:00:00", &LIST), Err(Error::FIELD_OVER));
     assert_eq!(Gps::from_decimal(f64::INFINITY), Err(Error::DECIMAL_NOT_FINITE));
-    let none = LeapList { days: &[], offsets: &[], last: 9131 };
-    assert!(!none.is_accepted());
-    assert_eq!(Tai::new(0, 0).to_utc(&none), Err(Error::LIST_NOT_ACCEPTED));
+    assert!(!NONE.is_accepted());
+    assert_eq!(Tai::new(0, 0).to_utc(&NONE), Err(Error::LIST_NOT_ACCEPTED));
     let mut slow = correlation(0, Tai::new(0, 0), 1, 1);
     slow.period = 3_906_500_001;
-    assert_eq!(slow.date(Tick(0), slow.reference), Err(Error::CORRELATION_NOT_ACCEPTED));
+    assert_eq!(slow.date(Tick(0), slow.reference, &LIST), Err(Error::CORRELATION_NOT_ACCEPTED));
     assert_eq!(Gps::new(Gps::FIRST_DAY - 1, 0).to_tai(), Err(Error::OUTSIDE_SPAN));
     assert_eq!(Tai::new(0, Tai::BOUND).to_gps(), Err(Error::OUTSIDE_SPAN));
-    assert_eq!(correlation(0, Tai::new(0, 0), 1, 1).tick_of(Tai::new(1, 0)), Err(Error::NOT_IN_FORCE));
+    assert_eq!(correlation(0, Tai::new(0, 0), 1, 1).tick_of(Tai::new(1, 0), &LIST), Err(Error::NOT_IN_FORCE));
     assert_eq!(Tai::new(9133, 0).to_utc(&LIST), Err(Error::LIST_EXPIRED));
     assert_eq!(Utc::new(0, DAY).to_tai(&LIST), Err(Error::SECOND_LACKING));
     assert_eq!(Tai::new(Tai::FIRST_DAY, 0).to_utc(&LIST), Err(Error::RESULT_OUTSIDE));
@@ -130,62 +129,7 @@ fn writings_read_back() {
     let utc = Utc::new(0, 1);
     assert_eq!(utc.to_decimal().and_then(Utc::from_decimal), Ok(utc));
     let held = correlation(5, Utc::new(0, 0), 10, 10);
-    assert_eq!(held.date(Tick(9), held.reference).and_then(|time| held.tick_of(time)), Ok(Tick(9)));
-}
-
-#[test]
-fn a_window_has_two_ends() {
-    let held = correlation(100, Utc::new(0, SECOND), 2, 5);
-    for (tick, good) in [(97, false), (98, true), (105, true), (106, false)] {
-        let answer = held.date(Tick(tick), held.reference);
-        assert_eq!(answer.is_ok(), good, "{tick}");
-        assert!(good || answer == Err(Error::NOT_IN_FORCE), "{tick}");
-    }
-    // the receipt too: two ticks back are 7,813 microseconds, rounded down, and five ahead 19,531
-    for (micro, good) in [(SECOND - 7814, false), (SECOND - 7813, true), (SECOND + 19_531, true), (SECOND + 19_532, false)] {
-        assert_eq!(held.date(Tick(100), Utc::new(0, micro)).is_ok(), good, "{micro}");
-    }
-    assert_eq!(held.date(Tick(100), Utc::new(0, DAY)), Err(Error::OUTSIDE_SPAN));
-}
-
-#[test]
-fn goce_counts_are_dated() {
-    let received = Utc::new(0, 0);
-    assert_eq!(GOCE.date(1, received), Ok(Utc::new(0, 15)));
-    // a count before the reference, past the wrap, is rounded towards the past
-    assert_eq!(GOCE.date((1 << 48) - 1, received), Ok(Utc::new(-1, DAY - 16)));
-    // one rounding: 45.8 and 45.8 are 91
-    assert_eq!(GoceCorrelation { utc0: 3, ..GOCE }.date(3, received), Ok(Utc::new(0, 91)));
-    // the offset has a sign, and the rate is of the difference alone
-    let held = GoceCorrelation { obt0: 65_536, utc0: 7 * 65_536, offset: -65_536, gradient: 1_001_000_000, ..GOCE };
-    assert_eq!(held.date(2 * 65_536, received), Ok(Utc::new(0, 7_001_000)));
-    for count in [0, 1, (1 << 47) - 1, (1 << 48) - 1] {
-        let time = GOCE.date(count, received);
-        assert_eq!(time.and_then(|time| GOCE.count_of(time)), Ok(count), "{count}");
-    }
-    assert_eq!(GOCE.count_of(Utc::new(0, 14)), Ok(0));
-    assert_eq!(GOCE.count_of(Handed::Decimal(-0.5, Scale::Utc)), Ok((1 << 48) - 43_200 * 65_536));
-}
-
-#[test]
-fn goce_refuses() {
-    let received = Utc::new(0, 0);
-    assert_eq!(GOCE.date(1 << 48, Utc::new(0, DAY)), Err(Error::FIELD_OVER));
-    assert_eq!(GoceCorrelation { obt0: 1 << 48, ..GOCE }.date(0, Utc::new(0, DAY)), Err(Error::CORRELATION_NOT_ACCEPTED));
-    assert_eq!(GoceCorrelation { offset: -5_662_310_401, ..GOCE }.count_of(received), Err(Error::CORRELATION_NOT_ACCEPTED));
-    assert_eq!(GOCE.date(0, Utc::new(0, DAY)), Err(Error::OUTSIDE_SPAN));
-    let narrow = GoceCorrelation { back: 0, ahead: 1, ..GOCE };
-    assert_eq!(narrow.date(1, Utc::new(0, 15)), Ok(Utc::new(0, 15)));
-    assert_eq!(narrow.date(2, received), Err(Error::NOT_IN_FORCE));
-    assert_eq!(narrow.date(1, Utc::new(0, 16)), Err(Error::NOT_IN_FORCE));
-    assert_eq!(narrow.count_of(Utc::new(0, 16)), Err(Error::NOT_IN_FORCE));
-    // half a wrap is more than 68 years, and UTC begins in 1972
-    assert_eq!(GOCE.date(1 << 47, received), Err(Error::RESULT_OUTSIDE));
-    assert_eq!(GOCE.count_of(Handed::Decimal(f64::NAN, Scale::Utc)), Err(Error::DECIMAL_NOT_FINITE));
-    assert_eq!(GOCE.count_of(Utc::new(36525, 0)), Err(Error::OUTSIDE_SPAN));
-    // of a time without an image 8 is not judged
-    assert_eq!(narrow.count_of(Utc::new(1, DAY)), Err(Error::NO_IMAGE));
-    assert_eq!(narrow.count_of(Gps::new(1, 0)), Err(Error::NO_IMAGE));
+    assert_eq!(held.date(Tick(9), held.reference, &LIST).and_then(|time| held.tick_of(time, &LIST)), Ok(Tick(9)));
 }
 
 #[test]
@@ -236,7 +180,7 @@ fn texts_of_each_form() {
 
 #[test]
 fn an_error_says_its_number_and_words() {
-    let refused = correlation(7, Gps::new(0, 0), 0, 0).date(Tick(8), Gps::new(0, 0)).unwrap_err();
+    let refused = correlation(7, Gps::new(0, 0), 0, 0).date(Tick(8), Gps::new(0, 0), &LIST).unwrap_err();
     let error: Box<dyn std::error::Error> = Box::new(refused);
     assert_eq!(error.to_string(), "refused 8: correlation not in force");
     assert_eq!(refused.words(), "correlation not in force");
