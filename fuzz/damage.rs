@@ -193,8 +193,10 @@ fn words(function: Function) -> Vec<(usize, usize)> {
 fn parts(function: Function) -> Vec<Part> {
     let list = List::of(function);
     let mut all: Vec<Part> = list.into_iter().map(Part::List).collect();
-    if !words(function).is_empty() {
-        all.push(Part::Word);
+    let words = words(function).len();
+    if words > 0 {
+        // a clock's correlation is damaged as often as its list, and what it dates besides
+        all.extend(vec![Part::Word; 1 + words / 8]);
     }
     for (at, (_, width, is_lent)) in function.shape().slices().enumerate() {
         if list.is_none_or(|list| ![list.days, list.offsets].contains(&at)) {

@@ -13,6 +13,7 @@ mod independent;
 
 mod laws;
 mod library;
+mod times;
 
 use compare::{calls, server};
 use calls::{bytes_of, Call, FUNCTIONS};

@@ -1,53 +1,11 @@
 //! What holds of every answer whatever the independent program says: the form of a refusal and of an answer, that what is written
-//! reads back and what is read is written again, and that a wider window changes nothing but an 8. The parts of a call are found by
-//! their names, so that these laws hold of a new pair of functions without a line here.
+//! reads back and what is read is written again, that a wider window changes nothing but an 8 and a longer list besides nothing but
+//! an 8 or a 9, and that a list which is not used changes nothing. The parts of a call are found by their names, so that these laws
+//! hold of a new pair of functions without a line here.
 
 use crate::calls::{refusal, Answer, Call, Function, Shape};
 use crate::library::named;
-
-const DAY: u64 = 86_400_000_000;
-/// By the scales' codes: the first day, and where a day's microseconds end at the latest.
-const SPANS: [(i64, u64); 3] = [(-10227, DAY), (-10227, DAY + 1_000_000), (-7300, DAY)];
-
-#[derive(Clone, Copy, PartialEq)]
-struct Time {
-    scale: u64,
-    day: i64,
-    micro: u64,
-}
-
-impl Time {
-    /// Where the answer of a function is a time.
-    fn answered(function: Function, answer: &Answer) -> Option<Time> {
-        let field = |name| function.shape().gives(name).map(|at| answer.words[at]);
-        Some(Time { scale: field("scale")?, day: field("day")? as i64, micro: field("micro")? })
-    }
-
-    /// The record that is handed in; a record's kind is 0.
-    fn handed(call: &Call) -> Option<Time> {
-        let field = |name| call.function.shape().field("time", name).map(|at| call.words[at]);
-        let time = Time { scale: field("scale")?, day: field("day")? as i64, micro: field("micro")? };
-        (field("kind")? == 0).then_some(time)
-    }
-
-    fn micros(self) -> i128 {
-        i128::from(self.day) * i128::from(DAY) + i128::from(self.micro)
-    }
-
-    fn span(self) -> Option<(i64, u64)> {
-        SPANS.get(usize::try_from(self.scale).ok()?).copied()
-    }
-
-    fn is_in_span(self) -> bool {
-        self.span().is_some_and(|(first, end)| (first..=36524).contains(&self.day) && self.micro < end)
-    }
-
-    /// The time itself, or one at most so many microseconds earlier, which is no second 60.
-    fn comes_back(self, as_time: Time, early: u64) -> bool {
-        let earlier = self.micros() - as_time.micros();
-        self == as_time || self.scale == as_time.scale && as_time.micro < DAY && (1..=early.into()).contains(&earlier)
-    }
-}
+use crate::times::{List, Time, LAST_DAY, UTC};
 
 /// A lent slice as it is left.
 fn left<'a>(function: Function, answer: &'a Answer, name: &str) -> Option<&'a [u8]> {
@@ -75,6 +33,10 @@ pub fn broken(call: &Call, answer: &Answer) -> Option<&'static str> {
     if time.is_some_and(|time| !time.is_in_span()) {
         return Some("a time outside its span");
     }
+    let listed = time.filter(|time| time.scale == UTC).zip(List::of(call));
+    if listed.is_some_and(|(time, list)| !list.knows(time)) {
+        return Some("a time that the list does not tell of");
+    }
     let image = shape.image.as_ref()?;
     let due = image.told.map_or(image.length as u64, |name| call.number(name));
     let length = shape.gives("length").map(|at| answer.words[at]);
@@ -86,7 +48,7 @@ pub fn broken(call: &Call, answer: &Answer) -> Option<&'static str> {
 }
 
 /// A counter: what dates it, what turns a time into its count, half its wrap, and the most microseconds from one count to a time
-/// before the next.
+/// before the next; under a UTC correlation they are TAI's.
 struct Clock {
     date: Function,
     turn: Function,
@@ -236,30 +198,61 @@ fn back(call: &Call, answer: &Answer) -> Option<Again> {
     Some(Again { call, words, time, lent, wrong: "it does not come back" })
 }
 
-/// The same call with the widest window.
-fn wider(call: &Call, answer: &Answer) -> Option<Again> {
-    let half = clock(call.function)?.half;
-    // one that is not accepted may have a window that is wider
-    if [refusal::CORRELATION_NOT_ACCEPTED, refusal::NOT_IN_FORCE].contains(&answer.words[0]) {
-        return None;
-    }
-    let mut call = call.clone();
+/// The same answer to another call.
+fn stays(call: Call, answer: &Answer, wrong: &'static str) -> Again {
+    let words = answer.words.iter().map(|&word| Some(word)).collect();
+    Again { call, words, time: None, lent: answer.lent.clone(), wrong }
+}
+
+/// The call of a clock with the widest window.
+fn widened(call: &Call) -> Option<Call> {
+    let (mut call, half) = (call.clone(), clock(call.function)?.half);
     for (name, most) in [("back", half), ("ahead", half - 1)] {
         let at = call.function.shape().field("correlation", name)?;
         call.words[at] = most;
     }
-    let words = answer.words.iter().map(|&word| Some(word)).collect();
-    Some(Again { call, words, time: None, lent: answer.lent.clone(), wrong: "a wider window changes it" })
+    Some(call)
+}
+
+/// The same call with the widest window. One that is not accepted may have a window that is wider.
+fn wider(call: &Call, answer: &Answer) -> Option<Again> {
+    let may_change = [refusal::CORRELATION_NOT_ACCEPTED, refusal::NOT_IN_FORCE].contains(&answer.words[0]);
+    widened(call).filter(|_| !may_change).map(|call| stays(call, answer, "a wider window changes it"))
+}
+
+/// The same call with its list to the last day of all, of a clock with the widest window too. A list may be not accepted for its
+/// last day alone.
+fn longer(call: &Call, answer: &Answer) -> Option<Again> {
+    use refusal::{CORRELATION_NOT_ACCEPTED, LIST_EXPIRED, LIST_NOT_ACCEPTED, NOT_IN_FORCE};
+    let may_change = [LIST_NOT_ACCEPTED, CORRELATION_NOT_ACCEPTED, NOT_IN_FORCE, LIST_EXPIRED].contains(&answer.words[0]);
+    let shape = call.function.shape();
+    let last = shape.words("last").filter(|_| !may_change && shape.gives("refusal").is_some())?;
+    let mut call = widened(call).unwrap_or_else(|| call.clone());
+    call.words[last.start] = LAST_DAY as u64;
+    Some(stays(call, answer, "a longer list changes it"))
+}
+
+/// The same call without a list, of a clock that is not kept in UTC; GOCE's always is.
+fn listless(call: &Call, answer: &Answer) -> Option<Again> {
+    clock(call.function)?;
+    let shape = call.function.shape();
+    let scale = call.words[shape.field("correlation", "scale")?];
+    let mut call = call.clone();
+    for name in ["days", "offsets"] {
+        call.slices[shape.slice(name)?].clear();
+    }
+    (scale != UTC).then(|| stays(call, answer, "a list that is not used changes it"))
 }
 
 pub fn again(call: &Call, answer: &Answer) -> impl Iterator<Item = Again> {
-    back(call, answer).into_iter().chain(wider(call, answer))
+    let same = [wider(call, answer), longer(call, answer), listless(call, answer)];
+    back(call, answer).into_iter().chain(same.into_iter().flatten())
 }
 
 impl Again {
     pub fn agrees(&self, got: &Answer) -> bool {
         let words = self.words.iter().zip(&got.words).all(|(due, got)| due.is_none_or(|due| due == *got));
         let time = self.time.zip(Time::answered(self.call.function, got));
-        words && time.is_none_or(|((due, early), got)| due.comes_back(got, early)) && got.lent == self.lent
+        words && time.is_none_or(|((due, early), got)| due.comes_back(got, early, &self.call)) && got.lent == self.lent
     }
 }

@@ -20,6 +20,7 @@ mod desk;
 mod kept;
 mod laws;
 mod library;
+mod times;
 
 use compare::{calls, server};
 use calls::{Answer, Call, Function, Random, FUNCTIONS};
