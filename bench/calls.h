@@ -23,12 +23,14 @@ struct input {
         uint32_t part[4];
         uint64_t value;
     };
+    const struct leap_list *list;
     union {
-        const struct leap_list *list;
+        struct {
+            uint32_t code;  /* a tick, an H3, a form or the scale that is wanted */
+            uint32_t count; /* bytes given or lent */
+        };
         uint64_t obt; /* a count that is dated */
     };
-    uint32_t code;  /* a tick, an H3, a form or the scale that is wanted */
-    uint32_t count; /* bytes given or lent */
 };
 
 /* What many functions take of the i-th input x. */

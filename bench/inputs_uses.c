@@ -35,10 +35,23 @@ static vrk_handed or_decimal(size_t i, vrk_handed time) {
 /* A day that no window reaches. */
 static int64_t far(int64_t day) { return day + (day < 0 ? 2 : -2); }
 
+/* Of the UTC references one in sixteen lies within an hour before a leap second; the step is then told, and otherwise 0. From the
+ * 23rd step on they lie after 1999. */
+static size_t any_step(uint32_t scale, size_t first) {
+    return scale == VRK_UTC && below(16) == 0 ? first + below(PUBLISHED - first) : 0;
+}
+
+/* What is received about it is received in second 60, one in two. */
+static vrk_handed or_second_60(size_t step, vrk_handed time) {
+    if (step && below(2)) time.day = published_days[step] - 1, time.micro = (uint64_t)DAY + below(SECOND);
+    return time;
+}
+
 enum { WINDOW = 1 << 20 };
 
-static vrk_sbt_correlation any_correlation(uint32_t scale) {
+static vrk_sbt_correlation any_correlation(uint32_t scale, size_t step) {
     vrk_handed r = any_record(scale, FIRST_DAY + 1);
+    if (step) r.day = published_days[step] - 1, r.micro = (uint64_t)DAY - 1 - below(3600 * SECOND);
     return (vrk_sbt_correlation){(uint32_t)below(UINT64_C(1) << 32), scale, r.day, r.micro, 3906000000 + below(500001), WINDOW, WINDOW};
 }
 
@@ -56,48 +69,82 @@ static void make_unaccepted(vrk_sbt_correlation *c, size_t which) {
     }
 }
 
-static void make_sbt_date(struct input *x, size_t i, size_t steps) {
-    (void)steps;
-    x->correlation = any_correlation((uint32_t)(i % 3));
-    x->time = near_tick(&x->correlation);
+/* Outside the window: by days, or half a second past its end, which a leap second brings that much nearer. */
+static void put_outside(struct input *x, size_t which) {
+    if (x->correlation.scale != VRK_UTC || which % 2 == 0) {
+        x->time.day = far(x->time.day);
+        return;
+    }
+    x->correlation = any_correlation(VRK_UTC, 1 + which % (PUBLISHED - 1));
+    x->code = x->correlation.tick;
+    x->time.day = x->correlation.day + 1;
+    x->time.micro = x->correlation.micro + WINDOW * x->correlation.period / 1000000 - (uint64_t)SECOND / 2 - (uint64_t)DAY;
+}
+
+static void date_tick(struct input *x, size_t i, uint32_t scale) {
+    size_t step = any_step(scale, 1), bad = refused(i);
+    x->list = listed(0);
+    x->correlation = any_correlation(scale, step);
+    x->time = or_second_60(step, near_tick(&x->correlation));
     x->code = x->correlation.tick + (uint32_t)below(2 * WINDOW) - WINDOW;
-    size_t bad = refused(i);
     if (!bad) return;
-    switch (bad % 5) {
-    case 0: make_unaccepted(&x->correlation, bad / 5); break;
-    case 1: x->time.micro = DAY; break;
+    switch (bad % 8) {
+    case 0: make_unaccepted(&x->correlation, bad / 8); break;
+    case 1: x->time.micro = (uint64_t)(scale == VRK_UTC ? DAY + SECOND : DAY); break;
     case 2: x->code = x->correlation.tick + WINDOW + 1; break;
-    case 3: x->time.day = far(x->time.day); break;
-    case 4: /* a reference in the last microsecond of the span */
-        x->correlation.day = x->time.day = LAST_DAY, x->correlation.micro = x->time.micro = DAY - 1;
+    case 3: put_outside(x, bad / 8); break;
+    case 4: /* a reference in the last microsecond of the span, or of UTC in the first */
+        x->correlation.day = x->time.day = scale == VRK_UTC ? FIRST_DAY : LAST_DAY;
+        x->correlation.micro = x->time.micro = scale == VRK_UTC ? 0 : (uint64_t)DAY - 1;
+        x->code = scale == VRK_UTC ? x->correlation.tick - 1 : x->correlation.tick + WINDOW;
+        break;
+    case 5: x->list = bad_list(bad / 8); break;
+    case 6: x->time.day = 1, x->time.micro = (uint64_t)DAY; break;
+    case 7: /* where the list has ended: the reference, the receipt, or the result with a receipt in no second of its day */
+        if (bad / 8 % 3 == 0) x->correlation.day = LISTED + 1;
+        if (bad / 8 % 3 == 1) x->time.day = LISTED + 1;
+        if (bad / 8 % 3 != 2) break;
+        x->correlation.day = x->time.day = LISTED;
+        x->correlation.micro = (uint64_t)DAY - 1, x->time.micro = (uint64_t)DAY;
         x->code = x->correlation.tick + WINDOW;
         break;
     }
 }
 
-static void make_sbt_tick(struct input *x, size_t i, size_t steps) {
-    (void)steps;
-    x->correlation = any_correlation((uint32_t)(i % 3));
-    x->time = or_decimal(i, near_tick(&x->correlation));
-    size_t bad = refused(i);
+static void turn_tick(struct input *x, size_t i, uint32_t scale) {
+    size_t step = any_step(scale, 1), bad = refused(i);
+    x->list = listed(0);
+    x->correlation = any_correlation(scale, step);
+    x->time = or_decimal(i, or_second_60(step, near_tick(&x->correlation)));
     if (!bad) return;
-    switch (bad % 4) {
-    case 0: make_unaccepted(&x->correlation, bad / 4); break;
-    case 1: x->time = bad_time(bad / 4); break;
+    switch (bad % 7) {
+    case 0: make_unaccepted(&x->correlation, bad / 7); break;
+    case 1: x->time = bad_time(bad / 7); break;
     case 2: x->time.scale = (x->time.scale + 1) % 3; break;
-    case 3: x->time.day = far(x->time.day); break;
+    case 3: put_outside(x, bad / 7); break;
+    case 4: x->list = bad_list(bad / 7); break;
+    case 5: x->time.day = 1, x->time.micro = (uint64_t)DAY; break;
+    case 6: x->correlation.day = LISTED + 1; break;
     }
 }
+
+static void make_sbt_date(struct input *x, size_t i, size_t steps) { (void)steps, date_tick(x, i, (uint32_t)(i % 3)); }
+static void make_sbt_tick(struct input *x, size_t i, size_t steps) { (void)steps, turn_tick(x, i, (uint32_t)(i % 3)); }
+static void make_tai_date(struct input *x, size_t i, size_t steps) { (void)steps, date_tick(x, i, VRK_TAI); }
+static void make_utc_date(struct input *x, size_t i, size_t steps) { (void)steps, date_tick(x, i, VRK_UTC); }
+static void make_tai_tick(struct input *x, size_t i, size_t steps) { (void)steps, turn_tick(x, i, VRK_TAI); }
+static void make_utc_tick(struct input *x, size_t i, size_t steps) { (void)steps, turn_tick(x, i, VRK_UTC); }
 
 enum { GOCE_WINDOW = 1 << 28 };
 
 static uint64_t near_obt(uint64_t obt) { return (obt + below(2 * GOCE_WINDOW) - GOCE_WINDOW) % COUNTS; }
 
 /* A reference of day -1 on to 2024; in one of sixteen the count wraps within the window. */
-static vrk_goce_correlation any_goce(void) {
-    uint64_t obt0 = below(16) ? below(COUNTS) : near_obt(0);
-    return (vrk_goce_correlation){obt0, below(LISTED * DAY_COUNTS), (int64_t)below(2 * DAY_COUNTS + 1) - DAY_COUNTS,
-                                  999000000 + below(2000001), GOCE_WINDOW, GOCE_WINDOW};
+static vrk_goce_correlation any_goce(size_t step) {
+    uint64_t obt0 = below(16) ? below(COUNTS) : near_obt(0), utc0 = below(LISTED * DAY_COUNTS);
+    int64_t offset = (int64_t)below(2 * DAY_COUNTS + 1) - DAY_COUNTS;
+    if (step) utc0 = (uint64_t)(published_days[step] * DAY_COUNTS - 1 - offset) - below(3600 << 16);
+    return (vrk_goce_correlation){obt0, utc0, offset, 999000000 + below(2000001), GOCE_WINDOW, GOCE_WINDOW};
 }
 
 static vrk_handed near_count(const vrk_goce_correlation *c) {
@@ -118,48 +165,56 @@ static void make_unaccepted_goce(vrk_goce_correlation *c, size_t which) {
     }
 }
 
+enum { AFTER_1999 = 23 };
+
 static void make_goce_date(struct input *x, size_t i, size_t steps) {
     (void)steps;
-    x->goce = any_goce();
-    x->time = near_count(&x->goce);
+    size_t step = any_step(VRK_UTC, AFTER_1999), bad = refused(i);
+    x->list = listed(0);
+    x->goce = any_goce(step);
+    x->time = or_second_60(step, near_count(&x->goce));
     x->obt = near_obt(x->goce.obt0);
-    size_t bad = refused(i);
     if (!bad) return;
-    switch (bad % 8) {
-    case 0: make_unaccepted_goce(&x->goce, bad / 8); break;
-    case 1: x->time.micro = DAY; break;
+    switch (bad % 10) {
+    case 0: make_unaccepted_goce(&x->goce, bad / 10); break;
+    case 1: x->time.micro = (uint64_t)(DAY + SECOND); break;
     case 2: x->obt = (x->goce.obt0 + GOCE_WINDOW + 1) % COUNTS; break;
     case 3: x->time.day = far(x->time.day); break;
     case 4: x->obt |= COUNTS; break;
-    case 5: /* a reference in the last count of the span */
+    case 5: /* a reference in the last count of the span, where the list has ended */
         x->goce.utc0 = (uint64_t)((LAST_DAY + 1) * DAY_COUNTS - 1 - x->goce.offset);
-        x->time.day = LAST_DAY, x->time.micro = DAY - 1;
+        x->time.day = LAST_DAY, x->time.micro = (uint64_t)DAY - 1;
         x->obt = (x->goce.obt0 + GOCE_WINDOW) % COUNTS;
         break;
     case 6: /* as far back as a count can be, before the span */
         x->goce.back = COUNTS / 2, x->obt = x->goce.obt0 ^ COUNTS / 2;
         break;
     case 7: /* several at once */
-        make_unaccepted_goce(&x->goce, bad / 8);
-        x->time.micro = DAY;
-        if (bad / 8 % 2) x->obt |= COUNTS;
+        make_unaccepted_goce(&x->goce, bad / 10);
+        x->time.micro = (uint64_t)(DAY + SECOND);
+        if (bad / 10 % 2) x->obt |= COUNTS;
         break;
+    case 8: x->list = bad_list(bad / 10); break;
+    case 9: x->time.day = 1, x->time.micro = (uint64_t)DAY; break;
     }
 }
 
 static void make_goce_count(struct input *x, size_t i, size_t steps) {
     (void)steps;
-    x->goce = any_goce();
-    x->time = or_decimal(i, near_count(&x->goce));
-    size_t bad = refused(i);
+    size_t step = any_step(VRK_UTC, AFTER_1999), bad = refused(i);
+    x->list = listed(0);
+    x->goce = any_goce(step);
+    x->time = or_decimal(i, or_second_60(step, near_count(&x->goce)));
     if (!bad) return;
-    switch (bad % 6) {
-    case 0: make_unaccepted_goce(&x->goce, bad / 6); break;
-    case 1: x->time = bad_time(bad / 6); break;
-    case 2: x->time.scale = bad / 6 % 2 ? VRK_TAI : VRK_GPS; break;
+    switch (bad % 8) {
+    case 0: make_unaccepted_goce(&x->goce, bad / 8); break;
+    case 1: x->time = bad_time(bad / 8); break;
+    case 2: x->time.scale = bad / 8 % 2 ? VRK_TAI : VRK_GPS; break;
     case 3: x->time.day = far(x->time.day); break;
-    case 4: x->time.micro = DAY; break;
-    case 5: make_unaccepted_goce(&x->goce, bad / 6), x->time = bad_time(bad / 6); break;
+    case 4: x->time.day = 1, x->time.micro = (uint64_t)DAY; break;
+    case 5: make_unaccepted_goce(&x->goce, bad / 8), x->time = bad_time(bad / 8); break;
+    case 6: x->list = bad_list(bad / 8); break;
+    case 7: x->goce.utc0 = (uint64_t)((LISTED + 2) * DAY_COUNTS - x->goce.offset); break;
     }
 }
 
@@ -218,10 +273,14 @@ static void make_any(struct input *x, size_t i, size_t steps) {
 #define ROWS_OF_USES(FUNCTION, USE)                                                                                \
     FUNCTION(decimal_read, make_decimal_read, vrk_time, x->time.decimal, x->time.scale)                            \
     FUNCTION(decimal_write, make_decimal_write, vrk_decimal, x->time)                                              \
-    FUNCTION(sbt_date, make_sbt_date, vrk_time, x->code, x->correlation, x->time.day, x->time.micro)               \
-    FUNCTION(sbt_tick, make_sbt_tick, vrk_count, x->time, x->correlation)                                          \
-    FUNCTION(goce_date, make_goce_date, vrk_time, x->obt, x->goce, x->time.day, x->time.micro)                     \
-    FUNCTION(goce_count, make_goce_count, vrk_count, x->time, x->goce)                                             \
+    FUNCTION(sbt_date, make_sbt_date, vrk_time, x->code, x->correlation, x->time.day, x->time.micro, LIST)         \
+    USE("sbt_date TAI", make_tai_date, sbt_date)                                                                   \
+    USE("sbt_date UTC", make_utc_date, sbt_date)                                                                   \
+    FUNCTION(sbt_tick, make_sbt_tick, vrk_count, x->time, x->correlation, LIST)                                    \
+    USE("sbt_tick TAI", make_tai_tick, sbt_tick)                                                                   \
+    USE("sbt_tick UTC", make_utc_tick, sbt_tick)                                                                   \
+    FUNCTION(goce_date, make_goce_date, vrk_time, x->obt, x->goce, x->time.day, x->time.micro, LIST)               \
+    FUNCTION(goce_count, make_goce_count, vrk_count, x->time, x->goce, LIST)                                       \
     FUNCTION(list_accepted, make_list, uint32_t, LIST)                                                             \
     FUNCTION(change, make_change, vrk_time, x->time, x->code, LIST)                                                \
     USE("change UTC TAI", make_utc_tai, change, [LISTED_ONLY] = run_plain_change_listed, [ERFA] = run_erfa_change) \

@@ -76,6 +76,32 @@ static inline vrk_time changed(vrk_time t, uint32_t to, const struct list *l) {
     return time_at(to, to == VRK_GPS ? tai - GPS_OFFSET * SECOND : tai, VRK_RESULT_OUTSIDE);
 }
 
+/* ---- clocks that are kept in UTC; their times are microseconds since day 0 in days of 86,400 s, from the reference's on */
+
+static inline int64_t offset_on(const struct list *l, int64_t day) { return (int64_t)l->offsets[step_on(l, day)]; }
+
+/* The time `at` of a clock whose window is from `begin` to `end`: the rest of 8, where reference and receipt are both known, and
+ * 9, 10, 11. */
+static inline vrk_time clocked(const struct list *l, int64_t reference_day, vrk_time receipt, int64_t begin, int64_t end, int64_t at) {
+    if (reference_day > l->last || receipt.day > l->last) return no_time(VRK_LIST_EXPIRED, VRK_UTC);
+    int64_t offset = 0, own = offset_on(l, reference_day);
+    uint32_t lacking = utc_refusal(l, receipt, &offset);
+    int64_t received = micros_of(receipt) + (offset - own) * SECOND;
+    if (!lacking && (received < begin || received > end)) return no_time(VRK_NOT_IN_FORCE, VRK_UTC);
+    vrk_time result = utc_of(l, at + own * SECOND);
+    return lacking && result.refusal != VRK_LIST_EXPIRED ? no_time(lacking, VRK_UTC) : result;
+}
+
+/* What a time that is turned back is refused with, 9, 10 or 12, or 0 and where it lies. */
+static inline uint32_t unclocked(const struct list *l, int64_t reference_day, vrk_time t, int64_t *at) {
+    if (reference_day > l->last) return VRK_LIST_EXPIRED;
+    if (t.scale != VRK_UTC) return VRK_NO_IMAGE;
+    int64_t offset = 0;
+    uint32_t refusal = utc_refusal(l, t, &offset);
+    *at = micros_of(t) + (offset - offset_on(l, reference_day)) * SECOND;
+    return refusal;
+}
+
 uint32_t plain_list_accepted(const int64_t *days, size_t day_count, const uint64_t *offsets, size_t offset_count, int64_t last) {
     return (uint32_t)is_accepted(days, day_count, offsets, offset_count, last);
 }

@@ -18,25 +18,33 @@ static inline int64_t time_of_count(const vrk_goce_correlation *c, int64_t k) {
     return floored((int64_t)(n >> 16), 1000);
 }
 
-vrk_time plain_goce_date(uint64_t obt, vrk_goce_correlation c, int64_t receipt_day, uint64_t receipt_micro) {
+static inline int64_t reference_day(const vrk_goce_correlation *c) { return floored(reference(c), DAY_COUNTS); }
+
+vrk_time plain_goce_date(uint64_t obt, vrk_goce_correlation c, int64_t receipt_day, uint64_t receipt_micro, const int64_t *days,
+                         size_t day_count, const uint64_t *offsets, size_t offset_count, int64_t last) {
     if (obt >= COUNTS) return no_time(VRK_FIELD_OVER, VRK_UTC);
+    if (!is_accepted(days, day_count, offsets, offset_count, last)) return no_time(VRK_LIST_NOT_ACCEPTED, VRK_UTC);
     if (!is_goce_correlation(&c)) return no_time(VRK_CORRELATION_NOT_ACCEPTED, VRK_UTC);
-    if (!spans_plainly(VRK_UTC, receipt_day, receipt_micro)) return no_time(VRK_OUTSIDE_SPAN, VRK_UTC);
+    if (!spans(VRK_UTC, receipt_day, receipt_micro)) return no_time(VRK_OUTSIDE_SPAN, VRK_UTC);
     int64_t k = (int64_t)((obt - c.obt0) << 16) >> 16, back = -(int64_t)c.back, ahead = (int64_t)c.ahead;
-    int64_t receipt = receipt_day * DAY + (int64_t)receipt_micro;
-    if (k < back || k > ahead || receipt < time_of_count(&c, back) || receipt > time_of_count(&c, ahead))
-        return no_time(VRK_NOT_IN_FORCE, VRK_UTC);
-    return time_at(VRK_UTC, time_of_count(&c, k), VRK_RESULT_OUTSIDE);
+    if (k < back || k > ahead) return no_time(VRK_NOT_IN_FORCE, VRK_UTC);
+    struct list l = {days, offsets, day_count, last};
+    vrk_time receipt = a_time(VRK_UTC, receipt_day, (int64_t)receipt_micro);
+    return clocked(&l, reference_day(&c), receipt, time_of_count(&c, back), time_of_count(&c, ahead), time_of_count(&c, k));
 }
 
 /* The last k with (UTC0 + Offset) * 10^9 + k * Gradient < (t + 1) * 65,536,000: a division of 128 bits, in two of 64. */
-vrk_count plain_goce_count(vrk_handed time, vrk_goce_correlation c) {
+vrk_count plain_goce_count(vrk_handed time, vrk_goce_correlation c, const int64_t *days, size_t day_count, const uint64_t *offsets,
+                           size_t offset_count, int64_t last) {
     vrk_time t = taken(time);
-    int accepted = is_goce_correlation(&c);
-    if (t.refusal && (accepted || t.refusal <= VRK_DECIMAL_NOT_FINITE)) return (vrk_count){t.refusal, 0};
-    if (!accepted) return (vrk_count){VRK_CORRELATION_NOT_ACCEPTED, 0};
-    if (t.scale != VRK_UTC || in_second_60(t)) return (vrk_count){VRK_NO_IMAGE, 0};
-    int64_t at = micros_of(t), gradient = (int64_t)c.gradient;
+    if (t.refusal && t.refusal <= VRK_DECIMAL_NOT_FINITE) return (vrk_count){t.refusal, 0};
+    if (!is_accepted(days, day_count, offsets, offset_count, last)) return (vrk_count){VRK_LIST_NOT_ACCEPTED, 0};
+    if (!is_goce_correlation(&c)) return (vrk_count){VRK_CORRELATION_NOT_ACCEPTED, 0};
+    if (t.refusal) return (vrk_count){t.refusal, 0};
+    struct list l = {days, offsets, day_count, last};
+    int64_t at = 0, gradient = (int64_t)c.gradient;
+    uint32_t refusal = unclocked(&l, reference_day(&c), t, &at);
+    if (refusal) return (vrk_count){refusal, 0};
     if (at < time_of_count(&c, -(int64_t)c.back) || at > time_of_count(&c, (int64_t)c.ahead))
         return (vrk_count){VRK_NOT_IN_FORCE, 0};
     __int128 n = (__int128)(at + 1) * 65536000 - 1 - (__int128)reference(&c) * 1000000000;

@@ -11,7 +11,7 @@ static inline int spans(uint32_t scale, int64_t day, uint64_t micro) {
     return day >= first_day(scale) && day <= LAST_DAY && micro < (uint64_t)(scale == VRK_UTC ? DAY + SECOND : DAY);
 }
 
-/* As a reference or a receipt must: in second 60 there is none. */
+/* As a reference must: in second 60 there is none. */
 static inline int spans_plainly(uint32_t scale, int64_t day, uint64_t micro) {
     return spans(scale, day, micro) && micro < (uint64_t)DAY;
 }
