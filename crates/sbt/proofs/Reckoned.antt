@@ -31,13 +31,8 @@ module _ (r p k : ℕ) (b : Based r p) (few : k < 4294967296) where
         is x y e = omega arith
 
 module _ (r p w : ℕ) (n : Near r p w) where
-  same : (x y : ℕ) → x ≡ y → x / p ≡ y / p
-  same x y e = ap (λ (m : ℕ). m / p) e
+  pub reaches : r ≤ w + 8389144870912
+  reaches = omega (arith, n .low, n .based .slow)
 
-  pub before-is : w < r → (2147483648 * p - (r - w - 1) * 1000000 - 1) / p ≡ lastAt r p w
-  before-is h =
-      same (2147483648 * p - (r - w - 1) * 1000000 - 1) ((w + 1) * 1000000 + 2147483648 * p - r * 1000000 - 1) (omega (arith, n .low))
-
-  pub after-is : r ≤ w → (2147483648 * p + (w + 1 - r) * 1000000 - 1) / p ≡ lastAt r p w
-  after-is h =
-      same (2147483648 * p + (w + 1 - r) * 1000000 - 1) ((w + 1) * 1000000 + 2147483648 * p - r * 1000000 - 1) (omega (arith, n .low))
+  pub last-is : ((w + 8389144870912 - r) * 1000000 + 999999 - (8389144870912000000 - 2147483648 * p)) / p ≡ lastAt r p w
+  last-is = ap (λ (m : ℕ). m / p) (omega (arith, n .low, reaches, n .based .slow))

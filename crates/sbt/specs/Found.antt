@@ -26,7 +26,7 @@ use Rattle.clock.specs.declared.inner.Place.the-variants as P
 use Rattle.clock.specs.declared.inner.Placed.{Placed}
 use Rattle.clock.specs.declared.inner.Placed.the-variants as L
 use Rattle.sbt.specs.Meaning.{accepted, clockOf, dateOf, tickOf}
-use Rattle.sbt.specs.Places.{placeOf, shifted, baseOf, endsAt, tickedAt, Windowed, Reached}
+use Rattle.sbt.specs.Places.{placeOf, shifted, baseOf, endsAt, lastIn, tickedAs, Windowed, Reached, Few}
 use Rattle.sbt.specs.Accepted.{sound, based}
 use Rattle.sbt.specs.declared.Correlation.{Correlation}
 
@@ -36,6 +36,10 @@ pub record Standing (c : Correlation) (ds : List ℤ) (os : List ℕ) (e : ℤ) 
   pub accepts : accepted c ≡ true
   pub based : C.Based (clockOf c ds os) (r * 1000000)
   pub windowed : Windowed r (c .period) (c .back) (c .ahead)
+
+-- the last count of a handed time, or its refusal
+abbrev pub Lasts : Correlation → Handed → List ℤ → List ℕ → ℤ → Placed → Type 0
+Lasts c h ds os e k = (Few k) × (tickedAs (c .tick .0) k ≡ tickOf c h ds os e)
 
 module _ (c : Correlation) (ds : List ℤ) (os : List ℕ) (e : ℤ) where
   standing : (r : ℕ) → listServes (c .scale) ds os e ≡ true → accepted c ≡ true → secondsIn (c .scale) (c .day) ds os ≤ 73 → shifted c ds os ≡ r →
@@ -67,16 +71,18 @@ module _ (c : Correlation) (ds : List ℤ) (os : List ℕ) (e : ℤ) where
     reached (L.At w) f =
         let m = T.near (accepted c) (s .accepts) (clockOf c ds os) ds os e (s .serves) (r * 1000000) (s .based) h w f in
         let p : c .ahead * c .period ≤ 8389144870912000000 =
-        mul-le-mul {n₂ = 2147483648} {m₂ = 3906500000} (omega (arith, s .windowed .ahead-to)) (s .windowed .based .slow) in (
-          record { based = s .windowed .based; low = m .low; high = omega (arith, m .high, p) },
-          T.few (accepted c) (s .accepts) (clockOf c ds os) ds os e (s .serves) (r * 1000000) (s .based) h w f,
-        )
+        mul-le-mul {n₂ = 2147483648} {m₂ = 3906500000} (omega (arith, s .windowed .ahead-to)) (s .windowed .based .slow) in
+        record { based = s .windowed .based; low = m .low; high = omega (arith, m .high, p) }
     reached (L.Refused g) f = omega arith
 
-    pub ticked : (p : Placed) → Lands p → tickedAt (c .tick .0) r (c .period) p ≡ tickOf c h ds os e
+    pub lasts : (p : Placed) → Lands p → Lasts c h ds os e (lastIn r (c .period) p)
     unfolding tickOf
-    ticked (L.At w) f = ap (valued 0) (T.turn-is (accepted c) (s .accepts) (clockOf c ds os) ds os e (s .serves) (r * 1000000) (s .based) h w f)
-    ticked (L.Refused g) f = ap (valued 0) (T.turn-not (accepted c) (s .accepts) (clockOf c ds os) ds os e (s .serves) (r * 1000000) (s .based) h (numberOf g) f)
+    lasts (L.At w) f = (
+      T.few (accepted c) (s .accepts) (clockOf c ds os) ds os e (s .serves) (r * 1000000) (s .based) h w f,
+      ap (valued 0) (T.turn-is (accepted c) (s .accepts) (clockOf c ds os) ds os e (s .serves) (r * 1000000) (s .based) h w f),
+    )
+    lasts (L.Refused g) f =
+        (omega arith, ap (valued 0) (T.turn-not (accepted c) (s .accepts) (clockOf c ds os) ds os e (s .serves) (r * 1000000) (s .based) h (numberOf g) f))
 
   -- ---- not accepted, and a list that serves
   module _ (l : listServes (c .scale) ds os e ≡ true) (a : accepted c ≡ false) where

@@ -48,9 +48,14 @@ lastAt r p w = C.lastAt (r * 1000000) p 1000000 2147483648 w
 abbrev pub tickFrom : ℕ → ℕ → ℕ
 tickFrom r k = C.shownAt 2147483648 r k
 
-abbrev pub tickedAt : ℕ → ℕ → ℕ → Placed → Valued ℕ
-tickedAt t r p (T.At w) = valued 0 (answer (tickFrom t (lastAt r p w)))
-tickedAt t r p (T.Refused f) = valued 0 (refused (numberOf f))
+-- and where a place was found
+abbrev pub lastIn : ℕ → ℕ → Placed → Placed
+lastIn r p (T.At w) = T.At (lastAt r p w)
+lastIn r p (T.Refused f) = T.Refused f
+
+abbrev pub tickedAs : ℕ → Placed → Valued ℕ
+tickedAs t (T.At k) = valued 0 (answer (tickFrom t k))
+tickedAs t (T.Refused f) = valued 0 (refused (numberOf f))
 
 -- ---- what they require: a reference of the span, up to 73 s later in TAI, and a period, as accepted
 pub record Based (r p : ℕ) : Type 0 where
@@ -70,7 +75,12 @@ pub record Near (r p w : ℕ) : Type 0 where
   pub low : r * 1000000 < (w + 1) * 1000000 + 2147483648 * p
   pub high : w ≤ r + 8389144870912
 
--- where a place was found
+-- where it was found
 abbrev pub Reached : ℕ → ℕ → Placed → Type 0
-Reached r p (T.At w) = (Near r p w) × (lastAt r p w < 4294967296)
+Reached r p (T.At w) = Near r p w
 Reached r p (T.Refused f) = 0 ≤ 0
+
+-- a count of the window
+abbrev pub Few : Placed → Type 0
+Few (T.At k) = k < 4294967296
+Few (T.Refused f) = 0 ≤ 0

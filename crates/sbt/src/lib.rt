@@ -8,7 +8,8 @@ ghost use Rattle.scales.specs.Meaning.{slip, tickSlip};
 ghost use Rattle.leap.specs.Meaning as Leap;
 ghost use Rattle.via_tai.specs.Meaning.{isUtc};
 ghost use Rattle.sbt.specs.Meaning.{dateOf, tickOf};
-ghost use Rattle.sbt.specs.Places.{placeOf, baseOf, reckonedAt, timeAt, endsAt, countFrom, lastAt, tickFrom, tickedAt, Based, Windowed, Near, Reached};
+ghost use Rattle.sbt.specs.Places.{placeOf, baseOf, reckonedAt, timeAt, endsAt, countFrom, lastAt, tickFrom, lastIn, Based, Windowed, Near, Reached};
+ghost use Rattle.sbt.specs.Found.{Lasts};
 use clock::inner::Base;
 use clock::inner::Ends;
 use clock::inner::Place;
@@ -159,16 +160,14 @@ pub fn date(
 
 // ---- the tick of a time
 
-// The last count whose time is not later than w.
+// The last count whose time is not later than a place, from 2^31 counts before the reference on. A place is at most 2^31 of the
+// longest periods from the reference, 8,389,144,870,912 microseconds.
 fn last_at(r: u64, p: u64, w: u64) -> u64
     requires { ⌜ Near r p w ⌝ }
     ensures { λ k. ⌜ k ≡ lastAt r p w ⌝ }
 {
-    if w < r {
-        (2_147_483_648 * p - (r - w - 1) * 1_000_000 - 1) / p
-    } else {
-        (2_147_483_648 * p + (w + 1 - r) * 1_000_000 - 1) / p
-    }
+    let rest = 8_389_144_870_912_000_000 - 2_147_483_648 * p;
+    ((w + 8_389_144_870_912 - r) * 1_000_000 + 999_999 - rest) / p
 }
 
 // The tick at a count from the reference tick.
@@ -179,47 +178,57 @@ fn tick_from(reference: u32, k: u64) -> u32
     (((reference as u64) + k + 2_147_483_648) % 4_294_967_296) as u32
 }
 
-// The tick of a place in the cover, for the reference at r, or the refusal that was found instead.
-fn tick_at(c: Correlation, r: u64, p: Placed) -> Ticked
-    requires { ⌜ Reached r (c .period) p ⌝ }
-    ensures { λ t. ⌜ tickSlip t ≡ tickedAt (c .tick .0) r (c .period) p ⌝ }
+// The last count whose time is not later than a place in the cover, for the reference at r, or the refusal that was found instead.
+fn last_in(r: u64, p: u64, w: Placed) -> Placed
+    requires { ⌜ Reached r p w ⌝ }
+    ensures { λ k. ⌜ k ≡ lastIn r p w ⌝ }
 {
-    match p {
-        Placed::At(w) => Ticked::Tick(Tick(tick_from(c.tick.0, last_at(r, c.period, w)))),
-        Placed::Refused(f) => Ticked::Refused(f),
+    match w {
+        Placed::At(w) => Placed::At(last_at(r, p, w)),
+        Placed::Refused(f) => Placed::Refused(f),
     }
 }
 
-// The tick of a handed time under a UTC correlation, by the list.
-fn tick_by_list(c: Correlation, h: Handed, days: &[i64], offsets: &[u64], last: i64) -> Ticked
+// The last count of a handed time under a UTC correlation, by the list.
+fn last_by_list(c: Correlation, h: Handed, days: &[i64], offsets: &[u64], last: i64) -> Placed
     requires { ⌜ isUtc (c .scale) ≡ true ⌝ }
-    ensures { λ r. ⌜ tickSlip r ≡ tickOf c h (now (days .entry)) (now (offsets .entry)) last ⌝ }
+    ensures { λ k. ⌜ Lasts c h (now (days .entry)) (now (offsets .entry)) last k ⌝ }
 {
     if !leap::is_accepted(days, offsets, last) {
-        return Ticked::Refused(clock::inner::unaccepted(h, Refusal::ListNotAccepted));
+        return Placed::Refused(clock::inner::unaccepted(h, Refusal::ListNotAccepted));
     }
     let Base::At(r, current) = base_of(c, days, offsets, last) else {
-        return Ticked::Refused(clock::inner::unaccepted(h, Refusal::CorrelationNotAccepted));
+        return Placed::Refused(clock::inner::unaccepted(h, Refusal::CorrelationNotAccepted));
     };
     let v = ends_of(r, c.period, c.back, c.ahead);
-    tick_at(
-        c,
+    last_in(
         r,
+        c.period,
         clock::inner::turn_by_list(current, v, h, days, offsets, last),
     )
 }
 
-// The tick of a handed time: the last of the window whose time is not later. A list is used under a UTC correlation alone.
-pub fn tick_of(c: Correlation, h: Handed, days: &[i64], offsets: &[u64], last: i64) -> Ticked
-    ensures { λ r. ⌜ tickSlip r ≡ tickOf c h (now (days .entry)) (now (offsets .entry)) last ⌝ }
+// The last count of a handed time. A list is used under a UTC correlation alone.
+fn last_of(c: Correlation, h: Handed, days: &[i64], offsets: &[u64], last: i64) -> Placed
+    ensures { λ k. ⌜ Lasts c h (now (days .entry)) (now (offsets .entry)) last k ⌝ }
 {
     let scale = c.scale;
     if changes::inner::is_utc(scale) {
-        return tick_by_list(c, h, days, offsets, last);
+        return last_by_list(c, h, days, offsets, last);
     }
     let Place::At(r) = reference_of(c) else {
-        return Ticked::Refused(clock::inner::unaccepted(h, Refusal::CorrelationNotAccepted));
+        return Placed::Refused(clock::inner::unaccepted(h, Refusal::CorrelationNotAccepted));
     };
     let v = ends_of(r, c.period, c.back, c.ahead);
-    tick_at(c, r, clock::inner::turn(scale, v, h))
+    last_in(r, c.period, clock::inner::turn(scale, v, h))
+}
+
+// The tick of a handed time: the last of the window whose time is not later.
+pub fn tick_of(c: Correlation, h: Handed, days: &[i64], offsets: &[u64], last: i64) -> Ticked
+    ensures { λ r. ⌜ tickSlip r ≡ tickOf c h (now (days .entry)) (now (offsets .entry)) last ⌝ }
+{
+    match last_of(c, h, days, offsets, last) {
+        Placed::At(k) => Ticked::Tick(Tick(tick_from(c.tick.0, k))),
+        Placed::Refused(f) => Ticked::Refused(f),
+    }
 }

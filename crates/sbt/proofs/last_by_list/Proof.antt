@@ -1,7 +1,8 @@
--- `sbt::tick_by_list` meets its contract. Assumes nothing.
-use mathlib.Core.Path.{_≡_, ap, sym, _∙_}
+-- `sbt::last_by_list` meets its contract. Assumes nothing.
+use mathlib.Core.Path.{_≡_, ap, subst, sym, _∙_}
 use mathlib.Core.Bool.{Bool, true}
 use Prim.Native.Nat.{ℕ}
+use native.Mathlib.Omega.{arith}
 use mir.Facts.{toZ-ofZ}
 use borrow.Author.Tests.{not-true, not-false}
 use Rattle.scales.specs.Meaning.{refused, outcome, valued}
@@ -12,10 +13,10 @@ use Rattle.clock.specs.Places.{coverOf}
 use Rattle.clock.specs.Stage.{covering, landed}
 use Rattle.clock.specs.declared.inner.Base.the-variants as B
 use Rattle.sbt.specs.Places.{baseOf, endsAt}
-use Rattle.sbt.specs.Found.{Standing, utc-scale, serves-utc, utc-none, current-is, utc-stands, tick-listless, tick-unaccepted, reached, ticked}
+use Rattle.sbt.specs.Found.{Standing, utc-scale, serves-utc, utc-none, current-is, utc-stands, tick-listless, tick-unaccepted, Lasts, reached, lasts}
 use borrow.Author.Needs.{needs}
-use Rattle.sbt.proofs.tick_by_list.Statement.{statement}
-use Rattle.sbt.proofs.tick_by_list.Tie as tie
+use Rattle.sbt.proofs.last_by_list.Statement.{statement}
+use Rattle.sbt.proofs.last_by_list.Tie as tie
 
 abbrev entry : tie.After-is-accepted → tie.Start
 entry c = c .before .before
@@ -73,9 +74,11 @@ returns : tie.Need-returns
 returns c =
     let b = c .before .before in
     let s = entry b in
-    let a = s .args in
-    ap (λ (n : ℕ). valued 0 (refused n)) (c .unaccepted .ensures)
-    ∙ tick-listless (a .c) (a .days .now) (a .offsets .now) (a .last) (s .pre) (sym (list b) ∙ not-true _ (c .before .if1 .taken)) (a .h)
+    let a = s .args in (
+      omega arith,
+      ap (λ (n : ℕ). valued 0 (refused n)) (c .unaccepted .ensures)
+          ∙ tick-listless (a .c) (a .days .now) (a .offsets .now) (a .last) (s .pre) (sym (list b) ∙ not-true _ (c .before .if1 .taken)) (a .h),
+    )
 
 base-of-requires : tie.Need-base-of-requires
 base-of-requires c κs = let s = entry (c .before) in (s .pre, rw (toZ-ofZ (s .fits .last)) (listed c))
@@ -85,10 +88,12 @@ returns-2 c =
     let b = c .before .before .before in
     let e = b .before in
     let s = entry (e .before) in
-    let a = s .args in
-    ap (λ (n : ℕ). valued 0 (refused n)) (c .unaccepted2 .ensures)
-    ∙ tick-unaccepted (a .c) (a .days .now) (a .offsets .now) (a .last) (serves-utc (a .c) (a .days .now) (a .offsets .now) (a .last) (s .pre) (listed e))
-    (utc-none (a .c) (a .days .now) (a .offsets .now) (a .last) (s .pre) (listed e) (sym (base b) ∙ c .before .enum-told .given .1)) (a .h)
+    let a = s .args in (
+      omega arith,
+      ap (λ (n : ℕ). valued 0 (refused n)) (c .unaccepted2 .ensures)
+          ∙ tick-unaccepted (a .c) (a .days .now) (a .offsets .now) (a .last) (serves-utc (a .c) (a .days .now) (a .offsets .now) (a .last) (s .pre) (listed e))
+          (utc-none (a .c) (a .days .now) (a .offsets .now) (a .last) (s .pre) (listed e) (sym (base b) ∙ c .before .enum-told .given .1)) (a .h),
+    )
 
 ends-of-requires : tie.Need-ends-of-requires
 ends-of-requires c κs = stands c .windowed
@@ -96,8 +101,8 @@ ends-of-requires c κs = stands c .windowed
 turn-by-list-requires : tie.Need-turn-by-list-requires
 turn-by-list-requires c κs = let e = start (c .before) in rw (toZ-ofZ (entry (e .before) .fits .last)) (listed e)
 
-tick-at-requires : tie.Need-tick-at-requires
-tick-at-requires c κs =
+last-in-requires : tie.Need-last-in-requires
+last-in-requires c κs =
     let k = c .before .before in
     let a = entry (start k .before) .args in
     reached (a .c) (a .days .now) (a .offsets .now) (a .last) (place k) (stands k) (a .h) (c .turn-by-list .result) (turned c)
@@ -107,11 +112,11 @@ returns-3 c =
     let t = c .before in
     let k = t .before .before in
     let a = entry (start k .before) .args in
-    c .tick-at .ensures
-    ∙ ticked (a .c) (a .days .now) (a .offsets .now) (a .last) (place k) (stands k) (a .h) (t .turn-by-list .result) (turned t)
+    subst (Lasts (a .c) (a .h) (a .days .now) (a .offsets .now) (a .last)) (sym (c .last-in .ensures))
+    (lasts (a .c) (a .days .now) (a .offsets .now) (a .last) (place k) (stands k) (a .h) (t .turn-by-list .result) (turned t))
 
-pub tick-by-list-spec : {M : Type 1} → statement M
-tick-by-list-spec =
+pub last-by-list-spec : {M : Type 1} → statement M
+last-by-list-spec =
     tie.close
     (tie.spec
     (λ c κs. search needs)
@@ -124,5 +129,5 @@ tick-by-list-spec =
     returns-2
     ends-of-requires
     turn-by-list-requires
-    tick-at-requires
+    last-in-requires
     returns-3)
