@@ -1,19 +1,19 @@
 -- The boundary between signed numbers and places, once for every axis: what the tests of
 --     if z < -b { return 0; } if t - b < z { return t; } (z + b) as u64
 -- tell of z, and what its operations ask. The code's -b is `negsuc c` with b = suc c, and t - b is `pos h`. Assumes nothing.
-use mathlib.Core.Path.{_≡_, sym, ap, _∙_}
+use mathlib.Core.Path.{_≡_, refl, sym, ap, ap₂, _∙_}
 use mathlib.Core.Bool.{true, false, false≢true}
 use Prim.Native.Nat.{ℕ, suc, _+_, _-_, _<_, _≤_, _^_}
 use native.Mathlib.Omega.{arith}
 use lib.Dec.{T}
 use lib.IntN.{ℤ, pos, negsuc, _+ℤ_, _-ℤ_, natAbs, subℕ}
-use lib.Signed.{ltZ, nonNeg}
+use lib.Signed.{ltZ, leZ, nonNeg}
 use mir.Syntax.{w64}
 use mir.Val.{Fits, SFits, toZ, ofZ}
 use mir.Facts.{toZ-ofZ, toZ-pos}
-use borrow.Author.Tests.{ltb-true, ltb-false}
+use borrow.Author.Tests.{ltb-true, ltb-false, le-leb, lt-leb}
 use Rattle.axis.specs.Diff.{sub-pos, sub-mag}
-use Rattle.axis.specs.Meaning.{place}
+use Rattle.axis.specs.Meaning.{place, isBetween}
 
 module _ (c h : ℕ) where
   before : (z : ℤ) → ltZ z (negsuc c) ≡ true → 0 ≡ place (suc c) (h + suc c) z
@@ -73,3 +73,29 @@ module _ (c m : ℕ) (k : m < 2 ^ 63) (room : suc c ≤ 2 ^ 63) where
 
   pub less-is : toZ w64 (ofZ w64 (toZ w64 m -ℤ pos (suc c))) ≡ subℕ m (suc c)
   less-is = toZ-ofZ less-fits ∙ less
+
+-- a signed local z between two others, f and l, by what the tests of
+--     if z < f { return false; } z <= l
+-- tell
+early : (z f : ℤ) → ltZ z f ≡ true → leZ f z ≡ false
+early (pos n) (pos m) e = lt-leb m n (ltb-true n m e)
+early (pos n) (negsuc m) e = absurd (false≢true e)
+early (negsuc n) (pos m) e = refl
+early (negsuc n) (negsuc m) e = lt-leb n m (ltb-true m n e)
+
+not-early : (z f : ℤ) → ltZ z f ≡ false → leZ f z ≡ true
+not-early (pos n) (pos m) e = le-leb m n (ltb-false n m e)
+not-early (pos n) (negsuc m) e = refl
+not-early (negsuc n) (pos m) e = absurd (false≢true (sym e))
+not-early (negsuc n) (negsuc m) e = le-leb n m (ltb-false m n e)
+
+module _ (f z l : ℤ) (ff : SFits w64 f) (fz : SFits w64 z) where
+  first-seen : ltZ (toZ w64 (ofZ w64 z)) (toZ w64 (ofZ w64 f)) ≡ ltZ z f
+  first-seen = ap₂ ltZ (toZ-ofZ fz) (toZ-ofZ ff)
+
+  pub early-is : ltZ (toZ w64 (ofZ w64 z)) (toZ w64 (ofZ w64 f)) ≡ true → false ≡ isBetween f z l
+  early-is e = rw (early z f (sym first-seen ∙ e))
+
+  pub late-is : SFits w64 l → ltZ (toZ w64 (ofZ w64 z)) (toZ w64 (ofZ w64 f)) ≡ false →
+      leZ (toZ w64 (ofZ w64 z)) (toZ w64 (ofZ w64 l)) ≡ isBetween f z l
+  late-is fl e = rw (not-early z f (sym first-seen ∙ e)) (ap₂ leZ (toZ-ofZ fz) (toZ-ofZ fl))

@@ -1,8 +1,14 @@
 -- The one axis of the product: a day, or a microsecond or a count since day 0, as a natural number. Days -40000 to 60000 stand at
 -- places 0 to 100000, and every span lies well within; what lies outside stands at the nearer end. And days of 86,400 s: a day
 -- and a microsecond as microseconds since day 0, and back. Assumes nothing.
+use mathlib.Core.Bool.{Bool, _&&_}
 use Prim.Native.Nat.{ℕ, suc, _+_, _-_, _/_, _%_, min}
 use lib.IntN.{ℤ, pos, negsuc, subℕ, _+ℤ_, _*ℤ_}
+use lib.Signed.{leZ}
+
+-- a day from one day to another, both included
+abbrev pub isBetween : ℤ → ℤ → ℤ → Bool
+isBetween f d l = leZ f d && leZ d l
 
 -- the place of z on an axis that begins at -b and ends at t - b: z + b, held between 0 and t
 abbrev pub place : ℕ → ℕ → ℤ → ℕ

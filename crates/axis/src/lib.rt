@@ -1,7 +1,17 @@
 // The one axis: signed days, and signed microseconds and counts since day 0, as naturals and back.
-// Only these five functions meet a signed number; all other code reckons with places.
+// Only these six functions meet a signed number; all other code reckons with places.
 ghost use mathlib.Core.Path.{_≡_};
-ghost use Rattle.axis.specs.Meaning.{placeOfDay, dayAt, placeOfMicros, heldMicrosAt, placeOfCounts};
+ghost use Rattle.axis.specs.Meaning.{isBetween, placeOfDay, dayAt, placeOfMicros, heldMicrosAt, placeOfCounts};
+
+// Whether a day lies from one day to another, both included.
+pub fn is_between(first: i64, day: i64, last: i64) -> bool
+    ensures { λ r. ⌜ r ≡ isBetween first day last ⌝ }
+{
+    if day < first {
+        return false;
+    }
+    day <= last
+}
 
 // The place of a day. One outside the axis stands at its nearer end, outside every span.
 pub fn place_of_day(day: i64) -> u64

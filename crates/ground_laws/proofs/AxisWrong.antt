@@ -1,16 +1,32 @@
 -- Wrong programs for the axis, each shut out by an input at which its answer is not the meaning's; and the laws of the axis
 -- at inputs that meet their hypotheses. Assumes nothing.
-use mathlib.Core.Path.{_≡_, refl}
+use mathlib.Core.Path.{_≡_, refl, sym}
+use mathlib.Core.Bool.{Bool, true, false, _&&_, false≢true}
 use Prim.Native.Nat.{ℕ, _-_}
 use native.Mathlib.Omega.{arith}
 use lib.Dec.{leb, lit<, lit≤}
 use lib.IntN.{ℤ, pos, negsuc, subℕ, natAbs, _+ℤ_}
-use lib.Signed.{leZ}
+use lib.Signed.{leZ, ltZ}
 use mir.Syntax.{w64}
 use mir.Val.{ofZ}
 use Rattle.evidence.specs.ShutOut.{ShutOut, differ}
-use Rattle.axis.specs.Meaning.{placeOfDay, dayAt, placeOfMicros, microsAt, heldMicrosAt, placeOfCounts, countsAt, floorZ, modZ}
+use Rattle.axis.specs.Meaning.{isBetween, placeOfDay, dayAt, placeOfMicros, microsAt, heldMicrosAt, placeOfCounts, countsAt, floorZ, modZ}
 use Rattle.axis.specs.Axis.{place-day, day-place, day-from, day-to, place-micros, micros-place, counts-place, counts-from, counts-to}
+
+-- ---- is_between
+-- the last day left out
+abbrev lastLeftOut : ℤ → ℤ → ℤ → Bool
+lastLeftOut f d l = leZ f d && ltZ d l
+
+pub last-left-out : ShutOut (isBetween (negsuc 7299) (pos 36524) (pos 36524)) true (lastLeftOut (negsuc 7299) (pos 36524) (pos 36524)) false
+last-left-out = (refl, refl, λ e. false≢true (sym e))
+
+-- days compared by their bits, a day before 2000 as a great number
+abbrev byBits : ℤ → ℤ → ℤ → Bool
+byBits f d l = leb (ofZ w64 f) (ofZ w64 d) && leb (ofZ w64 d) (ofZ w64 l)
+
+pub between-unsigned : ShutOut (isBetween (negsuc 7299) (pos 0) (pos 36524)) true (byBits (negsuc 7299) (pos 0) (pos 36524)) false
+between-unsigned = (refl, refl, λ e. false≢true (sym e))
 
 -- ---- place_of_day
 -- a bare cast: a day before the axis wraps to its far end

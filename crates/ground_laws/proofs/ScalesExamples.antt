@@ -8,7 +8,7 @@ use lib.Dec.{lit<}
 use lib.IntN.{ℤ, pos, negsuc}
 use Rattle.scales.specs.Meaning.{inSpan, given, gives, refused, outcome, order, standsIn, momentAt, recordAt, recordOf, spanned, timeAt}
 use Rattle.scales.specs.Order.{Refuses, is-refuses, Answers, is-answers}
-use Rattle.scales.specs.Place.{placed, in-span, out-early, out-late, out-over, moment-of, countOf}
+use Rattle.scales.specs.Place.{placed, in-span, in-days, out-days, out-over, moment-of, countOf}
 use Rattle.scales.specs.Counts.{typed-at, typed-no, timed-at}
 use Rattle.scales.specs.declared.Scale.{Scale}
 use Rattle.scales.specs.declared.Scale.the-variants as S
@@ -72,9 +72,9 @@ pub spans-meet :
     (inSpan S.Gps (pos 0) 5 ≡ true) × (inSpan S.Gps (negsuc 7300) 5 ≡ false) × (inSpan S.Gps (pos 36525) 5 ≡ false)
     × (inSpan S.Gps (pos 0) 86400000000 ≡ false)
 spans-meet = (
-  in-span S.Gps (pos 0) 5 (placed S.Gps (pos 0) 5 day-zero),
-  out-early S.Gps (negsuc 7300) 5 (lit< tt),
-  out-late S.Gps (pos 36525) 5 (lit< tt),
+  in-span S.Gps (pos 0) 5 (placed S.Gps (pos 0) 5 (in-days S.Gps (pos 0) 5 refl (lit< tt))),
+  out-days S.Gps (negsuc 7300) 5 refl,
+  out-days S.Gps (pos 36525) 5 refl,
   out-over S.Gps (pos 0) 86400000000 (lit< tt),
 )
 

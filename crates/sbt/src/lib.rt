@@ -80,14 +80,14 @@ fn time_at(r: u64, p: u64, k: u64) -> u64
     }
 }
 
-// The cover of a window, for the reference at r and the period p.
+// The cover of a window, for the reference at r and the period p: time(-b) and time(a), each known to be before r or after it.
 fn ends_of(r: u64, p: u64, back: u64, ahead: u64) -> Ends
     requires { ⌜ Windowed r p back ahead ⌝ }
     ensures { λ v. ⌜ v ≡ endsAt r p back ahead ⌝ }
 {
     Ends {
-        from: time_at(r, p, 2_147_483_648 - back),
-        to: time_at(r, p, 2_147_483_648 + ahead),
+        from: r - (back * p + 999_999) / 1_000_000,
+        to: r + ahead * p / 1_000_000,
     }
 }
 

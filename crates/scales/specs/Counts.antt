@@ -5,46 +5,36 @@ use Prim.Native.Nat.{ℕ, _+_, _*_, _≤_, _<_}
 use native.Mathlib.Nat.{mul-le-mul}
 use native.Mathlib.Omega.{arith}
 use lib.IntN.{ℤ}
-use Rattle.axis.specs.Meaning.{placeOfDay, Moment}
+use Rattle.axis.specs.Meaning.{isBetween, placeOfDay, Moment}
 use Rattle.axis.specs.Shift.{place-top}
-use Rattle.scales.specs.Meaning.{bound, inSpan, answer, dated, momentAt, some, no, timeSlip, spanned, timeScale, timeCount, timeAt, slipTimed}
-use Rattle.scales.specs.Place.{firstAt, lastAt, apart, out-early, out-late, out-over, in-span, spanOf, countOf, moment-of, count-inj, fitOf, spanned-in, spanned-out}
+use Rattle.scales.specs.Meaning.{first, last, bound, inSpan, answer, dated, momentAt, some, no, timeSlip, spanned, timeScale, timeCount, timeAt, slipTimed}
+use Rattle.scales.specs.Place.{apart, out-days, out-over, in-days, countOf, moment-of, count-inj, fitOf, spanned-in, spanned-out}
 use Rattle.scales.specs.Same.{no-zero, refusals, time-is, time-scale, time-count}
 use Rattle.scales.specs.declared.Scale.{Scale}
 use Rattle.scales.specs.declared.Refusal.{Refusal}
 use Rattle.scales.specs.declared.Refusal.the-variants as R
 use Rattle.scales.specs.declared.Time.{Time}
 use Rattle.scales.specs.declared.Timed.the-variants as TD
-use Rattle.scales.specs.declared.spans.Span.{Span}
 use Rattle.scales.specs.declared.spans.Fit.the-variants as C
 
--- ---- the ways out of the one test of a span: p is the day's place, w the span
-module _ (s : Scale) (d : ℤ) (u p : ℕ) (w : Span) (e : p ≡ placeOfDay d) (q : w ≡ spanOf s) where
-  pub count-early : p < w .first → C.Outside ≡ fitOf s d u
-  count-early h = let f : w .first ≡ firstAt s = ap (λ (x : Span). x .first) q in rw (out-early s d u (omega arith))
+-- ---- the ways out of the one test of a span: b is the scale's bound, p the day's place
+module _ (s : Scale) (d : ℤ) (u b : ℕ) (q : b ≡ bound s) where
+  pub count-days : isBetween (first s) d (last s) ≡ false → C.Outside ≡ fitOf s d u
+  count-days e = rw (out-days s d u e)
 
-  pub count-late : w .last < p → C.Outside ≡ fitOf s d u
-  count-late h = let f : w .last ≡ lastAt s = ap (λ (x : Span). x .last) q in rw (out-late s d u (omega arith))
+  pub count-over : b ≤ u → C.Outside ≡ fitOf s d u
+  count-over h = rw (out-over s d u (omega arith))
 
-  pub count-over : w .bound ≤ u → C.Outside ≡ fitOf s d u
-  count-over h = let f : w .bound ≡ bound s = ap (λ (x : Span). x .bound) q in rw (out-over s d u (omega arith))
+  module _ (p : ℕ) (e : p ≡ placeOfDay d) (h : u < b) where
+    -- the product and the sum fit with much to spare
+    pub count-fits : p * b + u < 8640200000000000
+    count-fits =
+        let m : b ≤ 86401000000 = omega (arith, apart s .most) in
+        let k : p ≤ 100000 = omega (arith, place-top 40000 100000 d) in
+        omega (arith, mul-le-mul {n₂ = 100000} {m₂ = 86401000000} k m)
 
-  -- the product and the sum fit with much to spare
-  pub count-fits : u < w .bound → p * w .bound + u < 8640200000000000
-  count-fits h =
-      let f : w .bound ≡ bound s = ap (λ (x : Span). x .bound) q in
-      let b : w .bound ≤ 86401000000 = omega (arith, apart s .most) in
-      let k : p ≤ 100000 = omega (arith, place-top 40000 100000 d) in
-      omega (arith, mul-le-mul {n₂ = 100000} {m₂ = 86401000000} k b)
-
-  pub count-within : w .first ≤ p → p ≤ w .last → u < w .bound → C.At (p * w .bound + u) ≡ fitOf s d u
-  count-within h k l =
-      rw (e, q)
-      (rw (in-span s d u (record {
-        from = subst (λ (x : Span). x .first ≤ placeOfDay d) q (subst (λ (x : ℕ). w .first ≤ x) e h);
-        to = subst (λ (x : Span). placeOfDay d ≤ x .last) q (subst (λ (x : ℕ). x ≤ w .last) e k);
-        under = subst (λ (x : Span). u < x .bound) q l;
-      })))
+    pub count-within : isBetween (first s) d (last s) ≡ true → C.At (p * b + u) ≡ fitOf s d u
+    count-within f = rw (e, q) (rw (in-days s d u f (subst (λ (x : ℕ). u < x) q h)))
 
 module _ (s : Scale) (d : ℤ) (u : ℕ) where
   -- ---- what a count tells, and its slip

@@ -8,7 +8,7 @@ use lib.Dec.{leb, ltb, lit<, lit≤}
 use lib.IntN.{ℤ}
 use lib.Signed.{leZ}
 use borrow.Author.Tests.{le-leb, lt-leb, lt-ltb, le-ltb, leb-true, ltb-true}
-use Rattle.axis.specs.Meaning.{placeOfDay, dayAt}
+use Rattle.axis.specs.Meaning.{isBetween, placeOfDay, dayAt}
 use Rattle.axis.specs.Axis.{day-from, day-to, day-le, day-place, day-inj}
 use Rattle.scales.specs.Meaning.{first, last, bound, inSpan, refused, answer, dated, momentAt, spanned}
 use Rattle.scales.specs.declared.Scale.{Scale}
@@ -55,6 +55,10 @@ pub and-false : (a : Bool) → a && false ≡ false
 and-false true = refl
 and-false false = refl
 
+and-assoc : (a b c : Bool) → (a && b) && c ≡ a && (b && c)
+and-assoc true b c = refl
+and-assoc false b c = refl
+
 pub and-both : (a b : Bool) → a && b ≡ true → (a ≡ true) × (b ≡ true)
 and-both true b e = (refl, e)
 and-both false b e = absurd (false≢true e)
@@ -82,11 +86,15 @@ in-span s d u p =
     ∙ rw (le-leb (firstAt s) (placeOfDay d) (p .from), le-leb (placeOfDay d) (lastAt s) (p .to), lt-ltb u (bound s) (p .under))
 
 module _ (s : Scale) (d : ℤ) (u : ℕ) where
-  pub out-early : placeOfDay d < firstAt s → inSpan s d u ≡ false
-  out-early h = span-is s d u ∙ rw (lt-leb (firstAt s) (placeOfDay d) h)
+  -- the span's days, and then its microseconds
+  by-days : inSpan s d u ≡ (isBetween (first s) d (last s) && ltb u (bound s))
+  by-days = sym (and-assoc (leZ (first s) d) (leZ d (last s)) (ltb u (bound s)))
 
-  pub out-late : lastAt s < placeOfDay d → inSpan s d u ≡ false
-  out-late h = span-is s d u ∙ rw (lt-leb (placeOfDay d) (lastAt s) h) (and-false (leb (firstAt s) (placeOfDay d)))
+  pub out-days : isBetween (first s) d (last s) ≡ false → inSpan s d u ≡ false
+  out-days e = by-days ∙ rw e
+
+  pub in-days : isBetween (first s) d (last s) ≡ true → u < bound s → inSpan s d u ≡ true
+  in-days e h = by-days ∙ rw (e, lt-ltb u (bound s) h)
 
   pub out-over : bound s ≤ u → inSpan s d u ≡ false
   out-over h =
@@ -146,11 +154,8 @@ moment-of s d u e =
     rw (day-part (bound s) (placeOfDay d) u (p .under), micro-part (bound s) (placeOfDay d) u (p .under), day-place d h k)
 
 -- ---- what the private functions answer
-abbrev pub spanFrom : ℤ → ℤ → ℕ → Span
-spanFrom f l b = record { first = placeOfDay f; last = placeOfDay l; bound = b }
-
 abbrev pub spanOf : Scale → Span
-spanOf s = spanFrom (first s) (last s) (bound s)
+spanOf s = record { first = first s; last = last s; bound = bound s }
 
 abbrev pub fitOf : Scale → ℤ → ℕ → Fit
 fitOf s d u = cond (inSpan s d u) (C.At (countOf s d u)) C.Outside

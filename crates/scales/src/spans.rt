@@ -1,7 +1,7 @@
 // The one test of a span, and counts made and taken apart, for all three scales.
 ghost use mathlib.Core.Path.{_≡_};
 ghost use Rattle.scales.specs.Meaning.{recordAt, timeAt};
-ghost use Rattle.scales.specs.Place.{spanFrom, spanOf, fitOf};
+ghost use Rattle.scales.specs.Place.{spanOf, fitOf};
 use crate::Gps;
 use crate::Record;
 use crate::Scale;
@@ -14,30 +14,32 @@ pub enum Fit {
     Outside,
 }
 
-// A span on the axis: the places of its first and last day, and the microseconds of a day.
+// A span: its first and last day, and the microseconds of a day.
 pub struct Span {
-    pub first: u64,
-    pub last: u64,
+    pub first: i64,
+    pub last: i64,
     pub bound: u64,
-}
-
-fn span_from(first: i64, last: i64, bound: u64) -> Span
-    ensures { λ r. ⌜ r ≡ spanFrom first last bound ⌝ }
-{
-    Span {
-        first: axis::place_of_day(first),
-        last: axis::place_of_day(last),
-        bound,
-    }
 }
 
 fn span_of(scale: Scale) -> Span
     ensures { λ r. ⌜ r ≡ spanOf scale ⌝ }
 {
     match scale {
-        Scale::Tai => span_from(Tai::FIRST_DAY, Tai::LAST_DAY, Tai::BOUND),
-        Scale::Utc => span_from(Utc::FIRST_DAY, Utc::LAST_DAY, Utc::BOUND),
-        Scale::Gps => span_from(Gps::FIRST_DAY, Gps::LAST_DAY, Gps::BOUND),
+        Scale::Tai => Span {
+            first: Tai::FIRST_DAY,
+            last: Tai::LAST_DAY,
+            bound: Tai::BOUND,
+        },
+        Scale::Utc => Span {
+            first: Utc::FIRST_DAY,
+            last: Utc::LAST_DAY,
+            bound: Utc::BOUND,
+        },
+        Scale::Gps => Span {
+            first: Gps::FIRST_DAY,
+            last: Gps::LAST_DAY,
+            bound: Gps::BOUND,
+        },
     }
 }
 
@@ -47,17 +49,13 @@ pub fn count_of(scale: Scale, day: i64, micro: u64) -> Fit
 {
     let span = span_of(scale);
     let bound = span.bound;
-    let d = axis::place_of_day(day);
-    if d < span.first {
-        return Fit::Outside;
-    }
-    if span.last < d {
+    if !axis::is_between(span.first, day, span.last) {
         return Fit::Outside;
     }
     if bound <= micro {
         return Fit::Outside;
     }
-    Fit::At(d * bound + micro)
+    Fit::At(axis::place_of_day(day) * bound + micro)
 }
 
 // The record of a count. This function and `Record::new` are the only ones that build a record.
