@@ -1,6 +1,6 @@
 -- The arithmetic of `time_at`, `ends_of` and `last_at`. Assumes nothing.
 use mathlib.Core.Path.{_≡_, sym, ap, _∙_}
-use Prim.Native.Nat.{ℕ, _+_, _-_, _*_, _/_, _≤_, _<_}
+use Prim.Native.Nat.{ℕ, _+_, _-_, _*_, _/_, _≤_}
 use native.Mathlib.Omega.{arith}
 use native.Mathlib.Nat.{mul-le-mul, add-mul}
 use Rattle.sbt.specs.Places.{timeAt, lastAt, Based, Near}

@@ -1,6 +1,6 @@
 -- `sbt::time_at` meets its contract. Assumes nothing.
-use mathlib.Core.Path.{_≡_, ap, _∙_}
-use Prim.Native.Nat.{ℕ, _-_, _*_, _≤_}
+use mathlib.Core.Path.{ap, _∙_}
+use Prim.Native.Nat.{_-_, _*_, _≤_}
 use native.Mathlib.Omega.{arith}
 use Rattle.sbt.specs.Places.{timeAt}
 use Rattle.sbt.proofs.Reckoned.{far, back-is, ahead-is}
