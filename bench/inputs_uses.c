@@ -131,8 +131,10 @@ static void turn_tick(struct input *x, size_t i, uint32_t scale) {
 static void make_sbt_date(struct input *x, size_t i, size_t steps) { (void)steps, date_tick(x, i, (uint32_t)(i % 3)); }
 static void make_sbt_tick(struct input *x, size_t i, size_t steps) { (void)steps, turn_tick(x, i, (uint32_t)(i % 3)); }
 static void make_tai_date(struct input *x, size_t i, size_t steps) { (void)steps, date_tick(x, i, VRK_TAI); }
+static void make_gps_date(struct input *x, size_t i, size_t steps) { (void)steps, date_tick(x, i, VRK_GPS); }
 static void make_utc_date(struct input *x, size_t i, size_t steps) { (void)steps, date_tick(x, i, VRK_UTC); }
 static void make_tai_tick(struct input *x, size_t i, size_t steps) { (void)steps, turn_tick(x, i, VRK_TAI); }
+static void make_gps_tick(struct input *x, size_t i, size_t steps) { (void)steps, turn_tick(x, i, VRK_GPS); }
 static void make_utc_tick(struct input *x, size_t i, size_t steps) { (void)steps, turn_tick(x, i, VRK_UTC); }
 
 enum { GOCE_WINDOW = 1 << 28 };
@@ -275,9 +277,11 @@ static void make_any(struct input *x, size_t i, size_t steps) {
     FUNCTION(decimal_write, make_decimal_write, vrk_decimal, x->time)                                              \
     FUNCTION(sbt_date, make_sbt_date, vrk_time, x->code, x->correlation, x->time.day, x->time.micro, LIST)         \
     USE("sbt_date TAI", make_tai_date, sbt_date)                                                                   \
+    USE("sbt_date GPS", make_gps_date, sbt_date)                                                                   \
     USE("sbt_date UTC", make_utc_date, sbt_date)                                                                   \
     FUNCTION(sbt_tick, make_sbt_tick, vrk_count, x->time, x->correlation, LIST)                                    \
     USE("sbt_tick TAI", make_tai_tick, sbt_tick)                                                                   \
+    USE("sbt_tick GPS", make_gps_tick, sbt_tick)                                                                   \
     USE("sbt_tick UTC", make_utc_tick, sbt_tick)                                                                   \
     FUNCTION(goce_date, make_goce_date, vrk_time, x->obt, x->goce, x->time.day, x->time.micro, LIST)               \
     FUNCTION(goce_count, make_goce_count, vrk_count, x->time, x->goce, LIST)                                       \
