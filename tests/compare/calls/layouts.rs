@@ -46,8 +46,9 @@ pub fn seconds(random: &mut Random) -> u64 {
     }
 }
 
+/// 512 and 1536 stand half way between two microseconds.
 pub fn fraction(random: &mut Random) -> u64 {
-    if random.one_in(4) { random.pick(&[0, 1, 2, 65534, 65535]) } else { random.below(65536) }
+    if random.one_in(4) { random.pick(&[0, 1, 2, 511, 512, 513, 1536, 65534, 65535]) } else { random.below(65536) }
 }
 
 fn cuc_parts(random: &mut Random) -> Vec<(usize, u64)> {
@@ -174,8 +175,18 @@ fn of_scale(function: Function, random: &mut Random, scale: Scale) -> Call {
     Call { function, words, slices }
 }
 
+/// The same, often where a fraction's reading ends: which one is written depends on how it is rounded.
+fn of_fraction(function: Function, random: &mut Random, scale: Scale) -> Call {
+    let mut call = of_scale(function, random, scale);
+    if random.one_in(4) {
+        let micro = random.pick(&[14, 15, 30, 31, 7_811, 7_812, 7_813, 999_983, 999_984, 999_985]);
+        call.words[3] = random.below(86_400) * 1_000_000 + micro;
+    }
+    call
+}
+
 fn make_cuc_write(function: Function, random: &mut Random) -> Call {
-    of_scale(function, random, Scale::Gps)
+    of_fraction(function, random, Scale::Gps)
 }
 
 fn make_cryosat_write(function: Function, random: &mut Random) -> Call {
@@ -187,7 +198,7 @@ fn make_siral_write(function: Function, random: &mut Random) -> Call {
 }
 
 fn make_proteus_write(function: Function, random: &mut Random) -> Call {
-    let mut call = of_scale(function, random, Scale::Utc);
+    let mut call = of_fraction(function, random, Scale::Utc);
     call.words.push(if random.one_in(20) { 2 + random.below(9) } else { random.below(2) });
     call
 }
