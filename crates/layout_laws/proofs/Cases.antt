@@ -28,9 +28,27 @@ unfolding Siral.read number
 carry-out = (refl, refl)
 
 -- ---- the paper's sentences
--- "The fraction f stands for the whole part of f x 15625 / 1024 microseconds"
-pub paper-fraction : (f : ℕ) → fractionMicros f ≡ f * 15625 / 1024
+-- "A 16-bit fraction is to stand for the nearest microsecond, halves upward", that is, of f x 15625 / 1024
+pub paper-fraction : (f : ℕ) → fractionMicros f ≡ (f * 15625 + 512) / 1024
 paper-fraction f = omega arith
+
+-- "Fraction 65535 now gives 999,985"; 512 stands half way, at 7,812.5
+pub nearest-read : (fractionMicros 1 ≡ 15) × (fractionMicros 2 ≡ 31) × (fractionMicros 512 ≡ 7813) × (fractionMicros 65535 ≡ 999985)
+nearest-read = (refl, refl, refl, refl)
+
+-- what is written speaks of the same reading
+pub nearest-written :
+    (fractionAt 30 ≡ 1) × (fractionAt 31 ≡ 2) × (fractionAt 7812 ≡ 511) × (fractionAt 7813 ≡ 512)
+    × (fractionAt 999984 ≡ 65534) × (fractionAt 999985 ≡ 65535) × (fractionAt 999999 ≡ 65535)
+nearest-written = (
+  last-is rounding 16 30 (lit< tt),
+  last-is rounding 16 31 (lit< tt),
+  last-is rounding 16 7812 (lit< tt),
+  last-is rounding 16 7813 (lit< tt),
+  last-is rounding 16 999984 (lit< tt),
+  last-is rounding 16 999985 (lit< tt),
+  last-is rounding 16 999999 (lit< tt),
+)
 
 -- "15 microseconds is written as fraction 1"
 pub fifteen : fractionAt 15 ≡ 1

@@ -2,7 +2,7 @@
 use mathlib.Core.Path.{_≡_, refl}
 use mathlib.Core.Bool.{Bool, true, false, _&&_}
 use mathlib.Core.List.{List, [], _∷_, _++_}
-use Prim.Native.Nat.{ℕ, _≤_, _<_}
+use Prim.Native.Nat.{ℕ, _≤_, _<_, _+_, _*_}
 use lib.Dec.{ltb, lit<, lit≤}
 use lib.IntN.{pos, negsuc}
 use lib.Ieee.{fin, fits}
@@ -111,6 +111,7 @@ pub fraction-meets :
     × (standsFor nearest 16 65535 < 1000000) × (lastFraction nearest 16 (standsFor nearest 16 65535) ≡ 65535)
     × (standsFor wholePart 16 (lastFraction wholePart 16 14) ≤ 14) × (standsFor wholePart 16 0 ≤ standsFor wholePart 16 (lastFraction wholePart 16 14))
     × (standsFor wholePart 24 (lastFraction wholePart 24 14) ≡ 14)
+    × (7813 * 65536 ≤ 512 * 1000000 + 32768) × (512 * 1000000 + 32768 < 7814 * 65536) × (standsFor nearest 16 512 ≡ 7813)
 fraction-meets = (
   F.monotone wholePart 24 1 2 (lit≤ tt),
   F.strictly-monotone nearest 16 1 2 (lit≤ tt) (lit< tt),
@@ -119,17 +120,20 @@ fraction-meets = (
   F.never-later wholePart 16 14 (lit< tt),
   F.last-such wholePart 16 14 (lit< tt) 0 (lit≤ tt),
   F.same-time wholePart 24 14 (lit< tt) (lit≤ tt),
+  F.nearest-is 16 512 .0,
+  F.nearest-is 16 512 .1,
+  F.nearest-one 16 512 7813 (lit≤ tt) (lit< tt),
 )
 
--- ---- a time to bytes to a time: microsecond 999,985 has no fraction of its own, and is read as 999,984
+-- ---- a time to bytes to a time: microsecond 999,984 has no fraction of its own, and is read as 999,969
 abbrev gps : Handed
-gps = H.Record (recordOf S.Gps (pos 0) 999985)
+gps = H.Record (recordOf S.Gps (pos 0) 999984)
 
 abbrev utc : Handed
-utc = H.Record (recordOf S.Utc (pos 0) 999985)
+utc = H.Record (recordOf S.Utc (pos 0) 999984)
 
 abbrev tai : Handed
-tai = H.Record (recordOf S.Tai (pos 0) 999985)
+tai = H.Record (recordOf S.Tai (pos 0) 999984)
 
 -- half a day, as a double
 abbrev half : Handed

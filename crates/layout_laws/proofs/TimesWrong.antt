@@ -1,11 +1,12 @@
 -- Wrong readers and writers of times, each shut out by an input at which its answer is not the meaning's. Assumes nothing.
 use mathlib.Core.Path.{refl}
-use mathlib.Core.Bool.{Bool, true, false}
+use mathlib.Core.Bool.{Bool, true, false, cond}
 use mathlib.Core.List.{List, [], _∷_}
 use Prim.Native.Nat.{ℕ, _+_, _-_, _*_, _/_, _%_}
 use native.Mathlib.Omega.{arith}
+use lib.Dec.{eqb}
 use lib.IntN.{ℤ, pos, negsuc, natAbs}
-use Rattle.evidence.specs.ShutOut.{ShutOut, differ}
+use Rattle.evidence.specs.ShutOut.{ShutOut, shut, differ}
 use Rattle.octets.specs.Meaning.{number, field}
 use Rattle.scales.specs.Meaning.{andThen, sameScale, bound, given, gives, refused, answer, outcome, Slip, dated, recordOf, Wrote, written}
 use Rattle.scales.specs.Place.{firstAt}
@@ -20,11 +21,12 @@ use Rattle.layout_fields.specs.Siral as FR
 use Rattle.layout_fields.specs.declared.cuc.Fields as C
 use Rattle.layout_fields.specs.declared.proteus.Fields as P
 use Rattle.layout_fields.specs.declared.siral.Fields as R
-use Rattle.layout_times.specs.Meaning.{nearest, standsFor, lastTo, momentFrom, microsFrom, judged}
+use Rattle.layout_times.specs.Meaning.{wholePart, standsFor, lastTo, momentFrom, microsFrom, judged}
 use Rattle.layout_times.specs.Cuc as Cuc
 use Rattle.layout_times.specs.Proteus as Proteus
 use Rattle.layout_times.specs.Cryosat as Cryosat
 use Rattle.layout_times.specs.Siral as Siral
+use Rattle.layout_laws.proofs.Cases.{nearest-written}
 use Rattle.ground_laws.proofs.Desks.{got, keeps, bytesAt, writesNothing, madeUp, clearing, scribbling, answered, empty, byNumber, byMicro, sevens}
 
 -- a handed record
@@ -38,15 +40,43 @@ abbrev tai : ℤ → ℕ → Handed
 tai d u = H.Record (recordOf S.Tai d u)
 
 -- ---- CUC read
--- the fraction rounded to the nearest microsecond
-abbrev cucNearest : List ℕ → Slip
-cucNearest s = dated S.Gps
-    (outcome (andThen (FC.reading s) (λ (f : C.Fields). judged S.Gps (momentFrom Cuc.epoch (f .seconds * 1000000 + standsFor nearest 16 (f .fraction))))))
+-- the fraction read otherwise
+abbrev cucBy : (ℕ → ℕ) → List ℕ → Slip
+cucBy micros s = dated S.Gps
+    (outcome (andThen (FC.reading s) (λ (f : C.Fields). judged S.Gps (momentFrom Cuc.epoch (f .seconds * 1000000 + micros (f .fraction))))))
 
-pub cuc-nearest : ShutOut (Cuc.read (0 ∷ 0 ∷ 0 ∷ 0 ∷ 255 ∷ 255 ∷ [])) (answered S.Gps (negsuc 7299) 999984)
-    (cucNearest (0 ∷ 0 ∷ 0 ∷ 0 ∷ 255 ∷ 255 ∷ [])) (answered S.Gps (negsuc 7299) 999985)
+-- as the whole part still
+pub cuc-whole : ShutOut (Cuc.read (0 ∷ 0 ∷ 0 ∷ 0 ∷ 255 ∷ 255 ∷ [])) (answered S.Gps (negsuc 7299) 999985)
+    (cucBy (standsFor wholePart 16) (0 ∷ 0 ∷ 0 ∷ 0 ∷ 255 ∷ 255 ∷ [])) (answered S.Gps (negsuc 7299) 999984)
 unfolding Cuc.read number
-cuc-nearest = (refl, refl, byMicro (λ e. omega arith))
+cuc-whole = (refl, refl, byMicro (λ e. omega arith))
+
+-- a half downward: 0200 is 7,812.5
+abbrev halfDown : ℕ → ℕ
+halfDown f = (f * 15625 + 511) / 1024
+
+pub cuc-half-down : ShutOut (Cuc.read (0 ∷ 0 ∷ 0 ∷ 0 ∷ 2 ∷ 0 ∷ [])) (answered S.Gps (negsuc 7299) 7813)
+    (cucBy halfDown (0 ∷ 0 ∷ 0 ∷ 0 ∷ 2 ∷ 0 ∷ [])) (answered S.Gps (negsuc 7299) 7812)
+unfolding Cuc.read number
+cuc-half-down = (refl, refl, byMicro (λ e. omega arith))
+
+-- a half to the even microsecond
+abbrev halfEven : ℕ → ℕ
+halfEven f = let m = (f * 15625 + 512) / 1024 in cond (eqb (f * 15625 % 1024) 512) (m - m % 2) m
+
+pub cuc-half-even : ShutOut (Cuc.read (0 ∷ 0 ∷ 0 ∷ 0 ∷ 2 ∷ 0 ∷ [])) (answered S.Gps (negsuc 7299) 7813)
+    (cucBy halfEven (0 ∷ 0 ∷ 0 ∷ 0 ∷ 2 ∷ 0 ∷ [])) (answered S.Gps (negsuc 7299) 7812)
+unfolding Cuc.read number
+cuc-half-even = (refl, refl, byMicro (λ e. omega arith))
+
+-- every fraction upward: 0001 is 15.3
+abbrev upward : ℕ → ℕ
+upward f = (f * 15625 + 1023) / 1024
+
+pub cuc-upward : ShutOut (Cuc.read (0 ∷ 0 ∷ 0 ∷ 0 ∷ 0 ∷ 1 ∷ [])) (answered S.Gps (negsuc 7299) 15)
+    (cucBy upward (0 ∷ 0 ∷ 0 ∷ 0 ∷ 0 ∷ 1 ∷ [])) (answered S.Gps (negsuc 7299) 16)
+unfolding Cuc.read number
+cuc-upward = (refl, refl, byMicro (λ e. omega arith))
 
 -- the span not judged
 abbrev cucEndless : List ℕ → Slip
@@ -58,22 +88,44 @@ unfolding Cuc.read number
 cuc-endless = (refl, refl, byNumber (λ e. omega arith))
 
 -- ---- CUC write
--- the fraction rounded down: 999,984 microseconds as FFFE, which is read as 999,969
-abbrev cucDown : Handed → List ℕ → Wrote ℕ
-cucDown h out =
+-- another fraction of a second's microseconds
+abbrev cucWith : (ℕ → ℕ) → Handed → List ℕ → Wrote ℕ
+cucWith fraction h out =
     let n = microsFrom Cuc.epoch (dayOf h) (microOf h) in
-    written out (outcome (placing (FC.imageOf (record { seconds = n / 1000000; fraction = n % 1000000 * 65536 / 1000000 })) out))
+    written out (outcome (placing (FC.imageOf (record { seconds = n / 1000000; fraction = fraction (n % 1000000) })) out))
 
-pub cuc-down : ShutOut (Cuc.write (gps (negsuc 7299) 999984) (sevens 8)) (got 6 (0 ∷ 0 ∷ 0 ∷ 0 ∷ 255 ∷ 255 ∷ 7 ∷ 7 ∷ []))
-    (cucDown (gps (negsuc 7299) 999984) (sevens 8)) (got 6 (0 ∷ 0 ∷ 0 ∷ 0 ∷ 255 ∷ 254 ∷ 7 ∷ 7 ∷ []))
+-- rounded down: 999,969 microseconds as FFFD, which is read as 999,954
+abbrev roundedDown : ℕ → ℕ
+roundedDown u = u * 65536 / 1000000
+
+pub cuc-down : ShutOut (Cuc.write (gps (negsuc 7299) 999969) (sevens 8)) (got 6 (0 ∷ 0 ∷ 0 ∷ 0 ∷ 255 ∷ 254 ∷ 7 ∷ 7 ∷ []))
+    (cucWith roundedDown (gps (negsuc 7299) 999969) (sevens 8)) (got 6 (0 ∷ 0 ∷ 0 ∷ 0 ∷ 255 ∷ 253 ∷ 7 ∷ 7 ∷ []))
 unfolding Cuc.write field lastTo
 cuc-down = (refl, refl, differ (bytesAt 5) (λ e. omega arith))
+
+-- as for the whole part: 999,984 microseconds as FFFF, which is read later
+abbrev asBefore : ℕ → ℕ
+asBefore u = (u * 65536 + 65535) / 1000000
+
+pub cuc-as-before : ShutOut (Cuc.write (gps (negsuc 7299) 999984) (sevens 8)) (got 6 (0 ∷ 0 ∷ 0 ∷ 0 ∷ 255 ∷ 254 ∷ 7 ∷ 7 ∷ []))
+    (cucWith asBefore (gps (negsuc 7299) 999984) (sevens 8)) (got 6 (0 ∷ 0 ∷ 0 ∷ 0 ∷ 255 ∷ 255 ∷ 7 ∷ 7 ∷ []))
+unfolding Cuc.write field lastTo
+cuc-as-before = (refl, refl, differ (bytesAt 5) (λ e. omega arith))
+
+-- the nearest one: 7,812 microseconds as 0200, which is read later too
+abbrev nearestTo : ℕ → ℕ
+nearestTo u = (u * 65536 + 500000) / 1000000
+
+pub cuc-nearest-to : ShutOut (Cuc.write (gps (negsuc 7299) 7812) (sevens 8)) (got 6 (0 ∷ 0 ∷ 0 ∷ 0 ∷ 1 ∷ 255 ∷ 7 ∷ 7 ∷ []))
+    (cucWith nearestTo (gps (negsuc 7299) 7812) (sevens 8)) (got 6 (0 ∷ 0 ∷ 0 ∷ 0 ∷ 2 ∷ 0 ∷ 7 ∷ 7 ∷ []))
+unfolding Cuc.write field
+cuc-nearest-to = shut (rw (nearest-written .2)) refl (differ (bytesAt 5) (λ e. omega arith))
 
 -- a time of another scale taken
 abbrev cucAnyScale : Handed → List ℕ → Wrote ℕ
 cucAnyScale h out = written out (outcome (placing (Cuc.imageAt (dayOf h) (microOf h)) out))
 
-pub cuc-any-scale : ShutOut (Cuc.write (tai (negsuc 7299) 999984) (sevens 8)) (keeps 12 (sevens 8)) (cucAnyScale (tai (negsuc 7299) 999984) (sevens 8))
+pub cuc-any-scale : ShutOut (Cuc.write (tai (negsuc 7299) 999985) (sevens 8)) (keeps 12 (sevens 8)) (cucAnyScale (tai (negsuc 7299) 999985) (sevens 8))
     (got 6 (0 ∷ 0 ∷ 0 ∷ 0 ∷ 255 ∷ 255 ∷ 7 ∷ 7 ∷ []))
 unfolding Cuc.write field lastTo
 cuc-any-scale = (refl, refl, differ (bytesAt 0) (λ e. omega arith))
@@ -86,14 +138,14 @@ pub cuc-scale-first : ShutOut (Cuc.write (tai (pos 36525) 0) (sevens 8)) (keeps 
 unfolding Cuc.write field lastTo
 cuc-scale-first = (refl, refl, differ (λ (w : Wrote ℕ). w .number) (λ e. omega arith))
 
-pub cuc-clearing : ShutOut (Cuc.write (gps (negsuc 7299) 999984) (sevens 8)) (got 6 (0 ∷ 0 ∷ 0 ∷ 0 ∷ 255 ∷ 255 ∷ 7 ∷ 7 ∷ []))
-    (clearing (sevens 8) (Cuc.write (gps (negsuc 7299) 999984) (sevens 8))) (got 6 (0 ∷ 0 ∷ 0 ∷ 0 ∷ 255 ∷ 255 ∷ 0 ∷ 0 ∷ []))
+pub cuc-clearing : ShutOut (Cuc.write (gps (negsuc 7299) 999985) (sevens 8)) (got 6 (0 ∷ 0 ∷ 0 ∷ 0 ∷ 255 ∷ 255 ∷ 7 ∷ 7 ∷ []))
+    (clearing (sevens 8) (Cuc.write (gps (negsuc 7299) 999985) (sevens 8))) (got 6 (0 ∷ 0 ∷ 0 ∷ 0 ∷ 255 ∷ 255 ∷ 0 ∷ 0 ∷ []))
 unfolding Cuc.write field lastTo
 cuc-clearing = (refl, refl, differ (bytesAt 6) (λ e. omega arith))
 
 -- the desk that writes nothing
-pub writes-nothing : ShutOut (Cuc.write (gps (negsuc 7299) 999984) (sevens 8)) (got 6 (0 ∷ 0 ∷ 0 ∷ 0 ∷ 255 ∷ 255 ∷ 7 ∷ 7 ∷ []))
-    (writesNothing (sevens 8) (Cuc.write (gps (negsuc 7299) 999984) (sevens 8))) (got 6 (sevens 8))
+pub writes-nothing : ShutOut (Cuc.write (gps (negsuc 7299) 999985) (sevens 8)) (got 6 (0 ∷ 0 ∷ 0 ∷ 0 ∷ 255 ∷ 255 ∷ 7 ∷ 7 ∷ []))
+    (writesNothing (sevens 8) (Cuc.write (gps (negsuc 7299) 999985) (sevens 8))) (got 6 (sevens 8))
 unfolding Cuc.write field lastTo
 writes-nothing = (refl, refl, differ (bytesAt 0) (λ e. omega arith))
 
@@ -129,8 +181,8 @@ proteus-no-h3 = (refl, refl, differ (λ (t : Proteus.Stamped). bit (t .h3)) (λ 
 abbrev proteusSixty : Handed → Bool → List ℕ → Wrote ℕ
 proteusSixty h b out = written out (outcome (placing (Proteus.imageAt (dayOf h) (microOf h) b) out))
 
-pub proteus-sixty : ShutOut (Proteus.write (utc (pos 6209) 86400999984) true (sevens 8)) (keeps 12 (sevens 8))
-    (proteusSixty (utc (pos 6209) 86400999984) true (sevens 8)) (got 8 (120 ∷ 161 ∷ 0 ∷ 0 ∷ 0 ∷ 0 ∷ 255 ∷ 255 ∷ []))
+pub proteus-sixty : ShutOut (Proteus.write (utc (pos 6209) 86400999985) true (sevens 8)) (keeps 12 (sevens 8))
+    (proteusSixty (utc (pos 6209) 86400999985) true (sevens 8)) (got 8 (120 ∷ 161 ∷ 0 ∷ 0 ∷ 0 ∷ 0 ∷ 255 ∷ 255 ∷ []))
 unfolding Proteus.write field lastTo
 proteus-sixty = (refl, refl, differ (bytesAt 0) (λ e. omega arith))
 
@@ -138,13 +190,13 @@ proteus-sixty = (refl, refl, differ (bytesAt 0) (λ e. omega arith))
 abbrev proteusAdded : Handed → Bool → List ℕ → Wrote ℕ
 proteusAdded h b out = written out (outcome (placing (FP.imageOf (Proteus.fieldsAt b (microsFrom Proteus.epoch (dayOf h) (microOf h) + 18000000))) out))
 
-pub proteus-added : ShutOut (Proteus.write (utc (pos 6700) 999984) true (sevens 8)) (got 8 (125 ∷ 1 ∷ 0 ∷ 0 ∷ 0 ∷ 0 ∷ 255 ∷ 255 ∷ []))
-    (proteusAdded (utc (pos 6700) 999984) true (sevens 8)) (got 8 (125 ∷ 1 ∷ 0 ∷ 0 ∷ 0 ∷ 18 ∷ 255 ∷ 255 ∷ []))
+pub proteus-added : ShutOut (Proteus.write (utc (pos 6700) 999985) true (sevens 8)) (got 8 (125 ∷ 1 ∷ 0 ∷ 0 ∷ 0 ∷ 0 ∷ 255 ∷ 255 ∷ []))
+    (proteusAdded (utc (pos 6700) 999985) true (sevens 8)) (got 8 (125 ∷ 1 ∷ 0 ∷ 0 ∷ 0 ∷ 18 ∷ 255 ∷ 255 ∷ []))
 unfolding Proteus.write field lastTo
 proteus-added = (refl, refl, differ (bytesAt 5) (λ e. omega arith))
 
-pub proteus-scribbling : ShutOut (Proteus.write (utc (pos 21372) 999984) true (sevens 8)) (keeps 12 (sevens 8))
-    (scribbling (Proteus.write (utc (pos 21372) 999984) true (sevens 8))) (keeps 12 (0 ∷ 7 ∷ 7 ∷ 7 ∷ 7 ∷ 7 ∷ 7 ∷ 7 ∷ []))
+pub proteus-scribbling : ShutOut (Proteus.write (utc (pos 21372) 999985) true (sevens 8)) (keeps 12 (sevens 8))
+    (scribbling (Proteus.write (utc (pos 21372) 999985) true (sevens 8))) (keeps 12 (0 ∷ 7 ∷ 7 ∷ 7 ∷ 7 ∷ 7 ∷ 7 ∷ 7 ∷ []))
 unfolding Proteus.write field lastTo
 proteus-scribbling = (refl, refl, differ (bytesAt 0) (λ e. omega arith))
 

@@ -4,7 +4,7 @@
 use mathlib.Core.Path.{_≡_, refl, sym, subst}
 use mathlib.Core.Bool.{Bool, true, false}
 use Prim.Native.Nat.{ℕ, zero, suc, _+_, _-_, _*_, _/_, _^_, _≤_, _<_}
-use native.Mathlib.Nat.{le-refl, le-div-iff-mul-le, div-lt-iff-lt-mul, div-mul-le-self, lt-div-mul-add, mul-le-mul-right, div-lt-self}
+use native.Mathlib.Nat.{le-refl, le-div-iff-mul-le, div-lt-iff-lt-mul, div-mul-le-self, lt-div-mul-add, mul-le-mul-right, div-lt-self, div-eq-of-lt-le}
 use native.Mathlib.Omega.{arith}
 use lib.Dec.{leb, lit<}
 use lib.Pow.{pow-pos, le-ones}
@@ -118,4 +118,14 @@ module _ (r : Rounding) (n : ℕ) where
           go : (p o : ℕ) → o < p → 1000000 ≤ p → u * p + (p - 1 - o) < lastBy u * 1000000 + 1000000 → u * p ≤ lastBy u * 1000000 + o
           go p o s l m = omega arith
 
--- ---- seconds and a fraction of 16 bits, as CUC and Proteus have them
+-- ---- "the nearest microsecond, halves upward": f / 2 ^ n s is less than half a microsecond after it, or half a microsecond or less
+-- before it. That holds of one number alone
+module _ (n f : ℕ) where
+  pub nearest-is : let m = standsFor nearest n f in (m * 2 ^ n ≤ f * 1000000 + 2 ^ n / 2) × (f * 1000000 + 2 ^ n / 2 < (m + 1) * 2 ^ n)
+  nearest-is = (div-mul-le-self (f * 1000000 + 2 ^ n / 2) (2 ^ n), go (standsFor nearest n f) (2 ^ n) (lt-div-mul-add {a = f * 1000000 + 2 ^ n / 2} (pow-pos n)))
+    where
+      go : (x p : ℕ) → f * 1000000 + 2 ^ n / 2 < x * p + p → f * 1000000 + 2 ^ n / 2 < (x + 1) * p
+      go x p l = omega arith
+
+  pub nearest-one : (m : ℕ) → m * 2 ^ n ≤ f * 1000000 + 2 ^ n / 2 → f * 1000000 + 2 ^ n / 2 < (m + 1) * 2 ^ n → standsFor nearest n f ≡ m
+  nearest-one m h k = div-eq-of-lt-le (2 ^ n) h k

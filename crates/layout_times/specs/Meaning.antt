@@ -34,9 +34,9 @@ lastTo r n u (suc most) = cond (leb (standsFor r n (suc most)) u) (suc most) (la
 abbrev pub lastFraction : Rounding → ℕ → ℕ → ℕ
 lastFraction r n u = lastTo r n u (2 ^ n - 1)
 
--- CUC's fraction, and Proteus': "The fraction f stands for the whole part of f x 15625 / 1024 microseconds", which is f / 2 ^ 16 s
+-- CUC's fraction, and Proteus': "A 16-bit fraction is to stand for the nearest microsecond, halves upward, instead of the whole part"
 abbrev pub rounding : Rounding
-rounding = wholePart
+rounding = nearest
 
 abbrev pub fractionMicros : ℕ → ℕ
 fractionMicros f = standsFor rounding 16 f

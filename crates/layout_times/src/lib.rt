@@ -28,11 +28,11 @@ fn since(scale: Scale, from: u32, n: u64) -> Dated
     Record::new(scale, day, n % 86_400_000_000).judged()
 }
 
-// The microseconds that a 16-bit fraction of a second stands for.
+// The microsecond that a 16-bit fraction of a second stands for: the nearest, halves upward.
 fn fraction_micros(f: u16) -> u64
     ensures { λ r. ⌜ r ≡ fractionMicros f ⌝ }
 {
-    (f as u64) * 15625 / 1024
+    ((f as u64) * 15625 + 512) / 1024
 }
 
 // The last 16-bit fraction of a second that is not later.
@@ -40,7 +40,7 @@ fn fraction_at(micros: u64) -> u16
     requires { ⌜ micros < 1000000 ⌝ }
     ensures { λ r. ⌜ r ≡ fractionAt micros ⌝ }
 {
-    ((micros * 65536 + 65535) / 1_000_000) as u16
+    ((micros * 65536 + 32767) / 1_000_000) as u16
 }
 
 // The count of a time in its own scale.
