@@ -10,10 +10,10 @@ static inline void put32(uint8_t *b, uint32_t n) { put16(b, n >> 16), put16(b + 
 static inline vrk_written wrote(uint64_t length) { return (vrk_written){0, length}; }
 static inline vrk_written not_written(uint32_t refusal) { return (vrk_written){refusal, 0}; }
 
-/* The fraction f stands for the whole part of f * 15625 / 1024 microseconds. */
-static inline int64_t micros_of_fraction(uint32_t f) { return f * INT64_C(15625) / 1024; }
+/* The fraction f stands for the microsecond nearest f * 15625 / 1024, halves upward. */
+static inline int64_t micros_of_fraction(uint32_t f) { return (f * INT64_C(15625) + 512) / 1024; }
 /* The last fraction whose reading is not later. */
-static inline uint32_t fraction_of(int64_t micros) { return (uint32_t)(((micros + 1) * 1024 - 1) / 15625); }
+static inline uint32_t fraction_of(int64_t micros) { return (uint32_t)((micros * 1024 + 511) / 15625); }
 
 /* ---- fields */
 

@@ -22,9 +22,9 @@ fn carried(scale: Scale, day: i64, micros: i128) -> Result<Moment, Number> {
     if (scale.first_day()..=scale.last_day()).contains(&moment.day) { Ok(moment) } else { Err(7) }
 }
 
-/// The microseconds that a fraction of 16 bits stands for.
+/// The microsecond that a fraction of 16 bits stands for: the nearest, halves upward.
 fn fraction_reads(fraction: u64) -> u64 {
-    fraction * 15625 / 1024
+    fraction * 15625 / 1024 + u64::from(fraction * 15625 % 1024 >= 512)
 }
 
 /// The last fraction whose reading is not later.
