@@ -207,7 +207,8 @@ vrk_time vrk_change(vrk_handed time, uint32_t to_scale, const int64_t *days, siz
  * Most significant byte first, all fields unsigned. A reader may be given any number of bytes. Where a layout cannot hold a
  * time exactly, its writer writes the latest time not after it that the layout can hold. */
 
-/* CUC, Aeolus, 6 bytes: seconds (32 bits) since 6 January 1980 and a fraction of 1/65536 s (16 bits), in GPS.
+/* CUC, Aeolus, 6 bytes: seconds (32 bits) since 6 January 1980 and a fraction of 1/65536 s (16 bits), in GPS. A fraction is
+ * read as the nearest microsecond, halves upward: 1 as 15, 512 (7,812.5) as 7,813, 65535 as 999,985.
  *
  * Given     6 bytes.    Returned  a GPS time.    Refused  1; 7. */
 vrk_time vrk_cuc_read(const uint8_t *bytes, size_t count);
@@ -242,7 +243,7 @@ typedef struct {
 } vrk_proteus;
 
 /* Proteus, SMOS, 8 bytes: week (12 bits) from 6 January 1980, three bits that are 0, the bit H3, second of week (32 bits, at
- * most 604,799), a fraction as in CUC. It is UTC in weeks of 604,800 s, and no leap list is used.
+ * most 604,799), a fraction as in CUC, read as the nearest microsecond, halves upward. It is UTC in weeks of 604,800 s, and no leap list is used.
  *
  * Given     8 bytes.    Returned  a UTC time, and H3.    Refused  1; 2 one of the three bits is 1; 3 a second over its
  *           limit. */

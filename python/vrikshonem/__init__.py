@@ -38,7 +38,7 @@ from ._layouts import *
 from ._refusals import *
 from ._times import *
 
-__version__ = "0.4.0"
+__version__ = "0.4.1"
 # Each module lists its own names, and in this form a checker of types can add them up.
 __all__: list[str] = []
 __all__ += _correlations.__all__

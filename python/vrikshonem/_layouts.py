@@ -91,10 +91,13 @@ class SiralFields(NamedTuple):
 
 
 def cuc_read(data: Bytes) -> Gps:
-    """CUC, Aeolus, 6 bytes: seconds since 6 January 1980 and a fraction of 1/65536 s. Refused: 1; 7.
+    """CUC, Aeolus, 6 bytes: seconds since 6 January 1980 and a fraction of 1/65536 s, read as the nearest microsecond, halves
+    upward. Refused: 1; 7.
 
     >>> cuc_read(bytes.fromhex("000000010001"))
     Gps(day=-7300, micro=1000015)
+    >>> cuc_read(bytes.fromhex("00000001ffff"))
+    Gps(day=-7300, micro=1999985)
     """
     return Gps._of(_read("vrk_cuc_read", data))
 
@@ -147,7 +150,8 @@ def obet_write(count: int, out: Lent = None) -> bytes:
 
 
 def proteus_read(data: Bytes) -> Tuple[Utc, bool]:
-    """Proteus, SMOS, 8 bytes: a UTC time in weeks of 604,800 s, without a leap list, and H3. Refused: 1; 2; 3."""
+    """Proteus, SMOS, 8 bytes: a UTC time in weeks of 604,800 s, without a leap list, and H3. Its fraction of a second is read as
+    the nearest microsecond, halves upward. Refused: 1; 2; 3."""
     read = _read("vrk_proteus_read", data)
     return Utc._of(read), read.h3 == 1
 

@@ -8,7 +8,8 @@ fn written(written: sys::VrkWritten) -> Result<usize, Error> {
     answered(written.refusal, written.length as usize)
 }
 
-/// CUC, Aeolus, 6 bytes: seconds since 6 January 1980 and a fraction of 1/65536 s, in GPS.
+/// CUC, Aeolus, 6 bytes: seconds since 6 January 1980 and a fraction of 1/65536 s, in GPS. A fraction is read as the nearest
+/// microsecond, halves upward.
 pub mod cuc {
     use super::*;
     use crate::time::{at, Handed, Gps};
@@ -84,7 +85,8 @@ pub mod obet {
     }
 }
 
-/// Proteus, SMOS, 8 bytes: week, H3, second of week and fraction; UTC in weeks of 604,800 s, without a leap list.
+/// Proteus, SMOS, 8 bytes: week, H3, second of week and fraction; UTC in weeks of 604,800 s, without a leap list. A fraction is
+/// read as the nearest microsecond, halves upward, as in [`cuc`].
 pub mod proteus {
     use super::*;
     use crate::time::{Handed, Utc};
