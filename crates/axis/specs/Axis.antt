@@ -1,14 +1,14 @@
 -- The laws of the three axes in use, days, microseconds and counts, and how they meet: a day and a microsecond of day by the
 -- place of their microseconds since day 0. Assumes nothing.
 use mathlib.Core.Path.{_≡_, sym, ap, ap₂, _∙_}
-use Prim.Native.Nat.{ℕ, _+_, _-_, _*_, _/_, _%_, _≤_, _<_}
+use Prim.Native.Nat.{ℕ, suc, _+_, _-_, _*_, _/_, _%_, _≤_, _<_}
 use native.Mathlib.Omega.{arith}
 use lib.Dec.{leb, ltb, lit<}
-use lib.IntN.{ℤ, pos, subℕ, _+ℤ_, _-ℤ_}
+use lib.IntN.{ℤ, pos, negsuc, subℕ, _+ℤ_, _-ℤ_, _*ℤ_}
 use lib.Signed.{leZ, ltZ}
 use borrow.Author.Tests.{lt-ltb, le-ltb}
 use Rattle.axis.specs.Meaning.{placeOfDay, dayAt, placeOfMicros, microsAt, placeOfCounts, countsAt, floorZ, modZ, dayMicros, Moment, since, momentOf}
-use Rattle.axis.specs.Diff.{is-pos, sub-add, sub-mul, sub-lt, sub-floor, sub-mod, sub-le-same, sub-inj-same, Way, way, below, above}
+use Rattle.axis.specs.Diff.{up, down, parts, is-pos, is-negsuc, sub-eq, sub-add, sub-mul, sub-lt, sub-floor, sub-mod, sub-le-same, sub-inj-same, Way, way, below, above}
 use Rattle.axis.specs.Shift as F
 
 -- ---- days
@@ -74,6 +74,36 @@ since-at p u =
 
 pub moment-at : (c : ℕ) → momentOf (microsAt c) ≡ record { day = dayAt (c / dayMicros); micro = c % dayMicros }
 moment-at c = ap₂ {C = Moment} (λ (d : ℤ) (u : ℕ). record { day = d; micro = u }) (micros-day c) (micros-left c)
+
+-- a day and a microsecond of day, and their microseconds since day 0, undo each other
+since-parts : (d : ℤ) (u : ℕ) → since d u ≡ subℕ (up d * dayMicros + u) (down d * dayMicros)
+since-parts d u =
+    ap₂ _+ℤ_ (ap (λ (z : ℤ). z *ℤ pos dayMicros) (parts d) ∙ sub-mul (up d) (down d) dayMicros) (is-pos u)
+    ∙ sub-add (up d * dayMicros) (down d * dayMicros) u 0
+    ∙ ap (subℕ (up d * dayMicros + u)) (omega arith)
+
+module _ (d : ℤ) (u : ℕ) (h : u < dayMicros) where
+  pub day-since : floorZ (since d u) dayMicros ≡ d
+  day-since =
+      ap (λ (z : ℤ). floorZ z dayMicros) (since-parts d u) ∙ sub-floor (up d * dayMicros + u) (down d) dayMicros (lit< tt)
+      ∙ ap (λ (n : ℕ). subℕ n (down d)) q ∙ sym (parts d)
+    where
+      q : (up d * dayMicros + u) / dayMicros ≡ up d
+      q = omega arith
+
+  pub micro-since : modZ (since d u) dayMicros ≡ u
+  micro-since =
+      ap (λ (z : ℤ). modZ z dayMicros) (since-parts d u) ∙ sub-mod (up d * dayMicros + u) (down d) dayMicros (lit< tt) ∙ q
+    where
+      q : (up d * dayMicros + u) % dayMicros ≡ u
+      q = omega arith
+
+pub since-day : (z : ℤ) → since (floorZ z dayMicros) (modZ z dayMicros) ≡ z
+since-day (pos a) = ap pos (omega arith)
+since-day (negsuc a) =
+    since-parts (negsuc (a / dayMicros)) (dayMicros - suc (a % dayMicros))
+    ∙ sub-eq (0 * dayMicros + (dayMicros - suc (a % dayMicros))) (suc (a / dayMicros) * dayMicros) 0 (suc a) (omega arith)
+    ∙ sym (is-negsuc a)
 
 -- ---- counts of 1/65536 s since day 0
 pub counts-place : (n : ℤ) → 0 < placeOfCounts n → placeOfCounts n < 566231040000000 → countsAt (placeOfCounts n) ≡ n

@@ -1,8 +1,9 @@
 -- The one axis of the product: a day, or a microsecond or a count since day 0, as a natural number. Days -40000 to 60000 stand at
 -- places 0 to 100000, and every span lies well within; what lies outside stands at the nearer end. And days of 86,400 s: a day
 -- and a microsecond as microseconds since day 0, and back. Assumes nothing.
-use mathlib.Core.Bool.{Bool, _&&_}
+use mathlib.Core.Bool.{Bool, cond, _&&_}
 use Prim.Native.Nat.{ℕ, suc, _+_, _-_, _/_, _%_, min}
+use lib.Dec.{ltb}
 use lib.IntN.{ℤ, pos, negsuc, subℕ, _+ℤ_, _*ℤ_}
 use lib.Signed.{leZ}
 
@@ -39,6 +40,14 @@ placeOfCounts n = place 226492416000000 566231040000000 n
 
 abbrev pub countsAt : ℕ → ℤ
 countsAt m = subℕ m 226492416000000
+
+-- a signed number of 64 bits and the number that its bits stand for (two's complement)
+abbrev pub signedOf : ℕ → ℤ
+signedOf n = cond (ltb n 9223372036854775808) (pos n) (subℕ n 18446744073709551616)
+
+abbrev pub bitsOf : ℤ → ℕ
+bitsOf (pos n) = n
+bitsOf (negsuc n) = 18446744073709551616 - suc n
 
 -- the quotient rounded down (towards the past) by a natural m > 0, and what is left over
 abbrev pub floorZ : ℤ → ℕ → ℤ

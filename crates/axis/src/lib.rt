@@ -1,7 +1,7 @@
 // The one axis: signed days, and signed microseconds and counts since day 0, as naturals and back.
-// Only these six functions meet a signed number; all other code reckons with places.
+// Only these eight functions meet a signed number; all other code reckons with places.
 ghost use mathlib.Core.Path.{_≡_};
-ghost use Rattle.axis.specs.Meaning.{isBetween, placeOfDay, dayAt, placeOfMicros, heldMicrosAt, placeOfCounts};
+ghost use Rattle.axis.specs.Meaning.{isBetween, placeOfDay, dayAt, placeOfMicros, heldMicrosAt, placeOfCounts, signedOf, bitsOf};
 
 // Whether a day lies from one day to another, both included.
 pub fn is_between(first: i64, day: i64, last: i64) -> bool
@@ -67,4 +67,24 @@ pub fn place_of_counts(counts: i64) -> u64
         return 566_231_040_000_000;
     }
     (counts + 226_492_416_000_000) as u64
+}
+
+// The signed number that 64 bits stand for.
+pub fn signed_of(bits: u64) -> i64
+    ensures { λ r. ⌜ r ≡ signedOf bits ⌝ }
+{
+    if bits < 9_223_372_036_854_775_808 {
+        return bits as i64;
+    }
+    ((bits - 9_223_372_036_854_775_808) as i64) - 9_223_372_036_854_775_807 - 1
+}
+
+// The 64 bits of a signed number.
+pub fn bits_of(n: i64) -> u64
+    ensures { λ r. ⌜ r ≡ bitsOf n ⌝ }
+{
+    if n < 0 {
+        return ((n + 9_223_372_036_854_775_807 + 1) as u64) + 9_223_372_036_854_775_808;
+    }
+    n as u64
 }

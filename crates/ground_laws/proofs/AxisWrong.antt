@@ -1,16 +1,16 @@
 -- Wrong programs for the axis, each shut out by an input at which its answer is not the meaning's; and the laws of the axis
 -- at inputs that meet their hypotheses. Assumes nothing.
 use mathlib.Core.Path.{_≡_, refl, sym}
-use mathlib.Core.Bool.{Bool, true, false, _&&_, false≢true}
-use Prim.Native.Nat.{ℕ, _-_}
+use mathlib.Core.Bool.{Bool, true, false, cond, _&&_, false≢true}
+use Prim.Native.Nat.{ℕ, suc, _-_}
 use native.Mathlib.Omega.{arith}
-use lib.Dec.{leb, lit<, lit≤}
-use lib.IntN.{ℤ, pos, negsuc, subℕ, natAbs, _+ℤ_}
+use lib.Dec.{leb, ltb, lit<, lit≤}
+use lib.IntN.{ℤ, pos, negsuc, negℤ, subℕ, natAbs, _+ℤ_}
 use lib.Signed.{leZ, ltZ}
 use mir.Syntax.{w64}
 use mir.Val.{ofZ}
 use Rattle.evidence.specs.ShutOut.{ShutOut, differ}
-use Rattle.axis.specs.Meaning.{isBetween, placeOfDay, dayAt, placeOfMicros, microsAt, heldMicrosAt, placeOfCounts, countsAt, floorZ, modZ}
+use Rattle.axis.specs.Meaning.{isBetween, placeOfDay, dayAt, placeOfMicros, microsAt, heldMicrosAt, placeOfCounts, countsAt, signedOf, bitsOf, floorZ, modZ}
 use Rattle.axis.specs.Axis.{place-day, day-place, day-from, day-to, place-micros, micros-place, counts-place, counts-from, counts-to}
 
 -- ---- is_between
@@ -97,6 +97,31 @@ counts-wrap = (refl, refl, λ e. omega arith)
 -- counts taken for microseconds
 pub counts-as-micros : ShutOut (placeOfCounts (pos 1)) 226492416000001 (placeOfMicros (pos 1)) 3456000000000001
 counts-as-micros = (refl, refl, λ e. omega arith)
+
+-- ---- signed_of
+-- the bits as they are, without a sign
+pub sign-lost : ShutOut (signedOf 18446744073709551615) (negsuc 0) (pos 18446744073709551615) (pos 18446744073709551615)
+sign-lost = (refl, refl, differ natAbs (λ e. omega arith))
+
+-- the first bit as a sign, the others as a size
+abbrev bySize : ℕ → ℤ
+bySize n = cond (ltb n 9223372036854775808) (pos n) (negℤ (pos (n - 9223372036854775808)))
+
+pub sign-and-size : ShutOut (signedOf 9223372036854775809) (negsuc 9223372036854775806) (bySize 9223372036854775809) (negsuc 0)
+sign-and-size = (refl, refl, differ natAbs (λ e. omega arith))
+
+-- ---- bits_of
+-- the size alone
+pub size-alone : ShutOut (bitsOf (negsuc 0)) 18446744073709551615 (natAbs (negsuc 0)) 1
+size-alone = (refl, refl, λ e. omega arith)
+
+-- every bit turned over, and not one added
+abbrev turnedOver : ℤ → ℕ
+turnedOver (pos n) = n
+turnedOver (negsuc n) = 18446744073709551615 - suc n
+
+pub one-not-added : ShutOut (bitsOf (negsuc 0)) 18446744073709551615 (turnedOver (negsuc 0)) 18446744073709551614
+one-not-added = (refl, refl, λ e. omega arith)
 
 -- ---- the laws, each at an input that meets its hypotheses: day -7300 and its place, a microsecond before day 0
 pub days-meet :

@@ -11,7 +11,7 @@ use Rattle.scales.specs.declared.Refusal.{Refusal}
 use Rattle.scales.specs.declared.Refusal.the-variants as R
 use Rattle.scales.specs.declared.Written.the-variants as W
 use Rattle.layout_fields.specs.Meaning.{placing}
-use Rattle.layout_fields.specs.Parts.{field-two}
+use Rattle.octets.specs.Parts.{field-two}
 use Rattle.layout_fields.specs.Cryosat.{fieldsOf, empty, slip}
 use Rattle.layout_fields.specs.declared.cryosat.Fields.{Fields}
 use Rattle.layout_fields.specs.declared.cryosat.CryosatParted.the-variants as P

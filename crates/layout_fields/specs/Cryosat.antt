@@ -5,10 +5,10 @@ use mathlib.Core.List.{List, _++_}
 use Prim.Native.Nat.{ℕ}
 use lib.Dec.{ltb, eqb}
 use lib.ListN.{length}
-use Rattle.octets.specs.Meaning.{field}
+use Rattle.octets.specs.Meaning.{field, part}
 use Rattle.scales.specs.Meaning.{Judged, given, gives, outcome, Wrote, written, Valued, valued, Reply, some, no, valueSlip}
 use Rattle.scales.specs.declared.Refusal.the-variants as R
-use Rattle.layout_fields.specs.Meaning.{part, placing}
+use Rattle.layout_fields.specs.Meaning.{placing}
 use Rattle.layout_fields.specs.declared.cryosat.Fields.{Fields}
 use Rattle.layout_fields.specs.declared.cryosat.CryosatParted.{CryosatParted}
 use Rattle.layout_fields.specs.declared.cryosat.CryosatParted.the-variants as P

@@ -3,9 +3,9 @@ use mathlib.Core.List.{List, _++_}
 use Prim.Native.Nat.{ℕ}
 use lib.Dec.{eqb}
 use lib.ListN.{length}
-use Rattle.octets.specs.Meaning.{field}
+use Rattle.octets.specs.Meaning.{field, part}
 use Rattle.scales.specs.Meaning.{Judged, given, gives, outcome, Wrote, written, Valued, valued, Reply, some, no, valueSlip}
-use Rattle.layout_fields.specs.Meaning.{part, placing}
+use Rattle.layout_fields.specs.Meaning.{placing}
 use Rattle.layout_fields.specs.declared.cuc.Fields.{Fields}
 use Rattle.layout_fields.specs.declared.cuc.CucParted.{CucParted}
 use Rattle.layout_fields.specs.declared.cuc.CucParted.the-variants as P

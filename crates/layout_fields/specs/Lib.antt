@@ -6,5 +6,4 @@ pub mod Proteus
 pub mod Cryosat
 pub mod Siral
 pub mod Sbt
-pub mod Parts
 pub mod Same

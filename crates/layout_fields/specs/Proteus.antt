@@ -5,9 +5,9 @@ use mathlib.Core.List.{List, _++_}
 use Prim.Native.Nat.{ℕ, _+_, _*_, _/_, _%_}
 use lib.Dec.{leb, ltb, eqb}
 use lib.ListN.{length}
-use Rattle.octets.specs.Meaning.{field}
+use Rattle.octets.specs.Meaning.{field, part}
 use Rattle.scales.specs.Meaning.{Judged, given, gives, outcome, Wrote, written, Valued, valued, Reply, some, no, valueSlip}
-use Rattle.layout_fields.specs.Meaning.{part, placing}
+use Rattle.layout_fields.specs.Meaning.{placing}
 use Rattle.layout_fields.specs.declared.proteus.Fields.{Fields}
 use Rattle.layout_fields.specs.declared.proteus.ProteusParted.{ProteusParted}
 use Rattle.layout_fields.specs.declared.proteus.ProteusParted.the-variants as P

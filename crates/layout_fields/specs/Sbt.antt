@@ -3,9 +3,9 @@ use mathlib.Core.List.{List}
 use Prim.Native.Nat.{ℕ}
 use lib.Dec.{eqb}
 use lib.ListN.{length}
-use Rattle.octets.specs.Meaning.{field}
+use Rattle.octets.specs.Meaning.{field, part}
 use Rattle.scales.specs.Meaning.{Judged, given, gives, outcome, Valued, valued, Wrote, written}
-use Rattle.layout_fields.specs.Meaning.{part, placing}
+use Rattle.layout_fields.specs.Meaning.{placing}
 
 abbrev pub reading : List ℕ → Judged ℕ
 reading s =

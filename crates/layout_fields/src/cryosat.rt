@@ -34,13 +34,13 @@ pub(crate) fn front(b: &[u8]) -> CryosatParted
     requires { ⌜ 8 ≤ length (now b) ⌝ }
     ensures { λ r. ⌜ r ≡ frontOf (now (b .entry)) ⌝ }
 {
-    let millisecond = crate::part(b, 2, 4) as u32;
-    let microsecond = crate::part(b, 6, 2) as u16;
+    let millisecond = octets::inner::part(b, 2, 4) as u32;
+    let microsecond = octets::inner::part(b, 6, 2) as u16;
     if !in_limits(millisecond, microsecond) {
         return CryosatParted::Refused(Refusal::FieldOver);
     }
     CryosatParted::Fields(Fields {
-        day: crate::part(b, 0, 2) as u16,
+        day: octets::inner::part(b, 0, 2) as u16,
         millisecond,
         microsecond,
     })

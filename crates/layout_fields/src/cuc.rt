@@ -22,8 +22,8 @@ pub fn read(b: &[u8]) -> CucParted
         return CucParted::Refused(Refusal::LengthIsNone);
     }
     CucParted::Fields(Fields {
-        seconds: crate::part(b, 0, 4) as u32,
-        fraction: crate::part(b, 4, 2) as u16,
+        seconds: octets::inner::part(b, 0, 4) as u32,
+        fraction: octets::inner::part(b, 4, 2) as u16,
     })
 }
 

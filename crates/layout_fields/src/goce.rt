@@ -12,7 +12,7 @@ pub fn read(b: &[u8]) -> Counted
     if b.len() != 6 {
         return Counted::Refused(Refusal::LengthIsNone);
     }
-    Counted::Count(crate::part(b, 0, 6))
+    Counted::Count(octets::inner::part(b, 0, 6))
 }
 
 pub fn write(count: u64, out: &mut [u8]) -> Written

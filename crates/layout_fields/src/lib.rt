@@ -1,11 +1,10 @@
 // Bytes and fields, one module a byte layout: most significant byte first, all fields unsigned.
 ghost use mathlib.Core.Path.{_≡_};
 ghost use mathlib.Core.List.{_++_};
-ghost use Prim.Native.Nat.{_+_, _^_, _≤_, _<_};
-ghost use lib.ListN.{length};
+ghost use Prim.Native.Nat.{_+_, _≤_};
 ghost use Rattle.octets.specs.Meaning.{field};
 ghost use Rattle.scales.specs.Meaning.{wrote, written, outcome};
-ghost use Rattle.layout_fields.specs.Meaning.{part, placing};
+ghost use Rattle.layout_fields.specs.Meaning.{placing};
 use scales::Refusal;
 use scales::Written;
 
@@ -16,15 +15,6 @@ pub mod obet;
 pub mod proteus;
 pub mod sbt;
 pub mod siral;
-
-// The number that n bytes of a slice stand for, from a place on.
-fn part(b: &[u8], from: usize, n: usize) -> u64
-    requires { ⌜ (from + n ≤ length (now b)) × (n ≤ 8) ⌝ }
-    ensures { λ r. ⌜ (r ≡ part (now (b .entry)) from n) × (r < 256 ^ n) ⌝ }
-{
-    let end = from + n;
-    octets::number_of(&b[from..end])
-}
 
 // x in n bytes and after it y in m bytes, onto the front of a lent slice; 13 where it is shorter.
 fn place_two(x: u64, n: usize, y: u64, m: usize, out: &mut [u8]) -> Written

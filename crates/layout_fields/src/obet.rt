@@ -12,10 +12,10 @@ pub fn read(b: &[u8]) -> Counted
     if b.len() != 8 {
         return Counted::Refused(Refusal::LengthIsNone);
     }
-    if crate::part(b, 0, 1) != 0x66 {
+    if octets::inner::part(b, 0, 1) != 0x66 {
         return Counted::Refused(Refusal::MarkerWrong);
     }
-    Counted::Count(crate::part(b, 1, 7))
+    Counted::Count(octets::inner::part(b, 1, 7))
 }
 
 pub fn write(count: u64, out: &mut [u8]) -> Written

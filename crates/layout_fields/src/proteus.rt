@@ -24,15 +24,15 @@ pub fn read(b: &[u8]) -> ProteusParted
     if b.len() != 8 {
         return ProteusParted::Refused(Refusal::LengthIsNone);
     }
-    let head = crate::part(b, 0, 2);
+    let head = octets::inner::part(b, 0, 2);
     if head / 2 % 8 != 0 {
         return ProteusParted::Refused(Refusal::MarkerWrong);
     }
-    let second = crate::part(b, 2, 4);
+    let second = octets::inner::part(b, 2, 4);
     if 604_799 < second {
         return ProteusParted::Refused(Refusal::FieldOver);
     }
-    let fraction = crate::part(b, 6, 2);
+    let fraction = octets::inner::part(b, 6, 2);
     ProteusParted::Fields(Fields {
         week: (head / 16) as u16,
         h3: head % 2 == 1,

@@ -13,7 +13,7 @@ pub fn read(b: &[u8]) -> Ticked
     if b.len() != 4 {
         return Ticked::Refused(Refusal::LengthIsNone);
     }
-    Ticked::Tick(Tick(crate::part(b, 0, 4) as u32))
+    Ticked::Tick(Tick(octets::inner::part(b, 0, 4) as u32))
 }
 
 pub fn write(tick: Tick, out: &mut [u8]) -> Written

@@ -29,7 +29,7 @@ pub fn read(b: &[u8]) -> SiralParted
             day: f.day,
             millisecond: f.millisecond,
             microsecond: f.microsecond,
-            extra: crate::part(b, 8, 2) as u16,
+            extra: octets::inner::part(b, 8, 2) as u16,
         }),
         CryosatParted::Refused(r) => SiralParted::Refused(r),
     }

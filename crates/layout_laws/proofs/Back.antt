@@ -17,8 +17,9 @@ use Rattle.scales.specs.Order.{Answers, last, next, answers-is}
 use Rattle.scales.specs.Place.{and-both}
 use Rattle.scales.specs.declared.Scale.the-variants as S
 use Rattle.scales.specs.declared.Scale.{Scale}
-use Rattle.layout_fields.specs.Meaning.{part, placing}
-use Rattle.layout_fields.specs.Parts.{part-lt}
+use Rattle.octets.specs.Meaning.{part}
+use Rattle.layout_fields.specs.Meaning.{placing}
+use Rattle.octets.specs.Parts.{part-lt}
 use Rattle.layout_fields.specs.Cuc as FC
 use Rattle.layout_fields.specs.Proteus as FP
 use Rattle.layout_fields.specs.Cryosat as FY

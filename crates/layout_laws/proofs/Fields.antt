@@ -7,13 +7,13 @@ use native.Mathlib.Omega.{arith}
 use lib.Dec.{leb, ltb, eqb, lit<}
 use lib.ListN.{length}
 use borrow.Author.Tests.{eq-eqb, eqb-true, eqb-false, le-leb, lt-ltb, ltb-true}
-use Rattle.octets.specs.Meaning.{field}
+use Rattle.octets.specs.Meaning.{field, part}
 use Rattle.octets.specs.Field.{Bytes}
 use Rattle.scales.specs.Meaning.{gives}
 use Rattle.scales.specs.Order.{Answers, last, next}
 use Rattle.scales.specs.Place.{and-both}
-use Rattle.layout_fields.specs.Meaning.{part, placing}
-use Rattle.layout_fields.specs.Parts.{part-lt, join, join-last, part-first, part-next, part-last}
+use Rattle.layout_fields.specs.Meaning.{placing}
+use Rattle.octets.specs.Parts.{part-lt, join, join-last, part-first, part-next, part-last}
 use Rattle.layout_fields.specs.Cuc as Cuc
 use Rattle.layout_fields.specs.Goce as Goce
 use Rattle.layout_fields.specs.Obet as Obet

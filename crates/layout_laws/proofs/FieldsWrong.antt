@@ -7,9 +7,9 @@ use native.Mathlib.Omega.{arith}
 use lib.Dec.{leb, eqb}
 use lib.ListN.{length, take, drop}
 use Rattle.evidence.specs.ShutOut.{ShutOut, differ}
-use Rattle.octets.specs.Meaning.{number, field}
+use Rattle.octets.specs.Meaning.{number, field, part}
 use Rattle.scales.specs.Meaning.{given, gives, outcome, Wrote, written, Valued, valued}
-use Rattle.layout_fields.specs.Meaning.{part, placing}
+use Rattle.layout_fields.specs.Meaning.{placing}
 use Rattle.layout_fields.specs.Cuc as Cuc
 use Rattle.layout_fields.specs.Goce as Goce
 use Rattle.layout_fields.specs.Obet as Obet

@@ -9,15 +9,14 @@ use lib.Ieee.{fin, fits}
 use lib.ListN.{drop}
 use borrow.Author.Tests.{ltb-true}
 use Rattle.axis.specs.Meaning.{placeOfDay}
-use Rattle.octets.specs.Meaning.{number, field}
+use Rattle.octets.specs.Meaning.{number, field, part}
 use Rattle.octets.specs.Field.{Bytes, none, more}
 use Rattle.scales.specs.Meaning.{answer, recordOf, written, valued}
 use Rattle.scales.specs.Place.{and-both}
 use Rattle.scales.specs.declared.Scale.the-variants as S
 use Rattle.handed.specs.declared.Handed.{Handed}
 use Rattle.handed.specs.declared.Handed.the-variants as H
-use Rattle.layout_fields.specs.Meaning.{part}
-use Rattle.layout_fields.specs.Parts.{part-lt, join, join-last, part-first, part-last, field-two}
+use Rattle.octets.specs.Parts.{part-lt, join, join-last, part-first, part-last, field-two}
 use Rattle.layout_fields.specs.Cuc as FC
 use Rattle.layout_fields.specs.Goce as FG
 use Rattle.layout_fields.specs.Obet as FO

@@ -22,8 +22,8 @@ use Rattle.scales.specs.declared.Scale.{Scale}
 use Rattle.scales.specs.declared.Scale.the-variants as S
 use Rattle.handed.specs.declared.Handed.{Handed}
 use Rattle.handed.specs.Meaning.{scaleOf, isFinite, isInSpan, dayOf, microOf}
-use Rattle.layout_fields.specs.Meaning.{part}
-use Rattle.layout_fields.specs.Parts.{part-lt}
+use Rattle.octets.specs.Meaning.{part}
+use Rattle.octets.specs.Parts.{part-lt}
 use Rattle.layout_fields.specs.Cuc as FC
 use Rattle.layout_fields.specs.Proteus as FP
 use Rattle.layout_fields.specs.Cryosat as FY

@@ -2,3 +2,4 @@
 pub mod Meaning
 pub mod Field
 pub mod Place
+pub mod Parts

@@ -3,6 +3,8 @@ ghost use mathlib.Core.Path.{_≡_};
 ghost use lib.ListN.{length};
 ghost use Rattle.octets.specs.Meaning.{word, field, hasRoom, onto};
 
+pub mod inner;
+
 // Behind a call, a byte that is read asks only that its index is in range.
 fn wide(b: u8) -> u64
     ensures { λ r. ⌜ r ≡ b ⌝ }

@@ -26,9 +26,10 @@ use Rattle.clock.specs.declared.inner.Place.the-variants as P
 use Rattle.clock.specs.declared.inner.Placed.{Placed}
 use Rattle.clock.specs.declared.inner.Placed.the-variants as L
 use Rattle.sbt.specs.Meaning.{accepted, clockOf, dateOf, tickOf}
-use Rattle.sbt.specs.Places.{placeOf, shifted, baseOf, endsAt, lastIn, tickedAs, Windowed, Reached, Few}
+use Rattle.sbt.specs.Places.{placeOf, shifted, baseOf, endsAt, coveredBy, lastIn, tickedAs, Windowed, Reached, Few}
 use Rattle.sbt.specs.Accepted.{sound, based}
 use Rattle.sbt.specs.declared.Correlation.{Correlation}
+use Rattle.sbt.specs.declared.inner.Covered.the-variants as CV
 
 -- ---- an accepted correlation with its reference at r of the clock's axis, and a list that serves
 pub record Standing (c : Correlation) (ds : List ℤ) (os : List ℕ) (e : ℤ) (r : ℕ) : Type 0 where
@@ -41,25 +42,43 @@ pub record Standing (c : Correlation) (ds : List ℤ) (os : List ℕ) (e : ℤ) 
 abbrev pub Lasts : Correlation → Handed → List ℤ → List ℕ → ℤ → Placed → Type 0
 Lasts c h ds os e k = (Few k) × (tickedAs (c .tick .0) k ≡ tickOf c h ds os e)
 
+-- the reference's place, and up to 73 s later in TAI
+pub windowed-at : (c : Correlation) → accepted c ≡ true → (r : ℕ) → spot (c .day) (c .micro) ≤ r → r ≤ spot (c .day) (c .micro) + 73000000 →
+    Windowed r (c .period) (c .back) (c .ahead)
+windowed-at c a r l m =
+    let s = sound c a in
+    record {
+      based = record {
+        early = omega (arith, s .day .from);
+        late = omega (arith, s .day .to, s .under);
+        fast = s .fast;
+        slow = s .slow;
+      };
+      back-to = s .back-to;
+      ahead-to = s .ahead-to;
+    }
+
+-- the cover of a correlation by its reference's place
+module _ (c : Correlation) where
+  pub cover-windowed : (r : ℕ) → placeOf c ≡ P.At r → Windowed r (c .period) (c .back) (c .ahead)
+  cover-windowed r q =
+      let k = found (accepted c) (spot (c .day) (c .micro)) r q in windowed-at c (k .0) r (omega (arith, k .1)) (omega (arith, k .1))
+
+  pub cover-at : (r : ℕ) → placeOf c ≡ P.At r → CV.At (endsAt r (c .period) (c .back) (c .ahead)) ≡ coveredBy c
+  cover-at r q = let k = found (accepted c) (spot (c .day) (c .micro)) r q in rw (k .0, ← k .1)
+
+  pub cover-none : placeOf c ≡ P.Outside → CV.Outside ≡ coveredBy c
+  cover-none q = rw (none (accepted c) (spot (c .day) (c .micro)) q)
+
 module _ (c : Correlation) (ds : List ℤ) (os : List ℕ) (e : ℤ) where
   standing : (r : ℕ) → listServes (c .scale) ds os e ≡ true → accepted c ≡ true → secondsIn (c .scale) (c .day) ds os ≤ 73 → shifted c ds os ≡ r →
       Standing c ds os e r
   standing r l a j q =
-      let s = sound c a in
       rw (← q) record {
         serves = l;
         accepts = a;
         based = based c a ds os;
-        windowed = record {
-          based = record {
-            early = omega (arith, s .day .from);
-            late = omega (arith, s .day .to, s .under, j);
-            fast = s .fast;
-            slow = s .slow;
-          };
-          back-to = s .back-to;
-          ahead-to = s .ahead-to;
-        };
+        windowed = windowed-at c a (shifted c ds os) (omega arith) (omega (arith, j));
       }
 
   -- the way back, from what was found in the cover

@@ -18,6 +18,8 @@ use Rattle.clock.specs.declared.inner.Placed.the-variants as T
 use Rattle.clock.specs.declared.inner.Reckoned.{Reckoned}
 use Rattle.sbt.specs.Meaning.{accepted}
 use Rattle.sbt.specs.declared.Correlation.{Correlation}
+use Rattle.sbt.specs.declared.inner.Covered.{Covered}
+use Rattle.sbt.specs.declared.inner.Covered.the-variants as CV
 
 -- ---- what the private functions answer
 abbrev pub placeOf : Correlation → Place
@@ -35,6 +37,10 @@ timeAt r p k = C.timeAt (r * 1000000) p 1000000 2147483648 k
 
 abbrev pub endsAt : ℕ → ℕ → ℕ → ℕ → Ends
 endsAt r p b a = C.endsAt (r * 1000000) p 1000000 2147483648 b a
+
+-- the cover of an accepted correlation
+abbrev pub coveredBy : Correlation → Covered
+coveredBy c = cond (accepted c) (CV.At (endsAt (spot (c .day) (c .micro)) (c .period) (c .back) (c .ahead))) CV.Outside
 
 abbrev pub reckonedAt : ℕ → ℕ → ℕ → ℕ → ℕ → Reckoned
 reckonedAt r p b a k = C.reckonedAt (r * 1000000) p 1000000 2147483648 b a k

@@ -10,6 +10,9 @@ ghost use Rattle.via_tai.specs.Meaning.{isUtc};
 ghost use Rattle.sbt.specs.Meaning.{dateOf, tickOf};
 ghost use Rattle.sbt.specs.Places.{placeOf, baseOf, reckonedAt, timeAt, endsAt, countFrom, lastAt, tickFrom, lastIn, Based, Windowed, Near, Reached};
 ghost use Rattle.sbt.specs.Found.{Lasts};
+
+pub mod inner;
+
 use clock::inner::Base;
 use clock::inner::Ends;
 use clock::inner::Place;

@@ -5,7 +5,7 @@ use lib.ListN.{length}
 use borrow.Author.Tests.{eq-eqb, ne-eqb}
 use Rattle.scales.specs.Order.{here}
 use Rattle.scales.specs.declared.Refusal.the-variants as R
-use Rattle.layout_fields.specs.Meaning.{part}
+use Rattle.octets.specs.Meaning.{part}
 use Rattle.layout_fields.specs.Cryosat.{inLimits, reading, empty, slip, read}
 use Rattle.layout_fields.proofs.Ways.{refuses, front-is}
 use borrow.Author.Needs.{needs}

@@ -18,7 +18,7 @@ unfolding read
 returns-2 c =
     let l = c .before .before in
     let s = now (l .before .before .args .b) in
-    rw (c .before .part .ensures .0, c .part2 .ensures .0) (answers empty (reading s) (fieldsOf s) (next (eq-eqb _ 6 (l .if1 .left)) last))
+    rw (c .before .part .ensures .is, c .part2 .ensures .is) (answers empty (reading s) (fieldsOf s) (next (eq-eqb _ 6 (l .if1 .left)) last))
 
 pub read-spec : {M : Type 1} → statement M
 read-spec = tie.close (tie.spec returns (λ c κs. search needs) (λ c. search needs) (λ c κs. search needs) (λ c. search needs) returns-2)

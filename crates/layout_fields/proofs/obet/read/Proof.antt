@@ -4,7 +4,7 @@ use mathlib.Core.Path.{sym, _∙_}
 use borrow.Author.Tests.{eq-eqb, ne-eqb}
 use Rattle.scales.specs.Order.{here, later, last, next}
 use Rattle.scales.specs.declared.Refusal.the-variants as R
-use Rattle.layout_fields.specs.Meaning.{part}
+use Rattle.octets.specs.Meaning.{part}
 use Rattle.layout_fields.specs.Obet.{marker, reading, read}
 use Rattle.layout_fields.proofs.Ways.{refuses, answers}
 use borrow.Author.Needs.{needs}
@@ -20,7 +20,7 @@ unfolding read
 returns-2 c =
     let l = c .before .before in
     let s = now (l .before .before .args .b) in
-    refuses 0 (reading s) R.MarkerWrong (later (eq-eqb _ 8 (l .if1 .left)) (here (ne-eqb (part s 0 1) marker (λ e. c .if2 .taken (c .before .part .ensures .0 ∙ e)))))
+    refuses 0 (reading s) R.MarkerWrong (later (eq-eqb _ 8 (l .if1 .left)) (here (ne-eqb (part s 0 1) marker (λ e. c .if2 .taken (c .before .part .ensures .is ∙ e)))))
 
 returns-3 : tie.Need-returns-3
 unfolding read
@@ -28,9 +28,9 @@ returns-3 c =
     let p = c .before .before in
     let l = p .before in
     let s = now (l .before .before .args .b) in
-    rw (c .part2 .ensures .0)
+    rw (c .part2 .ensures .is)
     (answers 0 (reading s) (part s 1 7)
-    (next (eq-eqb _ 8 (l .if1 .left)) (next (eq-eqb (part s 0 1) marker (sym (p .part .ensures .0) ∙ c .before .if2 .left)) last)))
+    (next (eq-eqb _ 8 (l .if1 .left)) (next (eq-eqb (part s 0 1) marker (sym (p .part .ensures .is) ∙ c .before .if2 .left)) last)))
 
 pub read-spec : {M : Type 1} → statement M
 read-spec = tie.close (tie.spec returns (λ c κs. search needs) returns-2 (λ c κs. search needs) returns-3)

@@ -4,7 +4,7 @@ use borrow.Author.Tests.{eq-eqb, ne-eqb}
 use Rattle.scales.specs.Order.{here, last, next}
 use Rattle.scales.specs.declared.Refusal.the-variants as R
 use Rattle.layout_fields.specs.Sbt.{reading, read}
-use Rattle.layout_fields.specs.Meaning.{part}
+use Rattle.octets.specs.Meaning.{part}
 use Rattle.layout_fields.proofs.Ways.{refuses, answers}
 use borrow.Author.Needs.{needs}
 use Rattle.layout_fields.proofs.sbt.read.Statement.{statement}
@@ -18,7 +18,7 @@ returns-2 : tie.Need-returns-2
 unfolding read
 returns-2 c =
     let s = now (c .before .before .before .args .b) in
-    rw (c .part .ensures .0) (answers 0 (reading s) (part s 0 4) (next (eq-eqb _ 4 (c .before .if1 .left)) last))
+    rw (c .part .ensures .is) (answers 0 (reading s) (part s 0 4) (next (eq-eqb _ 4 (c .before .if1 .left)) last))
 
 pub read-spec : {M : Type 1} → statement M
 read-spec = tie.close (tie.spec returns (λ c κs. search needs) (λ c. search needs) returns-2)

@@ -4,7 +4,7 @@ use mathlib.Core.Path.{sym, _∙_}
 use borrow.Author.Tests.{eq-eqb, ne-eqb}
 use Rattle.scales.specs.Order.{here, later, last, next}
 use Rattle.scales.specs.declared.Refusal.the-variants as R
-use Rattle.layout_fields.specs.Meaning.{part}
+use Rattle.octets.specs.Meaning.{part}
 use Rattle.layout_fields.specs.Cryosat.{inLimits}
 use Rattle.layout_fields.specs.Siral.{fieldsOf, reading, empty, read}
 use Rattle.layout_fields.proofs.Ways.{refuses, answers, front-some, front-no}
@@ -23,7 +23,7 @@ returns-2 c =
     let b = k .before .before in
     let s = now (b .before .before .before .args .b) in
     let e = front-some s (inLimits (part s 2 4) (part s 6 2)) (k .f .given .0 .0) (sym (k .f .given .1) ∙ b .front .ensures) in
-    rw (e .1, c .part .ensures .0) (answers empty (reading s) (fieldsOf s) (next (eq-eqb _ 10 (b .before .if1 .left)) (next (e .0) last)))
+    rw (e .1, c .part .ensures .is) (answers empty (reading s) (fieldsOf s) (next (eq-eqb _ 10 (b .before .if1 .left)) (next (e .0) last)))
 
 returns-3 : tie.Need-returns-3
 unfolding read

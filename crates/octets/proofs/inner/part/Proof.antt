@@ -1,11 +1,11 @@
--- `layout_fields::part` meets its contract. Assumes nothing.
+-- `octets::inner::part` meets its contract. Assumes nothing.
 use denote.Ref.{now}
 use Prim.Native.Nat.{ℕ}
 use Rattle.octets.specs.Field.{bytes-all}
-use Rattle.layout_fields.specs.Parts.{part-word}
+use Rattle.octets.specs.Parts.{part-word}
 use borrow.Author.Needs.{needs}
-use Rattle.layout_fields.proofs.part.Statement.{statement}
-use Rattle.layout_fields.proofs.part.Tie as tie
+use Rattle.octets.proofs.inner.part.Statement.{statement}
+use Rattle.octets.proofs.inner.part.Tie as tie
 
 returns : tie.Need-returns
 returns c =

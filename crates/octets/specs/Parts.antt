@@ -6,9 +6,8 @@ use Prim.Native.Nat.{ℕ, _+_, _-_, _*_, _^_, _≤_, _<_}
 use native.Mathlib.Omega.{arith}
 use lib.ListN.{length, take, drop, length-append, length-drop, take-append-drop}
 use lib.Seq.{length-take-le, take-all, take-at, drop-at, drop-drop}
-use Rattle.octets.specs.Meaning.{number, word, field}
+use Rattle.octets.specs.Meaning.{number, word, field, part, PartIs}
 use Rattle.octets.specs.Field.{Bytes, none, more, number-lt, number-append, number-field-small, field-number, length-field, field-bytes, bytes-take, bytes-drop, word-small}
-use Rattle.layout_fields.specs.Meaning.{part}
 
 -- ---- parts of bytes
 module _ (s : List ℕ) (from n : ℕ) (h : from + n ≤ length s) where
@@ -20,13 +19,13 @@ module _ (s : List ℕ) (from n : ℕ) (h : from + n ≤ length s) where
     part-lt = subst (λ (m : ℕ). part s from n < 256 ^ m) part-length (number-lt (bytes-take n (bytes-drop from b)))
 
     -- the part as its 64 bits, in the checker's form
-    pub part-word : n ≤ 8 → (r : ℕ) → r ≡ word (take (from + n - from) (drop from s)) → (r ≡ part s from n) × (r < 256 ^ n)
+    pub part-word : n ≤ 8 → (r : ℕ) → r ≡ word (take (from + n - from) (drop from s)) → PartIs s from n r
     part-word k r e =
         let l : from + n - from ≡ n = omega arith in
         let v : r ≡ part s from n = e ∙ ap (λ (m : ℕ). word (take m (drop from s))) l ∙ word-small (bytes-take n (bytes-drop from b)) (omega (arith, part-length)) in
-        (v, subst (λ (x : ℕ). x < 256 ^ n) (sym v) part-lt)
+        record { is = v; small = subst (λ (x : ℕ). x < 256 ^ n) (sym v) part-lt }
 
-    field-part : field n (part s from n) ≡ take n (drop from s)
+    pub field-part : field n (part s from n) ≡ take n (drop from s)
     field-part = ap (λ (m : ℕ). field m (part s from n)) (sym part-length) ∙ field-number (bytes-take n (bytes-drop from b))
 
     -- a part before the rest, and the last part
@@ -36,6 +35,10 @@ module _ (s : List ℕ) (from n : ℕ) (h : from + n ≤ length s) where
 
     pub join-last : from + n ≡ length s → field n (part s from n) ≡ drop from s
     join-last e = field-part ∙ take-all n (drop from s) (omega (arith, length-drop from s))
+
+-- no two numbers are one part
+pub part-one : (s : List ℕ) (from n a b : ℕ) → PartIs s from n a → PartIs s from n b → a ≡ b
+part-one s from n a b p q = p .is ∙ sym (q .is)
 
 -- ---- the fields of an image
 module _ (n x : ℕ) where
