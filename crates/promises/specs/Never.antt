@@ -23,8 +23,8 @@ use Rattle.leap_laws.proofs.Never.{gps-known}
 use Rattle.via_tai.specs.Meaning.{toUtc}
 use Rattle.changes.specs.Meaning.{withList, gpsInUtc, gpsToUtc, changeUsesList, moving, changing, changeOf}
 use Rattle.changes.specs.Asked.{list-passes}
-use Rattle.layout_fields.specs.Meaning.{part}
-use Rattle.layout_fields.specs.Parts.{part-lt}
+use Rattle.octets.specs.Meaning.{part}
+use Rattle.octets.specs.Parts.{part-lt}
 use Rattle.layout_fields.specs.Proteus as ProteusFields
 use Rattle.layout_times.specs.Meaning.{rounding, fractionMicros, momentFrom}
 use Rattle.layout_times.specs.Fraction.{below-second}
@@ -119,7 +119,7 @@ module _ (ds : List ℤ) (os : List ℕ) (e : ℤ) where
 
 -- ---- 5 where no list is used: "leap list not accepted, where one is used"
 pub without-list-never-5 : (h : Handed) (to : Scale) (ds : List ℤ) (os : List ℕ) (e : ℤ) → changeUsesList (scaleOf h) to ≡ false → changeOf h to ds os e .number ≡ 5 → ⊥
-without-list-never-5 h to ds os e u q = absurd (go (scaleOf h) to u (exactly (change h to ds os e) (1 ∷ 2 ∷ 3 ∷ 4 ∷ []) (drop 5 order) 5 refl .0 q .1))
+without-list-never-5 h to ds os e u q = absurd (go (scaleOf h) to u (exactly (change h to ds os e) (1 ∷ 2 ∷ 3 ∷ 14 ∷ 4 ∷ []) (drop 6 order) 5 refl .0 q .1))
   where
     go : (s to : Scale) → changeUsesList s to ≡ false
         → applies ((4, C.decimalNotFinite h) ∷ (5, C.listNotAccepted (changeUsesList s to) ds os e) ∷ Rows.moving s to ds os e (C.timeOutside h) (momentIn h)) 5 ≡ true → ⊥

@@ -68,6 +68,8 @@ pub enum Refusal {
     ResultOutside,
     NoImage,
     OutputShorter,
+    SeasonBroken,
+    NoEntry,
 }
 
 impl Refusal {
@@ -88,6 +90,8 @@ impl Refusal {
             Refusal::ResultOutside => 11,
             Refusal::NoImage => 12,
             Refusal::OutputShorter => 13,
+            Refusal::SeasonBroken => 14,
+            Refusal::NoEntry => 15,
         }
     }
 }
