@@ -1,0 +1,2 @@
+pub mod ReaderWords
+pub mod ReaderWays

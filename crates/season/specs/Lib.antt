@@ -1,0 +1,12 @@
+pub mod Meaning
+pub mod Each
+pub mod Covers
+pub mod Places
+pub mod Kept
+pub mod Asked
+pub mod Bodies
+pub mod Filling
+pub mod Taking
+pub mod Writing
+pub mod Filed
+pub mod Same
