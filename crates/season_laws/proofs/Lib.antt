@@ -1,0 +1,12 @@
+pub mod Contents
+pub mod Question
+pub mod Fits
+pub mod File
+pub mod Bodies
+pub mod Written
+pub mod Trips
+pub mod Again
+pub mod Cases
+pub mod Meets
+pub mod Wrong
+pub mod Large
