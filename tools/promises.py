@@ -128,7 +128,7 @@ def _numbers(root, tally):
         stated, found = computed.get(name, ("", []))
         comes = [number for number in found if (name, number) not in never]
         tally.expect(f"{TABLE}: {name}", comes == numbers, f"its rows have {found}")
-        tally.expect(f"{NUMBERS}: {name} is of its rows", re.search(rf"\bOne(?:ForC)?\.{name} ", stated), stated.strip())
+        tally.expect(f"{NUMBERS}: {name} is of its rows", re.search(rf"\bOne\w*\.{name} ", stated), stated.strip())
 
 
 def judge(root, tally):

@@ -4,3 +4,4 @@ pub mod Parts
 pub mod Same
 pub mod Texts
 pub mod Counts
+pub mod Seasons

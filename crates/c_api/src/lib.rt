@@ -16,6 +16,7 @@ use scales::Ticked;
 pub mod bytes;
 pub mod counts;
 pub mod parts;
+pub mod seasons;
 pub mod texts;
 
 #[repr(C)]

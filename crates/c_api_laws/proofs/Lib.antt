@@ -4,3 +4,4 @@ pub mod TextsWrong
 pub mod WritersWrong
 pub mod Wrong
 pub mod CountsWrong
+pub mod SeasonsWrong

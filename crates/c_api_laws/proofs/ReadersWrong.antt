@@ -5,9 +5,8 @@ use Prim.Native.Nat.{ℕ, _+_}
 use native.Mathlib.Omega.{arith}
 use lib.IntN.{ℤ, pos, negsuc}
 use Rattle.evidence.specs.ShutOut.{ShutOut, differ}
-use Rattle.octets.specs.Meaning.{number}
+use Rattle.octets.specs.Meaning.{number, part}
 use Rattle.scales.specs.Meaning.{Valued}
-use Rattle.layout_fields.specs.Meaning.{part}
 use Rattle.layout_fields.specs.Cuc as FC
 use Rattle.layout_fields.specs.Proteus as FP
 use Rattle.layout_fields.specs.Cryosat as FY

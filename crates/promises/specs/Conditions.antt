@@ -8,7 +8,7 @@ use lib.IntN.{ℤ, pos, negsuc}
 use lib.Ieee.{Float}
 use lib.ListN.{length}
 use lib.Signed.{leZ}
-use Rattle.axis.specs.Meaning.{Moment, dayMicros}
+use Rattle.axis.specs.Meaning.{Moment, dayMicros, since}
 use Rattle.scales.specs.Meaning.{inSpan, sameScale, first, last}
 use Rattle.scales.specs.declared.Scale.{Scale}
 use Rattle.scales.specs.declared.Scale.the-variants as S
@@ -24,7 +24,8 @@ use Rattle.sbt.specs.Meaning as Sbt
 use Rattle.sbt.specs.declared.Correlation.{Correlation}
 use Rattle.goce.specs.Meaning as Goce
 use Rattle.goce.specs.declared.Correlation as GoceDeclared
-use Rattle.layout_fields.specs.Meaning.{part}
+use Rattle.season.specs.Meaning as Season
+use Rattle.octets.specs.Meaning.{part}
 use Rattle.text_read.specs.Meaning.{isPrefixRight, scaleIn, bodyIn, hasMarks, stampIn, inLimits, stampMoment}
 use Rattle.text_write.specs.Meaning.{showsScale, hasMicros}
 use Rattle.text_write.specs.declared.Form.{Form}
@@ -101,6 +102,17 @@ cryosatTooWide day microsecond = tooWide day || tooWide microsecond
 abbrev pub siralTooWide : ℕ → ℕ → ℕ → Bool
 siralTooWide day microsecond extra = tooWide day || (tooWide microsecond || tooWide extra)
 
+-- ---- "14 a rule of the season file broken": "for any breach of these rules (a correlation not accepted, more than 512, a wrong length), by
+-- the question only for those it checks"
+abbrev pub seasonBroken : List ℕ → Bool
+seasonBroken s = not (Season.isSeason s)
+
+abbrev pub contentsBroken : List ℕ → Bool
+contentsBroken s = not (Season.contentsKept s)
+
+abbrev pub wordsBroken : List ℤ → Bool
+wordsBroken ws = not (Season.isWritable ws)
+
 -- ---- "4 decimal day infinite or not a number"
 abbrev pub notFinite : Float → Bool
 notFinite x = not (finite x)
@@ -145,6 +157,10 @@ textOutside s =
 -- the receipt is a time of the correlation's scale
 abbrev pub receiptOutside : Clock → Moment → Bool
 receiptOutside c m = outsideSpan (c .scale) m
+
+-- ---- "15 no entry covers the receipt": "given exactly if no entry covers" it
+abbrev pub noEntry : List ℕ → Moment → Bool
+noEntry s m = not (Season.coveredIn s (since (m .day) (m .micro)) (Season.countOf s))
 
 -- ---- "8 correlation not in force": "in force when k is from -b to a and the receipt is from time(-b) to time(a)"; "A tick outside the
 -- window is refused 8 at once; the rest of 8 is judged only when the reference and the receipt (or time to be turned back) both have a
@@ -219,5 +235,5 @@ abbrev pub noText : Form → Handed → Bool
 noText f h = not ((showsScale f || sameScale (scaleOf h) S.Utc) && (hasMicros f || eqb (microOf h % 1000000) 0))
 
 -- ---- "13 output slice shorter than the image"
-abbrev pub outputShorter : ℕ → List ℕ → Bool
+abbrev pub outputShorter : {A : Type 0} → ℕ → List A → Bool
 outputShorter n out = not (leb n (length out))

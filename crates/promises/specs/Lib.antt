@@ -5,6 +5,7 @@ pub mod Rows
 pub mod Judging
 pub mod One
 pub mod OneForC
+pub mod OneSeason
 pub mod Refusals
 pub mod Never
 pub mod Two

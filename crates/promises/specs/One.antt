@@ -70,7 +70,7 @@ writes out j {rows} e r = promised (record { of-refusal = λ n. refl; of-answer 
 abbrev pub Values : {A : Type 0} → A → Valued A → Judged A → List (ℕ × Bool) → Type 0
 Values {A} zero r j rows = Promise (valued zero) (λ (x : Valued A). x .number) r j rows
 
-values : {A : Type 0} (zero : A) (j : Judged A) {rows : List (ℕ × Bool)} → tests j ≡ rows → standsIn (numbers j) order ≡ true → Values zero (valued zero (outcome j)) j rows
+pub values : {A : Type 0} (zero : A) (j : Judged A) {rows : List (ℕ × Bool)} → tests j ≡ rows → standsIn (numbers j) order ≡ true → Values zero (valued zero (outcome j)) j rows
 values zero j {rows} e r = promised (record { of-refusal = λ n. refl; of-answer = λ a. refl }) j e r
 
 -- "An answer returns 0"

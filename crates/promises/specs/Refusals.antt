@@ -18,6 +18,7 @@ use Rattle.promises.specs.Meaning.{Promise, refusals}
 use Rattle.promises.specs.One.{Allows}
 use Rattle.promises.specs.One as One
 use Rattle.promises.specs.OneForC as OneForC
+use Rattle.promises.specs.OneSeason as OneSeason
 
 -- the rows that a theorem of demand 1 names
 abbrev rowsOf : {A R : Type 0} {hand : Outcome A → R} {number : R → ℕ} {r : R} {j : Judged A} {rows : List (ℕ × Bool)} → Promise hand number r j rows → List (ℕ × Bool)
@@ -123,6 +124,15 @@ siral-fields-read s = refl
 
 pub siral-fields-write : (day millisecond microsecond extra : ℕ) (out : List ℕ) → refusals (rowsOf (OneForC.siral-fields-write day millisecond microsecond extra out)) ≡ 3 ∷ 13 ∷ []
 siral-fields-write day millisecond microsecond extra out = refl
+
+pub season-read : (s : List ℕ) (out : List ℤ) → refusals (rowsOf (OneSeason.season-read s out)) ≡ 14 ∷ 13 ∷ []
+season-read s out = refl
+
+pub season-write : (ws : List ℤ) (out : List ℕ) → refusals (rowsOf (OneSeason.season-write ws out)) ≡ 14 ∷ 13 ∷ []
+season-write ws out = refl
+
+pub season-covering : (s : List ℕ) (d : ℤ) (u : ℕ) → refusals (rowsOf (OneSeason.season-covering s d u)) ≡ 14 ∷ 7 ∷ 15 ∷ []
+season-covering s d u = refl
 
 pub text-read : (s : List ℕ) (ds : List ℤ) (os : List ℕ) (e : ℤ) → refusals (rowsOf (OneForC.text-read s ds os e)) ≡ 1 ∷ 3 ∷ 5 ∷ 7 ∷ 9 ∷ 10 ∷ []
 text-read s ds os e = refl

@@ -1,9 +1,10 @@
 -- What each function judges, row by row: the number, and the condition on what is handed in under which it is due. Assumes nothing.
 use mathlib.Core.Bool.{Bool, true, not, _&&_, _||_}
 use mathlib.Core.List.{List, [], _∷_, _++_}
-use Prim.Native.Nat.{ℕ}
+use Prim.Native.Nat.{ℕ, _*_}
 use lib.IntN.{ℤ, _+ℤ_, _-ℤ_}
 use lib.Ieee.{Float}
+use lib.ListN.{length}
 use Rattle.axis.specs.Meaning.{Moment, since, momentOf}
 use Rattle.scales.specs.Meaning.{sameScale, momentAt}
 use Rattle.scales.specs.declared.Scale.{Scale}
@@ -18,7 +19,8 @@ use Rattle.sbt.specs.Meaning as Sbt
 use Rattle.sbt.specs.declared.Correlation.{Correlation}
 use Rattle.goce.specs.Meaning as Goce
 use Rattle.goce.specs.declared.Correlation as GoceDeclared
-use Rattle.layout_fields.specs.Meaning.{part}
+use Rattle.season.specs.Meaning as Season
+use Rattle.octets.specs.Meaning.{part}
 use Rattle.layout_fields.specs.Cuc as CucFields
 use Rattle.layout_fields.specs.Proteus as ProteusFields
 use Rattle.layout_fields.specs.Cryosat as CryosatFields
@@ -138,6 +140,18 @@ goceDate c t d u ds os e = (3, C.countOver 48 t) ∷ dating (C.goceNotAccepted c
 
 abbrev pub goceCount : GoceDeclared.Correlation → Handed → List ℤ → List ℕ → ℤ → List (ℕ × Bool)
 goceCount c h ds os e = turning (C.goceNotAccepted c) (Goce.clockOf c ds os) h ds os e
+
+-- ---- the season's file: read, written, and asked for a receipt
+abbrev pub seasonRead : List ℕ → List ℤ → List (ℕ × Bool)
+seasonRead s out = (14, C.seasonBroken s) ∷ (13, C.outputShorter (9 * Season.countOf s) out) ∷ []
+
+abbrev pub seasonWrite : List ℤ → List ℕ → List (ℕ × Bool)
+seasonWrite ws out = (14, C.wordsBroken ws) ∷ (13, C.outputShorter (length (Season.fileOf ws)) out) ∷ []
+
+abbrev pub seasonCovering : List ℕ → ℤ → ℕ → List (ℕ × Bool)
+seasonCovering s d u =
+    let m : Moment = record { day = d; micro = u } in
+    (14, C.contentsBroken s) ∷ (7, C.outsideSpan S.Tai m) ∷ (15, C.noEntry s m) ∷ []
 
 -- ---- bytes and fields
 abbrev pub cucFieldsRead : List ℕ → List (ℕ × Bool)
