@@ -6,7 +6,7 @@ import subprocess
 
 from interface import PREFIX, WIDTHS, Slice
 from made.in_c import TYPES, pointer, snake, type_of
-from source import Unreadable
+from source import Unreadable, closing
 
 
 def _words(text):
@@ -37,16 +37,31 @@ def _declared(text):
     return match[2], match[1].strip()
 
 
+def _without_own(plain):
+    """Without the functions that have a body, which are the header's own."""
+    while own := re.search(r"static inline [^;{]*\{", plain):
+        plain = plain[: own.start()] + plain[closing(plain, own.end() - 1) + 1 :]
+    return plain
+
+
+def _passed(structs, functions):
+    """The structs that a function takes or gives, and those inside of them; others are the header's own."""
+    found = [kind for result, given in functions.values() for kind in (result, *(of for _, of in given)) if kind in structs]
+    for name in found:
+        found += [kind for _, kind in structs[name] if kind in structs and kind not in found]
+    return {name: fields for name, fields in structs.items() if name in found}
+
+
 def header(text):
-    """What a header declares, comments, macros and functions of its own away."""
+    """What a header declares, comments, macros, and structs and functions of its own away."""
     words = ["gcc", "-E", "-P", "-x", "c", "-I", "include", "-"]
-    plain = subprocess.run(words, input=text, capture_output=True, text=True, check=True).stdout
+    plain = _without_own(subprocess.run(words, input=text, capture_output=True, text=True, check=True).stdout)
     structs, functions = {}, {}
     for body, name in re.findall(r"typedef struct\s*\{([^}]*)\}\s*(vrk_\w+)\s*;", plain):
         structs[name] = [_declared(field) for field in filter(None, map(_words, body.split(";")))]
     for result, name, given in re.findall(r"([\w ]+?[\s*])(vrk_\w+)\s*\(([^)]*)\)\s*;", plain):
         functions[name] = _words(result), [_declared(one) for one in given.split(",") if _words(one) != "void"]
-    return structs, functions
+    return _passed(structs, functions), functions
 
 
 def differences(truth, other):

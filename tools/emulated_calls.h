@@ -3,7 +3,8 @@ enum {
     CUC_READ, CRYOSAT_READ, SIRAL_READ, GOCE_READ, OBET_READ, SBT_READ, CUC_WRITE, CRYOSAT_WRITE, SIRAL_WRITE, GOCE_WRITE,
     OBET_WRITE, SBT_WRITE, PROTEUS_READ, PROTEUS_WRITE, GOCE_DATE, GOCE_COUNT, DECIMAL_READ, DECIMAL_WRITE, SBT_DATE, SBT_TICK,
     LIST_ACCEPTED, CHANGE, CUC_FIELDS_READ, CUC_FIELDS_WRITE, PROTEUS_FIELDS_READ, PROTEUS_FIELDS_WRITE, CRYOSAT_FIELDS_READ,
-    CRYOSAT_FIELDS_WRITE, SIRAL_FIELDS_READ, SIRAL_FIELDS_WRITE, TEXT_READ, TEXT_WRITE,
+    CRYOSAT_FIELDS_WRITE, SIRAL_FIELDS_READ, SIRAL_FIELDS_WRITE, SEASON_READ, SEASON_WRITE, SEASON_COVERING, TEXT_READ,
+    TEXT_WRITE,
 };
 
 enum { ANSWER = 5 };
@@ -264,6 +265,31 @@ vrk_written vrk_siral_fields_write(uint32_t day, uint32_t millisecond, uint32_t 
     const struct slice the_slices[] = {{out, out_count, 1, 1}};
     ask(SIRAL_FIELDS_WRITE, the_words, 4, the_slices, 1, the_answer);
     vrk_written the_result = {.refusal = (uint32_t)the_answer[0], .length = the_answer[1]};
+    return the_result;
+}
+
+vrk_count vrk_season_read(const uint8_t *bytes, size_t bytes_count, int64_t *words, size_t words_count) {
+    uint64_t the_answer[ANSWER];
+    const struct slice the_slices[] = {{bytes, bytes_count, 1, 0}, {words, words_count, 8, 1}};
+    ask(SEASON_READ, 0, 0, the_slices, 2, the_answer);
+    vrk_count the_result = {.refusal = (uint32_t)the_answer[0], .count = the_answer[1]};
+    return the_result;
+}
+
+vrk_written vrk_season_write(const int64_t *words, size_t words_count, uint8_t *out, size_t out_count) {
+    uint64_t the_answer[ANSWER];
+    const struct slice the_slices[] = {{words, words_count, 8, 0}, {out, out_count, 1, 1}};
+    ask(SEASON_WRITE, 0, 0, the_slices, 2, the_answer);
+    vrk_written the_result = {.refusal = (uint32_t)the_answer[0], .length = the_answer[1]};
+    return the_result;
+}
+
+vrk_cover vrk_season_covering(const uint8_t *bytes, size_t bytes_count, int64_t receipt_day, uint64_t receipt_micro) {
+    uint64_t the_answer[ANSWER];
+    const uint64_t the_words[] = {(uint64_t)receipt_day, receipt_micro};
+    const struct slice the_slices[] = {{bytes, bytes_count, 1, 0}};
+    ask(SEASON_COVERING, the_words, 2, the_slices, 1, the_answer);
+    vrk_cover the_result = {.refusal = (uint32_t)the_answer[0], .first = (int64_t)the_answer[1], .last = (int64_t)the_answer[2]};
     return the_result;
 }
 

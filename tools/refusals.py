@@ -26,9 +26,10 @@ class Refusal:
 
 @dataclass(frozen=True)
 class Image:
-    """What a writer writes: `length` bytes, or as many as the parameter `told` says, at most `length`."""
+    """What a writer writes: `length` bytes, or where it is not `fixed` at most so many; a parameter `told` says how many."""
 
     length: int
+    fixed: bool = True
     told: str = ""
 
 
@@ -72,7 +73,7 @@ def refusals(root):
 
 def _image(where, text, function):
     """What the table says of a writer's image."""
-    match = re.fullmatch(r"(?:(\w+)<=)?(\d+)", text)
+    match = re.fullmatch(r"(?:(\w*)<=)?(\d+)", text)
     written = [one for one in function.slices if one.kind.written]
     if text == "-":
         if [one for one in written if one.kind == Slice("u8", True)]:
@@ -82,7 +83,7 @@ def _image(where, text, function):
         raise Unreadable(f"{where}: {function.name} has no image of '{text}' bytes")
     if match[1] and match[1] not in [one.name for one in function.numbers]:
         raise Unreadable(f"{where}: {function.name} has no parameter '{match[1]}'")
-    return Image(int(match[2]), match[1] or "")
+    return Image(int(match[2]), match[1] is None, match[1] or "")
 
 
 def by_function(root, interface, listed):

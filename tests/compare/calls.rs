@@ -10,6 +10,7 @@ mod interface;
 mod layouts;
 mod leap;
 mod random;
+mod season;
 mod shape;
 mod text;
 
@@ -45,7 +46,7 @@ type Pair = (Function, Make, Model);
 
 /// Each module lists the functions whose inputs it makes, and what the independent program says of each.
 const PAIRS: &[&[Pair]] =
-    &[correlation::PAIRS, decimal::PAIRS, fields::PAIRS, goce::PAIRS, layouts::PAIRS, leap::PAIRS, text::PAIRS];
+    &[correlation::PAIRS, decimal::PAIRS, fields::PAIRS, goce::PAIRS, layouts::PAIRS, leap::PAIRS, season::PAIRS, text::PAIRS];
 
 impl Function {
     fn pair(self) -> &'static Pair {
@@ -127,17 +128,22 @@ fn counted(call: &Call, count: Result<u64, Number>) -> Answer {
     }
 }
 
-/// The image on the front of the lent bytes, or 13 where it has no room; every byte stays on a refusal.
-fn written(call: &Call, image: Result<Vec<u8>, Number>) -> Answer {
-    let fits = image.and_then(|image| if image.len() <= call.slice("out").len() { Ok(image) } else { Err(13) });
+/// An image, and how much it is told as, on the front of a lent slice, or 13 where it has no room; every byte stays on a refusal.
+fn laid(call: &Call, slice: &str, image: Result<(u64, Vec<u8>), Number>) -> Answer {
+    let fits = image.and_then(|(told, image)| if image.len() <= call.slice(slice).len() { Ok((told, image)) } else { Err(13) });
     match fits {
-        Ok(image) => {
-            let mut answer = answered(call, &[0, image.len() as u64]);
+        Ok((told, image)) => {
+            let mut answer = answered(call, &[0, told]);
             answer.lent[0][..image.len()].copy_from_slice(&image);
             answer
         }
         Err(number) => answered(call, &[number]),
     }
+}
+
+/// An image of bytes.
+fn written(call: &Call, image: Result<Vec<u8>, Number>) -> Answer {
+    laid(call, "out", image.map(|image| (image.len() as u64, image)))
 }
 
 /// Bytes that are lent for an image: too few, as many, or any number.

@@ -22,7 +22,8 @@ def _takes(interface, parameter):
 def _image(image):
     if not image:
         return "None"
-    return f"Some(Image {{ length: {image.length}, told: {f'Some({chr(34)}{image.told}{chr(34)})' if image.told else 'None'} }})"
+    told = f'Some("{image.told}")' if image.told else "None"
+    return f"Some(Image {{ length: {image.length}, fixed: {str(image.fixed).lower()}, told: {told} }})"
 
 
 def _shape(interface, function, refuses):

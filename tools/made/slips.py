@@ -101,7 +101,9 @@ def docs(table, listed):
     lines += ["| Function | Image | Refusals |", "|---|---|---|"]
     for name, refuses in table.items():
         image, numbers = refuses.image, refuses.numbers
-        told = "" if not image else f"{image.length} bytes" if not image.told else f"`{image.told}`, to {image.length} bytes"
+        told = "" if not image else f"{image.length} bytes"
+        if image and not image.fixed:
+            told = f"`{image.told}`, to {told}" if image.told else f"to {told}"
         lines.append(f"| `vrk_{name}` | {told} | {' '.join(map(str, numbers)) or 'none: it answers 0 or 1'} |")
     return "\n".join(lines) + "\n"
 

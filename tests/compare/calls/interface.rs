@@ -34,6 +34,9 @@ pub enum Function {
     CryosatFieldsWrite,
     SiralFieldsRead,
     SiralFieldsWrite,
+    SeasonRead,
+    SeasonWrite,
+    SeasonCovering,
     TextRead,
     TextWrite,
 }
@@ -69,6 +72,9 @@ pub const FUNCTIONS: &[Function] = &[
     Function::CryosatFieldsWrite,
     Function::SiralFieldsRead,
     Function::SiralFieldsWrite,
+    Function::SeasonRead,
+    Function::SeasonWrite,
+    Function::SeasonCovering,
     Function::TextRead,
     Function::TextWrite,
 ];
@@ -82,10 +88,12 @@ pub mod refusal {
     pub const LENGTH_IS_NONE: u64 = 1;
     pub const MARKER_WRONG: u64 = 2;
     pub const FIELD_OVER: u64 = 3;
+    pub const SEASON_BROKEN: u64 = 14;
     pub const DECIMAL_NOT_FINITE: u64 = 4;
     pub const LIST_NOT_ACCEPTED: u64 = 5;
     pub const CORRELATION_NOT_ACCEPTED: u64 = 6;
     pub const OUTSIDE_SPAN: u64 = 7;
+    pub const NO_ENTRY: u64 = 15;
     pub const NOT_IN_FORCE: u64 = 8;
     pub const LIST_EXPIRED: u64 = 9;
     pub const SECOND_LACKING: u64 = 10;
@@ -142,42 +150,42 @@ pub const SHAPES: &[Shape] = &[
         name: "cuc_write",
         takes: &[numbers("time", &[("kind", 4), ("scale", 4), ("day", 8), ("micro", 8), ("decimal", 8)]), lent("out", 1)],
         gives: &["refusal", "length"],
-        image: Some(Image { length: 6, told: None }),
+        image: Some(Image { length: 6, fixed: true, told: None }),
         refuses: &[3, 4, 7, 12, 13],
     },
     Shape {
         name: "cryosat_write",
         takes: &[numbers("time", &[("kind", 4), ("scale", 4), ("day", 8), ("micro", 8), ("decimal", 8)]), lent("out", 1)],
         gives: &["refusal", "length"],
-        image: Some(Image { length: 8, told: None }),
+        image: Some(Image { length: 8, fixed: true, told: None }),
         refuses: &[3, 4, 7, 12, 13],
     },
     Shape {
         name: "siral_write",
         takes: &[numbers("time", &[("kind", 4), ("scale", 4), ("day", 8), ("micro", 8), ("decimal", 8)]), lent("out", 1)],
         gives: &["refusal", "length"],
-        image: Some(Image { length: 10, told: None }),
+        image: Some(Image { length: 10, fixed: true, told: None }),
         refuses: &[3, 4, 7, 12, 13],
     },
     Shape {
         name: "goce_write",
         takes: &[numbers("count", &[("count", 8)]), lent("out", 1)],
         gives: &["refusal", "length"],
-        image: Some(Image { length: 6, told: None }),
+        image: Some(Image { length: 6, fixed: true, told: None }),
         refuses: &[3, 13],
     },
     Shape {
         name: "obet_write",
         takes: &[numbers("count", &[("count", 8)]), lent("out", 1)],
         gives: &["refusal", "length"],
-        image: Some(Image { length: 8, told: None }),
+        image: Some(Image { length: 8, fixed: true, told: None }),
         refuses: &[3, 13],
     },
     Shape {
         name: "sbt_write",
         takes: &[numbers("tick", &[("tick", 4)]), lent("out", 1)],
         gives: &["refusal", "length"],
-        image: Some(Image { length: 4, told: None }),
+        image: Some(Image { length: 4, fixed: true, told: None }),
         refuses: &[13],
     },
     Shape {
@@ -191,7 +199,7 @@ pub const SHAPES: &[Shape] = &[
         name: "proteus_write",
         takes: &[numbers("time", &[("kind", 4), ("scale", 4), ("day", 8), ("micro", 8), ("decimal", 8)]), numbers("h3", &[("h3", 4)]), lent("out", 1)],
         gives: &["refusal", "length"],
-        image: Some(Image { length: 8, told: None }),
+        image: Some(Image { length: 8, fixed: true, told: None }),
         refuses: &[3, 4, 7, 12, 13],
     },
     Shape {
@@ -261,7 +269,7 @@ pub const SHAPES: &[Shape] = &[
         name: "cuc_fields_write",
         takes: &[numbers("seconds", &[("seconds", 4)]), numbers("fraction", &[("fraction", 4)]), lent("out", 1)],
         gives: &["refusal", "length"],
-        image: Some(Image { length: 6, told: None }),
+        image: Some(Image { length: 6, fixed: true, told: None }),
         refuses: &[3, 13],
     },
     Shape {
@@ -275,7 +283,7 @@ pub const SHAPES: &[Shape] = &[
         name: "proteus_fields_write",
         takes: &[numbers("week", &[("week", 4)]), numbers("h3", &[("h3", 4)]), numbers("second", &[("second", 4)]), numbers("fraction", &[("fraction", 4)]), lent("out", 1)],
         gives: &["refusal", "length"],
-        image: Some(Image { length: 8, told: None }),
+        image: Some(Image { length: 8, fixed: true, told: None }),
         refuses: &[3, 13],
     },
     Shape {
@@ -289,7 +297,7 @@ pub const SHAPES: &[Shape] = &[
         name: "cryosat_fields_write",
         takes: &[numbers("day", &[("day", 4)]), numbers("millisecond", &[("millisecond", 4)]), numbers("microsecond", &[("microsecond", 4)]), lent("out", 1)],
         gives: &["refusal", "length"],
-        image: Some(Image { length: 8, told: None }),
+        image: Some(Image { length: 8, fixed: true, told: None }),
         refuses: &[3, 13],
     },
     Shape {
@@ -303,8 +311,29 @@ pub const SHAPES: &[Shape] = &[
         name: "siral_fields_write",
         takes: &[numbers("day", &[("day", 4)]), numbers("millisecond", &[("millisecond", 4)]), numbers("microsecond", &[("microsecond", 4)]), numbers("extra", &[("extra", 4)]), lent("out", 1)],
         gives: &["refusal", "length"],
-        image: Some(Image { length: 10, told: None }),
+        image: Some(Image { length: 10, fixed: true, told: None }),
         refuses: &[3, 13],
+    },
+    Shape {
+        name: "season_read",
+        takes: &[given("bytes", 1), lent("words", 8)],
+        gives: &["refusal", "count"],
+        image: None,
+        refuses: &[14, 13],
+    },
+    Shape {
+        name: "season_write",
+        takes: &[given("words", 8), lent("out", 1)],
+        gives: &["refusal", "length"],
+        image: Some(Image { length: 24578, fixed: false, told: None }),
+        refuses: &[14, 13],
+    },
+    Shape {
+        name: "season_covering",
+        takes: &[given("bytes", 1), numbers("receipt_day", &[("receipt_day", 8)]), numbers("receipt_micro", &[("receipt_micro", 8)])],
+        gives: &["refusal", "first", "last"],
+        image: None,
+        refuses: &[14, 7, 15],
     },
     Shape {
         name: "text_read",
@@ -317,7 +346,7 @@ pub const SHAPES: &[Shape] = &[
         name: "text_write",
         takes: &[numbers("time", &[("kind", 4), ("scale", 4), ("day", 8), ("micro", 8), ("decimal", 8)]), given("days", 8), given("offsets", 8), numbers("last", &[("last", 8)]), numbers("form", &[("form", 4)]), lent("out", 1)],
         gives: &["refusal", "length"],
-        image: Some(Image { length: 31, told: Some("form") }),
+        image: Some(Image { length: 31, fixed: false, told: Some("form") }),
         refuses: &[3, 4, 5, 7, 9, 10, 12, 13],
     },
 ];

@@ -28,10 +28,18 @@ pub enum Kind {
     Slice(usize, bool),
 }
 
-/// What is written: so many bytes, or as many as a parameter tells, to that length.
+/// What is written: so many bytes, or where that is not fixed at most so many; a parameter may tell how many.
 pub struct Image {
     pub length: usize,
+    pub fixed: bool,
     pub told: Option<&'static str>,
+}
+
+impl Image {
+    /// Whether its length is known before the call.
+    pub fn is_known(&self) -> bool {
+        self.fixed || self.told.is_some()
+    }
 }
 
 pub const fn numbers(name: &'static str, fields: &'static [(&'static str, usize)]) -> Parameter {
