@@ -15,10 +15,11 @@
  * day; 10 second 60 on a day that has none; 11 result outside the limits of its scale; 13 `out` shorter than what is to be
  * written.
  *
- * An unknown scale, kind, form or H3 code is refused 3; an unknown scale in a correlation, 6.
+ * An unknown scale, kind, form or H3 code is refused 3; an unknown scale in a correlation, 6, or 14 where it is for the season's
+ * file.
  *
- * With a refusal the other fields are empty: day, micro, count, length and every field of a layout are 0, a decimal day is
- * plus zero, and `scale` is the scale that the answer would have had (0, which is TAI, where that code is unknown).
+ * With a refusal the other fields are empty: day, micro, count, length, first, last and every field of a layout are 0, a decimal
+ * day is plus zero, and `scale` is the scale that the answer would have had (0, which is TAI, where that code is unknown).
  *
  * Slices. A slice is a pointer and a number of elements. The pointer is valid for that many; where the number is 0 it may be
  * null. `const` slices are only read. `out` is memory that the caller lends to be written to; it overlaps no other slice of
@@ -181,6 +182,83 @@ vrk_time vrk_goce_date(uint64_t obt, vrk_goce_correlation correlation, int64_t r
  *           is. */
 vrk_count vrk_goce_count(vrk_handed time, vrk_goce_correlation correlation, const int64_t *days, size_t day_count,
                          const uint64_t *offsets, size_t offset_count, int64_t last);
+
+/* ---- the season's file
+ *
+ * Up to 512 TAI correlations of SBT in one file. Most significant byte first, it has
+ *
+ *    2 bytes    n, the number of its entries
+ *    n times    20 bytes, the contents: the first and the last microsecond that the entry covers (signed, 64 bits each), and
+ *               where its body stands, in bytes from the start of the file (32 bits)
+ *    n times    28 bytes, the bodies, in the same order: tick (32 bits), the reference's microsecond since day 0 (signed,
+ *               64 bits), period (64 bits), back and ahead (32 bits each)
+ *
+ * A correlation covers the microseconds from the time of its window's first tick to that of its last, both included; they are
+ * counted from the beginning of day 0 and may lie outside the limits of TAI. These are the rules: 2 + 48n bytes, n at most 512
+ * (the file of no entry is two zero bytes); body i stands at 2 + 20n + 28i, i being counted from 0; no cover ends before it
+ * begins, and each ends before the next begins; each body is an accepted correlation, and its cover is the one in the contents.
+ * docs/SEASON.md has an example, byte by byte. */
+
+/* A correlation that is written, with the fields of vrk_sbt_correlation, each of 64 bits. A number that none of its fields can
+ * have, such as a negative `tick`, is refused 14, as any correlation is that is not accepted or not in TAI. */
+typedef struct {
+    int64_t tick;
+    int64_t scale;
+    int64_t day;
+    int64_t micro;
+    int64_t period;
+    int64_t back;
+    int64_t ahead;
+} vrk_season_body;
+
+/* An entry that is read: the first and the last microsecond that it covers, and its correlation, whose scale is VRK_TAI. */
+typedef struct {
+    int64_t first;
+    int64_t last;
+    vrk_season_body body;
+} vrk_season_entry;
+
+/* The first and the last microsecond that an entry covers. */
+typedef struct {
+    uint32_t refusal;
+    int64_t first;
+    int64_t last;
+} vrk_cover;
+
+/* vrk_season_read_entries, below, does the same with an array of entries.
+ *
+ * Given     the bytes of a file, and `words`, which is lent as `out` is.
+ * Written   onto the front of `words` the entries, in their order, nine numbers each: those of vrk_season_entry.
+ * Returned  the number of entries.
+ * Refused   14 a rule of the file is broken; 13 fewer than nine words an entry. */
+vrk_count vrk_season_read(const uint8_t *bytes, size_t count, int64_t *words, size_t word_count);
+
+/* vrk_season_write_bodies, below, does the same with an array of bodies.
+ *
+ * Given     correlations in the order of their covers, seven numbers each: those of vrk_season_body.
+ * Written   at most 24578 bytes: the file, which is 2 + 48n bytes for n correlations. vrk_season_read gives them back.
+ * Refused   14 more than 512 correlations, one that is not accepted or not in TAI, one whose cover does not begin after that of
+ *           the one before has ended, a number of words that is no multiple of seven; 13. */
+vrk_written vrk_season_write(const int64_t *words, size_t word_count, uint8_t *out, size_t count);
+
+/* Given     the bytes of a file, and a receipt: a day and the microsecond of that day, in TAI.
+ * Returned  the first and the last microsecond of the one entry that covers the receipt. Only the count and the contents are
+ *           read, not the bodies; vrk_season_read gives the entry that has this `first` and `last`.
+ * Refused   14 a rule of the length, the count, the positions or the order of the covers is broken; 7 the receipt; 15 no entry
+ *           covers the receipt. */
+vrk_cover vrk_season_covering(const uint8_t *bytes, size_t count, int64_t receipt_day, uint64_t receipt_micro);
+
+/* vrk_season_read into an array of entries. Refused 13 where there are fewer than the file has. */
+static inline vrk_count vrk_season_read_entries(const uint8_t *bytes, size_t count, vrk_season_entry *entries,
+                                                size_t entry_count) {
+    return vrk_season_read(bytes, count, (int64_t *)entries, 9 * entry_count);
+}
+
+/* vrk_season_write from an array of correlations. */
+static inline vrk_written vrk_season_write_bodies(const vrk_season_body *bodies, size_t body_count, uint8_t *out,
+                                                  size_t count) {
+    return vrk_season_write((const int64_t *)bodies, 7 * body_count, out, count);
+}
 
 /* ---- the leap list, and changes of scale
  *

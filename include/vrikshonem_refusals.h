@@ -11,10 +11,12 @@ enum {
     VRK_LENGTH_IS_NONE = 1, /* input length is none of the layout's */
     VRK_MARKER_WRONG = 2, /* marker byte or zero bits wrong */
     VRK_FIELD_OVER = 3, /* a field over its limit, bad character, date not in the calendar */
+    VRK_SEASON_BROKEN = 14, /* a rule of the season file broken */
     VRK_DECIMAL_NOT_FINITE = 4, /* decimal day infinite or not a number */
     VRK_LIST_NOT_ACCEPTED = 5, /* leap list not accepted */
     VRK_CORRELATION_NOT_ACCEPTED = 6, /* correlation not accepted */
     VRK_OUTSIDE_SPAN = 7, /* input time or receipt outside its span */
+    VRK_NO_ENTRY = 15, /* no entry covers the receipt */
     VRK_NOT_IN_FORCE = 8, /* correlation not in force */
     VRK_LIST_EXPIRED = 9, /* leap list expired */
     VRK_SECOND_LACKING = 10, /* UTC second that its day lacks */
@@ -30,10 +32,12 @@ static inline const char *vrk_words(uint32_t refusal) {
     case VRK_LENGTH_IS_NONE: return "input length is none of the layout's";
     case VRK_MARKER_WRONG: return "marker byte or zero bits wrong";
     case VRK_FIELD_OVER: return "a field over its limit, bad character, date not in the calendar";
+    case VRK_SEASON_BROKEN: return "a rule of the season file broken";
     case VRK_DECIMAL_NOT_FINITE: return "decimal day infinite or not a number";
     case VRK_LIST_NOT_ACCEPTED: return "leap list not accepted";
     case VRK_CORRELATION_NOT_ACCEPTED: return "correlation not accepted";
     case VRK_OUTSIDE_SPAN: return "input time or receipt outside its span";
+    case VRK_NO_ENTRY: return "no entry covers the receipt";
     case VRK_NOT_IN_FORCE: return "correlation not in force";
     case VRK_LIST_EXPIRED: return "leap list expired";
     case VRK_SECOND_LACKING: return "UTC second that its day lacks";

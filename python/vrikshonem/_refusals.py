@@ -55,6 +55,14 @@ class FieldOver(Refused):
     words = "a field over its limit, bad character, date not in the calendar"
 
 
+class SeasonBroken(Refused):
+    """14: a rule of the season file broken."""
+
+    __module__ = "vrikshonem"
+    number = 14
+    words = "a rule of the season file broken"
+
+
 class DecimalNotFinite(Refused):
     """4: decimal day infinite or not a number."""
 
@@ -85,6 +93,14 @@ class OutsideSpan(Refused):
     __module__ = "vrikshonem"
     number = 7
     words = "input time or receipt outside its span"
+
+
+class NoEntry(Refused):
+    """15: no entry covers the receipt."""
+
+    __module__ = "vrikshonem"
+    number = 15
+    words = "no entry covers the receipt"
 
 
 class NotInForce(Refused):
@@ -139,10 +155,12 @@ REFUSALS: Dict[int, Type[Refused]] = {
     1: LengthIsNone,
     2: MarkerWrong,
     3: FieldOver,
+    14: SeasonBroken,
     4: DecimalNotFinite,
     5: ListNotAccepted,
     6: CorrelationNotAccepted,
     7: OutsideSpan,
+    15: NoEntry,
     8: NotInForce,
     9: ListExpired,
     10: SecondLacking,
@@ -156,10 +174,12 @@ __all__ = [
     "LengthIsNone",
     "MarkerWrong",
     "FieldOver",
+    "SeasonBroken",
     "DecimalNotFinite",
     "ListNotAccepted",
     "CorrelationNotAccepted",
     "OutsideSpan",
+    "NoEntry",
     "NotInForce",
     "ListExpired",
     "SecondLacking",

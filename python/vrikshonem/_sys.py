@@ -120,6 +120,14 @@ class VrkSiralFields(ctypes.Structure):
     ]
 
 
+class VrkCover(ctypes.Structure):
+    _fields_ = [
+        ("refusal", ctypes.c_uint32),
+        ("first", ctypes.c_int64),
+        ("last", ctypes.c_int64),
+    ]
+
+
 # Each function's result and arguments; a slice is a pointer and a number of elements.
 FUNCTIONS: Dict[str, Tuple[Any, Tuple[Any, ...]]] = {
     "vrk_cuc_read": (VrkTime, (ctypes.POINTER(ctypes.c_uint8), ctypes.c_size_t)),
@@ -152,6 +160,9 @@ FUNCTIONS: Dict[str, Tuple[Any, Tuple[Any, ...]]] = {
     "vrk_cryosat_fields_write": (VrkWritten, (ctypes.c_uint32, ctypes.c_uint32, ctypes.c_uint32, ctypes.POINTER(ctypes.c_uint8), ctypes.c_size_t)),
     "vrk_siral_fields_read": (VrkSiralFields, (ctypes.POINTER(ctypes.c_uint8), ctypes.c_size_t)),
     "vrk_siral_fields_write": (VrkWritten, (ctypes.c_uint32, ctypes.c_uint32, ctypes.c_uint32, ctypes.c_uint32, ctypes.POINTER(ctypes.c_uint8), ctypes.c_size_t)),
+    "vrk_season_read": (VrkCount, (ctypes.POINTER(ctypes.c_uint8), ctypes.c_size_t, ctypes.POINTER(ctypes.c_int64), ctypes.c_size_t)),
+    "vrk_season_write": (VrkWritten, (ctypes.POINTER(ctypes.c_int64), ctypes.c_size_t, ctypes.POINTER(ctypes.c_uint8), ctypes.c_size_t)),
+    "vrk_season_covering": (VrkCover, (ctypes.POINTER(ctypes.c_uint8), ctypes.c_size_t, ctypes.c_int64, ctypes.c_uint64)),
     "vrk_text_read": (VrkTime, (ctypes.POINTER(ctypes.c_uint8), ctypes.c_size_t, ctypes.POINTER(ctypes.c_int64), ctypes.c_size_t, ctypes.POINTER(ctypes.c_uint64), ctypes.c_size_t, ctypes.c_int64)),
     "vrk_text_write": (VrkWritten, (VrkHanded, ctypes.POINTER(ctypes.c_int64), ctypes.c_size_t, ctypes.POINTER(ctypes.c_uint64), ctypes.c_size_t, ctypes.c_int64, ctypes.c_uint32, ctypes.POINTER(ctypes.c_uint8), ctypes.c_size_t)),
 }
@@ -169,5 +180,6 @@ IMAGES: Dict[str, int] = {
     "vrk_proteus_fields_write": 8,
     "vrk_cryosat_fields_write": 8,
     "vrk_siral_fields_write": 10,
+    "vrk_season_write": 24578,
     "vrk_text_write": 31,
 }

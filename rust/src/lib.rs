@@ -35,6 +35,7 @@ mod error;
 mod layouts;
 mod leap;
 mod refusals;
+pub mod season;
 mod sys;
 pub mod text;
 mod time;

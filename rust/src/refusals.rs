@@ -10,6 +10,8 @@ impl Error {
     pub const MARKER_WRONG: Error = Error { number: 2 };
     /// 3: a field over its limit, bad character, date not in the calendar.
     pub const FIELD_OVER: Error = Error { number: 3 };
+    /// 14: a rule of the season file broken.
+    pub const SEASON_BROKEN: Error = Error { number: 14 };
     /// 4: decimal day infinite or not a number.
     pub const DECIMAL_NOT_FINITE: Error = Error { number: 4 };
     /// 5: leap list not accepted.
@@ -18,6 +20,8 @@ impl Error {
     pub const CORRELATION_NOT_ACCEPTED: Error = Error { number: 6 };
     /// 7: input time or receipt outside its span.
     pub const OUTSIDE_SPAN: Error = Error { number: 7 };
+    /// 15: no entry covers the receipt.
+    pub const NO_ENTRY: Error = Error { number: 15 };
     /// 8: correlation not in force.
     pub const NOT_IN_FORCE: Error = Error { number: 8 };
     /// 9: leap list expired.
@@ -37,10 +41,12 @@ impl Error {
             Error::LENGTH_IS_NONE => "input length is none of the layout's",
             Error::MARKER_WRONG => "marker byte or zero bits wrong",
             Error::FIELD_OVER => "a field over its limit, bad character, date not in the calendar",
+            Error::SEASON_BROKEN => "a rule of the season file broken",
             Error::DECIMAL_NOT_FINITE => "decimal day infinite or not a number",
             Error::LIST_NOT_ACCEPTED => "leap list not accepted",
             Error::CORRELATION_NOT_ACCEPTED => "correlation not accepted",
             Error::OUTSIDE_SPAN => "input time or receipt outside its span",
+            Error::NO_ENTRY => "no entry covers the receipt",
             Error::NOT_IN_FORCE => "correlation not in force",
             Error::LIST_EXPIRED => "leap list expired",
             Error::SECOND_LACKING => "UTC second that its day lacks",

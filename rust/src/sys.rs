@@ -115,6 +115,14 @@ pub struct VrkSiralFields {
     pub extra: u32,
 }
 
+#[repr(C)]
+#[derive(Clone, Copy)]
+pub struct VrkCover {
+    pub refusal: u32,
+    pub first: i64,
+    pub last: i64,
+}
+
 extern "C" {
     pub fn vrk_cuc_read(bytes: *const u8, bytes_count: usize) -> VrkTime;
     pub fn vrk_cryosat_read(bytes: *const u8, bytes_count: usize) -> VrkTime;
@@ -146,6 +154,9 @@ extern "C" {
     pub fn vrk_cryosat_fields_write(day: u32, millisecond: u32, microsecond: u32, out: *mut u8, out_count: usize) -> VrkWritten;
     pub fn vrk_siral_fields_read(bytes: *const u8, bytes_count: usize) -> VrkSiralFields;
     pub fn vrk_siral_fields_write(day: u32, millisecond: u32, microsecond: u32, extra: u32, out: *mut u8, out_count: usize) -> VrkWritten;
+    pub fn vrk_season_read(bytes: *const u8, bytes_count: usize, words: *mut i64, words_count: usize) -> VrkCount;
+    pub fn vrk_season_write(words: *const i64, words_count: usize, out: *mut u8, out_count: usize) -> VrkWritten;
+    pub fn vrk_season_covering(bytes: *const u8, bytes_count: usize, receipt_day: i64, receipt_micro: u64) -> VrkCover;
     pub fn vrk_text_read(text: *const u8, text_count: usize, days: *const i64, days_count: usize, offsets: *const u64, offsets_count: usize, last: i64) -> VrkTime;
     pub fn vrk_text_write(time: VrkHanded, days: *const i64, days_count: usize, offsets: *const u64, offsets_count: usize, last: i64, form: u32, out: *mut u8, out_count: usize) -> VrkWritten;
 }
@@ -164,6 +175,7 @@ pub(crate) mod image {
     pub const PROTEUS_FIELDS_WRITE: usize = 8;
     pub const CRYOSAT_FIELDS_WRITE: usize = 8;
     pub const SIRAL_FIELDS_WRITE: usize = 10;
+    pub const SEASON_WRITE: usize = 24578;
     pub const TEXT_WRITE: usize = 31;
 }
 
@@ -285,6 +297,18 @@ pub(crate) fn siral_fields_read(bytes: &[u8]) -> VrkSiralFields {
 
 pub(crate) fn siral_fields_write(day: u32, millisecond: u32, microsecond: u32, extra: u32, out: &mut [u8]) -> VrkWritten {
     unsafe { vrk_siral_fields_write(day, millisecond, microsecond, extra, out.as_mut_ptr(), out.len()) }
+}
+
+pub(crate) fn season_read(bytes: &[u8], words: &mut [i64]) -> VrkCount {
+    unsafe { vrk_season_read(bytes.as_ptr(), bytes.len(), words.as_mut_ptr(), words.len()) }
+}
+
+pub(crate) fn season_write(words: &[i64], out: &mut [u8]) -> VrkWritten {
+    unsafe { vrk_season_write(words.as_ptr(), words.len(), out.as_mut_ptr(), out.len()) }
+}
+
+pub(crate) fn season_covering(bytes: &[u8], receipt_day: i64, receipt_micro: u64) -> VrkCover {
+    unsafe { vrk_season_covering(bytes.as_ptr(), bytes.len(), receipt_day, receipt_micro) }
 }
 
 pub(crate) fn text_read(text: &[u8], days: &[i64], offsets: &[u64], last: i64) -> VrkTime {

@@ -2,6 +2,8 @@
 
 #[path = "desk/correlations.rs"]
 mod correlations;
+#[path = "desk/season.rs"]
+mod season_file;
 
 use vrikshonem::*;
 
@@ -64,6 +66,7 @@ fn every_refusal() {
     assert_eq!(obet::read(&[0x65, 0, 0, 0, 0, 0, 0, 0]), Err(Error::MARKER_WRONG));
     assert_eq!(goce::write(1 << 48, &mut out), Err(Error::FIELD_OVER));
     assert_eq!(text::read("31-FEB-2000 00:00:00", &LIST), Err(Error::FIELD_OVER));
+    assert_eq!(season::read(&[0]), Err(Error::SEASON_BROKEN));
     assert_eq!(Gps::from_decimal(f64::INFINITY), Err(Error::DECIMAL_NOT_FINITE));
     assert!(!NONE.is_accepted());
     assert_eq!(Tai::new(0, 0).to_utc(&NONE), Err(Error::LIST_NOT_ACCEPTED));
@@ -72,6 +75,7 @@ fn every_refusal() {
     assert_eq!(slow.date(Tick(0), slow.reference, &LIST), Err(Error::CORRELATION_NOT_ACCEPTED));
     assert_eq!(Gps::new(Gps::FIRST_DAY - 1, 0).to_tai(), Err(Error::OUTSIDE_SPAN));
     assert_eq!(Tai::new(0, Tai::BOUND).to_gps(), Err(Error::OUTSIDE_SPAN));
+    assert_eq!(season::covering(&[0, 0], Tai::new(0, 0)), Err(Error::NO_ENTRY));
     assert_eq!(correlation(0, Tai::new(0, 0), 1, 1).tick_of(Tai::new(1, 0), &LIST), Err(Error::NOT_IN_FORCE));
     assert_eq!(Tai::new(9133, 0).to_utc(&LIST), Err(Error::LIST_EXPIRED));
     assert_eq!(Utc::new(0, DAY).to_tai(&LIST), Err(Error::SECOND_LACKING));

@@ -63,7 +63,8 @@ def told():
             continue
         tally.expect(f"the header lists the refusals of {name}", listed(said) == [*refuses.numbers], said)
         if refuses.image:
-            length = str(refuses.image.length) if not refuses.image.told else "that many"
+            most = str(refuses.image.length) if refuses.image.fixed else f"at most {refuses.image.length}"
+            length = "that many" if refuses.image.told else most
             tally.expect(f"the header has the image of {name}", re.search(rf"\bWritten\s+{length} bytes", said), said)
         for language, words in ("Rust", rust.get(name, "")), ("Python", python.get(name, "")):
             # 3 may be of a code that only C can hand in, or of a number that only Python can; in Python a decimal day is read

@@ -122,6 +122,27 @@ def block(language):
     return re.findall(rf"^```{language}\n(.*?)^```", read("docs/USE.md"), re.M | re.S)
 
 
+def own(what, rust, python, shown):
+    """A program of docs/USE.md in both languages, which prints the same in both."""
+    for typed in python:
+        status, said = run(sys.executable, written("own.py", typed), **PYTHON)
+        tally.expect(f"docs/USE.md: {what} in Python", (status, said) == (0, shown), said)
+    for typed in rust if CARGO else []:
+        manifest = '[package]\nname = "own"\nversion = "0.1.0"\nedition = "2021"\n[workspace]\n[dependencies]\n'
+        written("own/Cargo.toml", manifest + f'vrikshonem = {{ path = "{ROOT}/rust" }}\n')
+        written("own/src/main.rs", typed)
+        status, said = run("cargo", "run", "--quiet", "--offline", "--manifest-path", f"{ROOM}/own/Cargo.toml")
+        tally.expect(f"docs/USE.md: {what} in Rust", (status, said) == (0, shown), said)
+
+
+def season_page():
+    """The bytes that docs/SEASON.md shows are the file that the programs of docs/USE.md write."""
+    shown = bytes.fromhex("".join(re.findall(r"^\| \d+ \| `([0-9A-F ]+)` \|", read("docs/SEASON.md"), re.M)))
+    typed = block("python")[1].partition("cover =")[0] + "print(file.hex())\n"
+    status, said = run(sys.executable, written("page.py", typed), **PYTHON)
+    tally.expect("docs/SEASON.md shows the file's bytes", (status, said) == (0, f"{len(shown)} bytes\n{shown.hex()}\n"), said)
+
+
 def use():
     """docs/USE.md, as a reader would type it."""
     expected, installed = read(LINES), f"{ROOM}/prefix"
@@ -135,14 +156,12 @@ def use():
         for each in dict.fromkeys([typed, typed.replace("target/host", installed)]):
             status, said = run("sh", "-euc", each)
             tally.expect(f"docs/USE.md: {each}", (status, said) == (0, expected), said)
-    status, said = run(sys.executable, written("own.py", block("python")[0]), **PYTHON)
-    tally.expect("docs/USE.md: the program in Python", (status, said) == (0, SHOWN), said)
-    if CARGO:
-        manifest = '[package]\nname = "own"\nversion = "0.1.0"\nedition = "2021"\n[workspace]\n[dependencies]\n'
-        written("own/Cargo.toml", manifest + f'vrikshonem = {{ path = "{ROOT}/rust" }}\n')
-        written("own/src/main.rs", block("rust")[0])
-        status, said = run("cargo", "run", "--quiet", "--offline", "--manifest-path", f"{ROOM}/own/Cargo.toml")
-        tally.expect("docs/USE.md: the program in Rust", (status, said) == (0, SHOWN), said)
+    season = "".join(f"{line[4:]}\n" for line in re.search(r"Each prints\n\n((?:    .*\n)+)", read("docs/USE.md"))[1].splitlines())
+    own("the program", block("rust")[:1], block("python")[:1], SHOWN)
+    own("the season's file", block("rust")[1:], block("python")[1:], season)
+    built = ["-std=c99", *WARNINGS, "-I", "target/host/include", "-o", f"{ROOM}/season", written("season.c", "".join(block("c")))]
+    if good("docs/USE.md: the season's file in C, compiled", "gcc", *built, "target/host/lib/libvrikshonem.a", "-pthread"):
+        tally.expect("docs/USE.md: the season's file in C", run(f"{ROOM}/season") == (0, season))
     lines = [line[4:] for line in re.search(r"packets.txt`:\n\n(.*?)\n\n", read("docs/USE.md"), re.S)[1].split("\n")]
     tally.expect("docs/USE.md shows lines of packets.txt", lines and set(lines) <= set(expected.split("\n")), str(lines))
 
@@ -152,3 +171,4 @@ def check():
     examples()
     interrupted()
     use()
+    season_page()

@@ -23,6 +23,7 @@ BY_HAND = [
 ]
 SHAPES = """5 functions, answers of 4 words
 Some(0..1) Some(4) [0, 7, 1, 40]
+(9, false, Some("scale")) (6, false, None)
 [("first", 4), ("inner.a", 1), ("inner.b", 8), ("last", 8), ("times", 4), ("narrow", 2)] Some(2) Some(3)
 """
 UNKNOWN = "a refusal that this version does not know"
@@ -104,7 +105,7 @@ def _slices(library, lengths):
 def _called(tally):
     module = _module("_sys")
     tally.expect("interface: the library's name has the first two numbers", module.LIBRARY == "libvrikshonem.so.3.14")
-    tally.expect("interface: an image's most bytes", module.IMAGES == {"vrk_sum": 9})
+    tally.expect("interface: an image's most bytes", module.IMAGES == {"vrk_sum": 9, "vrk_touch": 6})
     host, emulated = _loaded("host.so", module), _loaded("emulated.so", module)
     for lengths in [(0, 0, 0, 0, 0), (1, 2, 3, 4, 5), (9, 128, 129, 130, 300), (70_000, 3, 100_000, 65_536, 200_001)]:
         tally.expect(f"interface: slices of {lengths}", _slices(host, lengths) == _slices(emulated, lengths))

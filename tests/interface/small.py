@@ -1,5 +1,6 @@
 """A small interface of its own, on which what tools/interface.py makes is tried: slices of bytes and of numbers in any position,
-given and lent, numbers of every kind, a struct in a struct; refusals whose numbers have gaps and whose order is not theirs."""
+given and lent, numbers of every kind, a struct in a struct; a struct and a function that are the header's own; refusals whose
+numbers have gaps and whose order is not theirs."""
 
 from made.slips import BEGIN, END
 
@@ -72,6 +73,8 @@ vrk_outer vrk_turn(vrk_outer given, int32_t times, uint16_t narrow);
 double vrk_half(double x);
 int64_t vrk_nothing(void);
 uint32_t vrk_touch(uint32_t how, const int64_t *words, size_t a, int64_t *out, size_t b);
+typedef struct { vrk_inner inner; int64_t more; } vrk_own;
+static inline vrk_own vrk_own_of(int64_t more) { vrk_own own = {{1, vrk_half(1)}, more}; return own; }
 """
 
 REFUSALS = """# in another order than their numbers
@@ -84,7 +87,7 @@ TABLE = """sum      scale<=9  7 1 40   # a comment
 turn     -         -
 half     -         -
 nothing  -         -
-touch    -         40
+touch    <=6       40
 """
 
 README = f"""# A page
@@ -153,5 +156,5 @@ WRONG = {
     "an image without bytes to write": (BY, "half     - ", "half     8 ", f"{BY}:3: half has no image of '8' bytes"),
     "a page without the first mark": ("README.md", BEGIN, "", "README.md: the list of the refusals is due between"),
     "a page without the last mark": ("README.md", END, "", "README.md: the list of the refusals is due between"),
-    "no refusals": (BY, "touch    -         40", "touch    -", f"{BY}:5: a function, its image and its refusals are due"),
+    "no refusals": (BY, "touch    <=6       40", "touch    <=6", f"{BY}:5: a function, its image and its refusals are due"),
 }
