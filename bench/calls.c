@@ -21,12 +21,16 @@ enum { MONOTONIC = 1 };
 #include "inputs_bytes.c"
 #include "inputs_text.c"
 #include "inputs_uses.c"
+#include "inputs_season.c"
 
-#define EACH_ROW(FUNCTION, USE) ROWS_OF_USES(FUNCTION, USE) ROWS_OF_BYTES(FUNCTION, USE) ROWS_OF_TEXTS(FUNCTION, USE)
+#define EACH_ROW(FUNCTION, USE)                                \
+    ROWS_OF_USES(FUNCTION, USE) ROWS_OF_SEASONS(FUNCTION, USE) \
+    ROWS_OF_BYTES(FUNCTION, USE) ROWS_OF_TEXTS(FUNCTION, USE)
 
 static struct input inputs[INPUTS];
 static uint64_t answers[INPUTS][5], expected[INPUTS][5];
 static uint8_t lent[INPUTS][LENT], expected_lent[INPUTS][LENT];
+static union { int64_t words[WIDE]; uint8_t bytes[WIDE * 8]; } wide[FILES], expected_wide[FILES];
 
 /* ---- a loop for each contender of each function; the answer is kept as it is returned */
 
@@ -117,6 +121,7 @@ static int same(const struct row *row, const uint64_t *a, const uint64_t *b) {
 static void fresh(const struct row *row, int c) {
     memset(answers, 0, sizeof answers);
     memset(lent, 0xA5, sizeof lent);
+    memset(wide, 0xA5, sizeof wide);
     row->run[c](INPUTS);
 }
 
@@ -127,6 +132,7 @@ static int compared(const struct row *row, uint64_t *numbers) {
     fresh(row, first);
     memcpy(expected, answers, sizeof expected);
     memcpy(expected_lent, lent, sizeof lent);
+    memcpy(expected_wide, wide, sizeof wide);
     for (size_t i = 0; i < INPUTS; i++) {
         if (!is_refused(row, expected[i])) continue;
         count++;
@@ -138,7 +144,9 @@ static int compared(const struct row *row, uint64_t *numbers) {
         for (size_t i = 0; i < INPUTS; i++) {
             if (c > PLAIN && is_refused(row, expected[i])) continue;
             if (c == DATE && expected[i][2] >= UINT64_C(86400000000)) continue;
-            if (same(row, answers[i], expected[i]) && memcmp(lent[i], expected_lent[i], LENT) == 0) continue;
+            int as_lent = memcmp(lent[i], expected_lent[i], LENT) == 0;
+            int as_wide = memcmp(wide + i % FILES, expected_wide + i % FILES, sizeof *wide) == 0;
+            if (same(row, answers[i], expected[i]) && as_lent && as_wide) continue;
             printf("answer or lent bytes differ: %s, input %d: desk %lx %lx %lx, %s %lx %lx %lx\n", row->name, (int)i,
                    expected[i][0], expected[i][1], expected[i][2], who[c], answers[i][0], answers[i][1], answers[i][2]);
             return -1;

@@ -5,6 +5,8 @@
 #include "vrikshonem.h"
 
 enum { INPUTS = 4096, LENT = 32, MOST = 64 };
+/* What is lent for a season is wider: the inputs whose files are the same share it. */
+enum { FILES = 16, WIDE = 9 * 512 };
 
 struct leap_list {
     const int64_t *days;
@@ -23,11 +25,14 @@ struct input {
         uint32_t part[4];
         uint64_t value;
     };
-    const struct leap_list *list;
+    union {
+        const struct leap_list *list;
+        const struct season *season;
+    };
     union {
         struct {
             uint32_t code;  /* a tick, an H3, a form or the scale that is wanted */
-            uint32_t count; /* bytes given or lent */
+            uint32_t count; /* bytes given or lent; of a season what is given, and in part[0] what is lent */
         };
         uint64_t obt; /* a count that is dated */
     };

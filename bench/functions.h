@@ -33,6 +33,9 @@
     F(cryosat_fields_write) \
     F(siral_fields_read) \
     F(siral_fields_write) \
+    F(season_read) \
+    F(season_write) \
+    F(season_covering) \
     F(text_read) \
     F(text_write)
 
@@ -47,6 +50,7 @@ enum {
     halves_vrk_proteus_fields = 0x1F,
     halves_vrk_cryosat_fields = 0x0F,
     halves_vrk_siral_fields = 0x1F,
+    halves_vrk_cover = 0x3D,
 };
 
 #endif

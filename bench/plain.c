@@ -8,6 +8,7 @@
 #include "plain_change.c"
 #include "plain_goce.c"
 #include "plain_sbt.c"
+#include "plain_season.c"
 #include "plain_text.c"
 
 vrk_time plain_nothing(const uint8_t *bytes, size_t count) {

@@ -3,9 +3,10 @@
 use crate::calls::{bytes_of, words_of, Call, Function, Random};
 use crate::library::lengths;
 
-/// The most bytes of a slice, and the most words of a list.
-const MOST: usize = 8192;
-const STEPS: usize = 400;
+/// The most bytes of a slice, those of a new one, and the most words of a slice: no season has more.
+const MOST: usize = 1 << 15;
+const NEW: usize = 8192;
+const WORDS: usize = 3600;
 
 fn range(random: &mut Random, length: usize) -> std::ops::Range<usize> {
     let begin = random.below(length as u64 + 1) as usize;
@@ -19,7 +20,7 @@ fn any(random: &mut Random, length: usize) -> Vec<u8> {
 }
 
 fn length(random: &mut Random) -> usize {
-    if random.one_in(30) { random.below(MOST as u64 + 1) as usize } else { random.below(65) as usize }
+    if random.one_in(30) { random.below(NEW as u64 + 1) as usize } else { random.below(65) as usize }
 }
 
 /// The bytes from `at` on as a number, most significant first, a little more or less.
@@ -116,7 +117,7 @@ fn steps(random: &mut Random, all: &mut Vec<u64>, other: &[u64]) {
             all[at] = word(random, all[at], all[at / 2]);
         }
     }
-    all.truncate(STEPS);
+    all.truncate(WORDS);
 }
 
 /// A slice of elements of so many bytes.
@@ -219,7 +220,8 @@ fn once(random: &mut Random, parts: &[Part], call: &mut Call, other: &Call) {
         }
         Part::List(list) => list.damage(random, call, other),
         Part::Slice { at, width, is_lent: true } => {
-            let image = call.function.shape().image.as_ref().map_or(0, |image| image.length);
+            let image = call.function.shape().image.as_ref();
+            let image = image.map_or(0, |image| if image.is_known() { image.length } else { image.length >> random.below(14) });
             call.slices[at] = lent(random, image, width);
         }
         Part::Slice { at, width, .. } => {

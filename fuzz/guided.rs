@@ -13,6 +13,7 @@ mod independent;
 
 mod laws;
 mod library;
+mod season;
 mod times;
 
 use compare::{calls, server};

@@ -1,10 +1,11 @@
 //! What holds of every answer whatever the independent program says: the form of a refusal and of an answer, that what is written
 //! reads back and what is read is written again, that a wider window changes nothing but an 8 and a longer list besides nothing but
 //! an 8 or a 9, and that a list which is not used changes nothing. The parts of a call are found by their names, so that these laws
-//! hold of a new pair of functions without a line here.
+//! hold of a new pair of functions without a line here; season.rs has what holds of the season's file.
 
 use crate::calls::{refusal, Answer, Call, Function, Shape};
 use crate::library::named;
+use crate::season;
 use crate::times::{List, Time, LAST_DAY, UTC};
 
 /// A lent slice as it is left.
@@ -33,15 +34,18 @@ pub fn broken(call: &Call, answer: &Answer) -> Option<&'static str> {
     if time.is_some_and(|time| !time.is_in_span()) {
         return Some("a time outside its span");
     }
+    if let Some(why) = season::broken(call, answer) {
+        return Some(why);
+    }
     let listed = time.filter(|time| time.scale == UTC).zip(List::of(call));
     if listed.is_some_and(|(time, list)| !list.knows(time)) {
         return Some("a time that the list does not tell of");
     }
     let image = shape.image.as_ref()?;
-    let due = image.told.map_or(image.length as u64, |name| call.number(name));
-    let length = shape.gives("length").map(|at| answer.words[at]);
+    let length = answer.words[shape.gives("length")?];
+    let due = image.told.map_or(if image.fixed { image.length as u64 } else { length }, |name| call.number(name));
     let (lent, left) = (call.slice("out"), left(call.function, answer, "out")?);
-    if length != Some(due) || due > image.length.min(lent.len()) as u64 {
+    if length != due || due > image.length.min(lent.len()) as u64 {
         return Some("a length that is not the image's");
     }
     (left[due as usize..] != lent[due as usize..]).then_some("a byte written behind the image")
@@ -141,7 +145,8 @@ impl Done<'_> {
         }
         let mut slices = Vec::new();
         for (name, width, lent) in shape.slices() {
-            slices.push(match self.call.function.shape().slice(name) {
+            let given = self.call.function.shape().slices().position(|(own, _, lent)| own == name && !lent);
+            slices.push(match given {
                 Some(at) if !lent => self.call.slices[at].clone(),
                 _ if width > 1 => return None,
                 // as many bytes as there were
@@ -199,7 +204,7 @@ fn back(call: &Call, answer: &Answer) -> Option<Again> {
 }
 
 /// The same answer to another call.
-fn stays(call: Call, answer: &Answer, wrong: &'static str) -> Again {
+pub fn stays(call: Call, answer: &Answer, wrong: &'static str) -> Again {
     let words = answer.words.iter().map(|&word| Some(word)).collect();
     Again { call, words, time: None, lent: answer.lent.clone(), wrong }
 }
@@ -246,7 +251,7 @@ fn listless(call: &Call, answer: &Answer) -> Option<Again> {
 
 pub fn again(call: &Call, answer: &Answer) -> impl Iterator<Item = Again> {
     let same = [wider(call, answer), longer(call, answer), listless(call, answer)];
-    back(call, answer).into_iter().chain(same.into_iter().flatten())
+    back(call, answer).into_iter().chain(same.into_iter().flatten()).chain(season::again(call, answer))
 }
 
 impl Again {

@@ -23,10 +23,10 @@ pub fn named(name: &str) -> Option<Function> {
     FUNCTIONS.iter().copied().find(|function| function.name() == name)
 }
 
-/// The lengths that a reader takes: of the images, and of the shorter texts.
+/// The lengths that a reader takes: of the images, of the shorter texts, and of small seasons.
 pub fn lengths() -> Vec<usize> {
     let images = FUNCTIONS.iter().filter_map(|function| function.shape().image.as_ref());
-    images.map(|image| image.length).chain([20, 24, 27]).collect()
+    images.filter(|image| image.is_known()).map(|image| image.length).chain([20, 24, 27, 2, 50, 98]).collect()
 }
 
 fn ask(server: &mut Server, call: &Call) -> Answer {

@@ -20,6 +20,7 @@ mod desk;
 mod kept;
 mod laws;
 mod library;
+mod season;
 mod times;
 
 use compare::{calls, server};
