@@ -20,8 +20,11 @@ use Rattle.goce_laws.proofs.Night.{no-wrap as goce-laws-night-no-wrap, outside-
 use Rattle.goce_laws.proofs.Stays.{count-stays, date-stays as goce-laws-stays-date-stays}
 use Rattle.goce_laws.proofs.Trips.{little-earlier as goce-laws-trips-little-earlier, never-later as goce-laws-trips-never-later, record-back as goce-laws-trips-record-back, same-count}
 use Rattle.season_laws.proofs.Again.{read-written}
-use Rattle.season_laws.proofs.Question.{contents-alone, fresh-season, question-agrees}
+use Rattle.season_laws.proofs.Contents.{one-entry}
+use Rattle.season_laws.proofs.Meets.{contents-alone-met, correlations-added-met, exactly-met, fifteen-answered-met, fresh-season-met, one-correlation-met, one-entry-met, outside-met, question-agrees-met, read-back-met, read-written-met, same-words-met, uncovered-met, written-read-met}
+use Rattle.season_laws.proofs.Question.{contents-alone, correlations-added, fifteen-answered, fresh-season, one-correlation, question-agrees}
 use Rattle.season_laws.proofs.Trips.{read-back as season-laws-trips-read-back, same-words}
+use Rattle.season_laws.proofs.Written.{written-read}
 use Rattle.layout_laws.proofs.Back.{cryosat-again, cuc-again, proteus-again, siral-again}
 use Rattle.layout_laws.proofs.Fields.{cryosat-exact, cuc-exact, goce-exact, obet-exact, proteus-exact, sbt-exact, siral-exact}
 use Rattle.layout_laws.proofs.Times.{cryosat-same, cuc-last, proteus-last, siral-same}
