@@ -1,13 +1,13 @@
 -- Signed numbers of 64 bits: their bits and back, and the place at which the bits keep the numbers' order. Assumes nothing.
 use mathlib.Core.Path.{_≡_, sym, ap₂, _∙_}
-use mathlib.Core.Bool.{Bool, cond}
+use mathlib.Core.Bool.{cond}
 use Prim.Native.Nat.{ℕ, suc, _+_, _-_, _≤_, _<_}
 use native.Mathlib.Omega.{arith}
 use lib.Dec.{leb, ltb}
 use lib.IntN.{ℤ, pos, negsuc, subℕ}
 use lib.Signed.{leZ, ltZ, mag}
 use borrow.Author.Tests.{lt-ltb, le-ltb}
-use Rattle.axis.specs.Diff.{Way, way, below, above, sub-eq, sub-neg, sub-lt, is-pos, is-negsuc, sub-le-same, sub-inj-same}
+use Rattle.axis.specs.Diff.{Way, way, below, above, sub-eq, sub-neg, sub-lt, is-pos, is-negsuc, sub-le-same}
 use Rattle.axis.specs.Meaning.{signedOf, bitsOf}
 
 -- 2^63 further on, round the end of 64 bits
@@ -21,13 +21,6 @@ upper : (n : ℕ) → 9223372036854775808 ≤ n → turned n ≡ n - 92233720368
 upper n h = rw (le-ltb n 9223372036854775808 h)
 
 module _ (n : ℕ) (h : n < 18446744073709551616) where
-  pub turned-lt : turned n < 18446744073709551616
-  turned-lt = go (way n 9223372036854775808)
-    where
-      go : Way n 9223372036854775808 → turned n < 18446744073709551616
-      go (below k) = omega (arith, lower n k)
-      go (above k) = omega (arith, upper n k)
-
   pub turned-back : turned (turned n) ≡ n
   turned-back = go (way n 9223372036854775808)
     where
@@ -74,6 +67,3 @@ module _ (a b : ℕ) (h : a < 18446744073709551616) (k : b < 1844674407370955161
       go : Way (turned a) (turned b) → ltb (turned a + 9223372036854775808) (turned b + 9223372036854775808) ≡ ltb (turned a) (turned b)
       go (below l) = rw (lt-ltb (turned a) (turned b) l) (lt-ltb (turned a + 9223372036854775808) (turned b + 9223372036854775808) (omega arith))
       go (above l) = rw (le-ltb (turned a) (turned b) l) (le-ltb (turned a + 9223372036854775808) (turned b + 9223372036854775808) (omega arith))
-
-  pub signed-inj : signedOf a ≡ signedOf b → turned a ≡ turned b
-  signed-inj e = sub-inj-same 9223372036854775808 (turned a) (turned b) (sym (signed-turned a h) ∙ e ∙ signed-turned b k)
