@@ -5,4 +5,4 @@ pub mod Walk
 pub mod Days
 pub mod Dates
 pub mod Told
-pub mod Held
+pub mod Formula

@@ -1,12 +1,10 @@
 // The Gregorian calendar: the date of a day, the day of a date, and which days are firsts of months.
 // Inside, days are counted from 1 January 1972 and months from January 1972.
 ghost use mathlib.Core.Path.{_≡_};
-ghost use Prim.Native.Nat.{_<_, _≤_};
-ghost use Rattle.calendar.specs.Meaning.{leap, monthLength, isDate, walk, dateAt, dateIn, dateSlip, dateOfDay, daySlip, dayOfDate, isFirst, allFirsts};
-ghost use Rattle.calendar.specs.Held.{Firsts, near};
+ghost use Prim.Native.Nat.{_+_, _-_, _<_, _≤_};
+ghost use Rattle.calendar.specs.Meaning.{leap, monthLength, isDate, monthsTo, firstDay, walk, dateAt, dateSlip, dateOfDay, daySlip, dayOfDate, isFirst, allFirsts};
+ghost use Rattle.calendar.specs.Formula.{marchYear, scaledOf, firstIn};
 use scales::Refusal;
-
-mod table;
 
 // A date: the month and the day of the month are counted from 1.
 pub struct Date {
@@ -23,12 +21,6 @@ pub enum DateAnswer {
 pub enum DayAnswer {
     Day(i64),
     Refused(Refusal),
-}
-
-fn wide(x: u16) -> u64
-    ensures { λ r. ⌜ r ≡ x ⌝ }
-{
-    x as u64
 }
 
 fn is_leap(y: u64) -> bool
@@ -79,41 +71,47 @@ fn is_date(date: Date) -> bool
     d <= month_length(y, m)
 }
 
-// The month of day n or the one after it, and the month itself where n is its first day.
-fn month_near(n: u64) -> u64
+// ---- the formula: a year is taken from March on, so that a leap day is its last, and every fourth has one
+
+// The March year of day n, from 1968 on.
+fn march_year(n: u32) -> u32
     requires { ⌜ n ≤ 46752 ⌝ }
-    ensures { λ r. ⌜ r ≡ near n ⌝ }
+    ensures { λ r. ⌜ r ≡ marchYear n ⌝ }
 {
-    (n * 16 + 26) / 487
+    (4 * n + 5607) / 1461
 }
 
-fn date_in(k: u64, past: u64) -> Date
-    requires { ⌜ (k < 1536) × (past < 31) ⌝ }
-    ensures { λ r. ⌜ r ≡ dateIn k past ⌝ }
+// Day n within its March year: 65536 times its month, 3 to 14, and 2141 times the days of the month before it.
+fn scaled(n: u32) -> u32
+    requires { ⌜ n ≤ 46752 ⌝ }
+    ensures { λ r. ⌜ r ≡ scaledOf n ⌝ }
 {
-    Date {
-        year: 1972 + k / 12,
-        month: 1 + k % 12,
-        day: past + 1,
-    }
+    (4 * n + 5607) % 1461 / 4 * 2141 + 197_913
 }
 
-fn date_at(t: &[u16; 1537], n: u64) -> Date
-    requires { ⌜ Firsts (now t) × (n < 46752) ⌝ }
+fn date_at(n: u32) -> Date
+    requires { ⌜ n < 46752 ⌝ }
     ensures { λ r. ⌜ r ≡ dateAt (walk 1536 0 n) ⌝ }
 {
-    let g = month_near(n);
-    let f = wide(t[g as usize]);
-    if f <= n {
-        return date_in(g, n - f);
+    let year = march_year(n) as u64;
+    let s = scaled(n) as u64;
+    let month = s / 65536;
+    let day = s % 65536 / 2141 + 1;
+    if 12 < month {
+        return Date {
+            year: year + 1969,
+            month: month - 12,
+            day,
+        };
     }
-    let h = g - 1;
-    let e = wide(t[h as usize]);
-    date_in(h, n - e)
+    Date {
+        year: year + 1968,
+        month,
+        day,
+    }
 }
 
-fn is_first(t: &[u16; 1537], day: i64) -> bool
-    requires { ⌜ Firsts (now t) ⌝ }
+fn is_first(day: i64) -> bool
     ensures { λ r. ⌜ r ≡ isFirst day ⌝ }
 {
     let place = axis::place_of_day(day);
@@ -123,9 +121,29 @@ fn is_first(t: &[u16; 1537], day: i64) -> bool
     if 76525 < place {
         return false;
     }
-    let n = place - 29773;
-    let g = month_near(n);
-    wide(t[g as usize]) == n
+    scaled((place - 29773) as u32) % 65536 < 2141
+}
+
+// The first of a month of a March year, counted from 1 March 1968.
+fn first_in(year: u32, month: u32) -> u32
+    requires { ⌜ (year < 132) × (3 ≤ month) × (month ≤ 14) ⌝ }
+    ensures { λ r. ⌜ r ≡ firstIn year month ⌝ }
+{
+    1461 * year / 4 + (979 * month - 2919) / 32
+}
+
+// The days from 1 January 1972 to a date. January and February belong to the March year before.
+fn days_to(year: u64, month: u64, day: u64) -> u32
+    requires { ⌜ (1972 ≤ year) × (year ≤ 2099) × (1 ≤ month) × (month ≤ 12) × (1 ≤ day) × (day ≤ 31) ⌝ }
+    ensures { λ r. ⌜ r ≡ firstDay (monthsTo year month) + (day - 1) ⌝ }
+{
+    let y = year as u32 - 1968;
+    let m = month as u32;
+    let d = day as u32;
+    if m < 3 {
+        return first_in(y - 1, m + 12) + d - 1402;
+    }
+    first_in(y, m) + d - 1402
 }
 
 // The date of a day from 1 January 1972 to 31 December 2099.
@@ -139,8 +157,7 @@ pub fn date_of(day: i64) -> DateAnswer
     if 76524 < place {
         return DateAnswer::Refused(Refusal::OutsideSpan);
     }
-    let t = table::table();
-    DateAnswer::Date(date_at(&t, place - 29773))
+    DateAnswer::Date(date_at((place - 29773) as u32))
 }
 
 // The day of a date.
@@ -157,20 +174,16 @@ pub fn day_of(date: Date) -> DayAnswer
     if 2099 < y {
         return DayAnswer::Refused(Refusal::OutsideSpan);
     }
-    let k = (y - 1972) * 12 + (date.month - 1);
-    let t = table::table();
-    let n = wide(t[k as usize]) + (date.day - 1);
-    DayAnswer::Day(axis::day_at((n + 29773) as u32))
+    DayAnswer::Day(axis::day_at(days_to(y, date.month, date.day) + 29773))
 }
 
-// Are all these days firsts of months, January 1972 to January 2100? The table is taken once for all.
+// Are all these days firsts of months, January 1972 to January 2100?
 pub fn all_firsts(days: &[i64]) -> bool
     ensures { λ r. ⌜ r ≡ allFirsts (now (days .entry)) ⌝ }
 {
-    let t = table::table();
     let mut i = 0;
     while i < days.len() {
-        if !is_first(&t, days[i]) {
+        if !is_first(days[i]) {
             return false;
         }
         i += 1;

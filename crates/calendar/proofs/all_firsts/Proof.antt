@@ -16,20 +16,20 @@ use Rattle.calendar.proofs.all_firsts.Statement.{statement}
 use Rattle.calendar.proofs.all_firsts.Tie as tie
 
 abbrev Inv-loop : tie.InvT-loop
-Inv-loop days t i₀ i = (i ≤ length days) × (allFirsts days ≡ allFirsts (drop i days))
+Inv-loop days i₀ i = (i ≤ length days) × (allFirsts days ≡ allFirsts (drop i days))
 
 abbrev μ-loop : tie.MeasureT-loop
-μ-loop days t i₀ i = length days - i
+μ-loop days i₀ i = length days - i
 
 loop-holds : tie.Need-loop-holds Inv-loop μ-loop
 loop-holds c = (omega arith, refl)
 
 -- the answer is that of the day at i and of those after it
-step : (c : tie.After-is-first Inv-loop μ-loop) → let l = c .before .before .before .before in let s = l .before .before .args .days .now in
+step : (c : tie.After-is-first Inv-loop μ-loop) → let l = c .before .before .before in let s = l .before .args .days .now in
     allFirsts s ≡ (c .is-first .result && allFirsts (drop (suc (l .loop .i)) s))
 step c =
-    let l = c .before .before .before .before in
-    let s = l .before .before .args .days .now in
+    let l = c .before .before .before in
+    let s = l .before .args .days .now in
     l .loop .inv .1
     ∙ ap allFirsts (drop-cons s (l .loop .i) (pos 0) (omega arith))
     ∙ ap (λ (b : Bool). b && allFirsts (drop (suc (l .loop .i)) s))
@@ -47,7 +47,7 @@ loop-again c = (
 returns-2 : tie.Need-returns-2 Inv-loop μ-loop
 returns-2 c =
     let l = c .before in
-    let s = l .before .before .args .days .now in
+    let s = l .before .args .days .now in
     sym (l .loop .inv .1 ∙ ap allFirsts (drop-of-length-le s {i = l .loop .i} (omega arith)))
 
 pub all-firsts-spec : {M : Type 1} → statement M
@@ -56,7 +56,6 @@ all-firsts-spec =
     (tie.spec
     Inv-loop
     μ-loop
-    (λ c κs. search needs)
     loop-holds
     (λ c. search needs)
     (λ c. search needs)

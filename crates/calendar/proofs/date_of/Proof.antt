@@ -24,7 +24,7 @@ returns-2 c = let b = c .before .before in date-late (b .before .args .day) (ome
 
 returns-3 : tie.Need-returns-3
 returns-3 c =
-    let b = c .before .before .before .before .before in
+    let b = c .before .before .before in
     let d = b .before .args .day in
     ap (λ (t : Date). dateHanded (answer t))
     (c .date-at .ensures ∙ ap (λ (p : ℕ). dateAt (walk 1536 0 (p - 29773))) (seen b))
@@ -33,4 +33,4 @@ returns-3 c =
 pub date-of-spec : {M : Type 1} → statement M
 date-of-spec =
     tie.close
-    (tie.spec (λ c κs. search needs) returns returns-2 (λ c κs. search needs) (λ c κs. search needs) returns-3)
+    (tie.spec (λ c κs. search needs) returns returns-2 (λ c. search needs) (λ c κs. search needs) returns-3)

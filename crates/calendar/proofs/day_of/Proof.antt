@@ -10,7 +10,8 @@ use borrow.Author.Needs.{needs}
 use borrow.Author.Tests.{not-true, not-false}
 use Rattle.axis.specs.Meaning.{dayAt}
 use Rattle.scales.specs.Meaning.{answer}
-use Rattle.calendar.specs.Meaning.{isDate, monthsTo, firstDay, dayHanded}
+use Rattle.calendar.specs.Meaning.{isDate, monthsTo, dayHanded}
+use Rattle.calendar.specs.Gregorian.{month-bounds}
 use Rattle.calendar.specs.Days.{day-lacks, day-early, day-late, day-within, daysToDate}
 use Rattle.calendar.specs.Walk.{Located}
 use Rattle.calendar.specs.Dates.{real, date-located, located-span}
@@ -34,70 +35,33 @@ located : (c : tie.Else3) → let t = c .before .before .before .before .args .d
 located c = let b = c .before .before in let t = b .before .before .args .date in
     date-located t (real t (is-real b)) (c .before .if2 .left) (c .if3 .left)
 
-sub-k : tie.Need-sub-k
-sub-k c = let b = c .before .before .before in real (b .before .before .args .date) (is-real b) .month-from
+days-to-requires : tie.Need-days-to-requires
+days-to-requires c κs =
+    let b = c .before .before in
+    let t = b .before .before .args .date in
+    let r = real t (is-real b) in
+    (c .before .if2 .left, c .if3 .left, r .month-from, r .month-to, r .day-from, omega (arith, r .day-to, month-bounds (t .year) (t .month)))
 
-add-k : tie.Need-add-k
-add-k c = omega (arith, located (c .before) .early)
-
-mul-wide : tie.Need-mul-wide
-mul-wide c = omega (arith, located (c .before .before) .early)
-
-array-read-wide : tie.Need-array-read-wide
-array-read-wide c = omega (arith, located (c .before .before) .early)
-
-entry : (c : tie.After-wide) → let t = c .before .before .before .before .before .before .before .args .date in
-    c .wide .result ≡ firstDay (monthsTo (t .year) (t .month))
-entry c = let b = c .before .before .before in let t = b .before .before .before .before .args .date in
-    c .wide .ensures ∙ c .before .table .ensures .entry (monthsTo (t .year) (t .month)) (omega (arith, located b .early))
-
-small : (c : tie.After-wide) → let t = c .before .before .before .before .before .before .before .args .date in
-    c .wide .result + (t .day - 1) < 46752
-small c = let b = c .before .before .before in let t = b .before .before .before .before .args .date in
-    omega (arith, entry c, located-span (daysToDate t) (monthsTo (t .year) (t .month)) (t .day - 1) (located b))
-
-sub-n : tie.Need-sub-n
-sub-n c = let b = c .before .before .before .before .before .before in real (b .before .before .args .date) (is-real b) .day-from
-
-add-n : tie.Need-add-n
-add-n c = omega (arith, small (c .before))
+small : (c : tie.After-days-to) → c .days-to .result < 46752
+small c = let t = c .before .before .before .before .before .args .date in
+    omega (arith, c .days-to .ensures, located-span (daysToDate t) (monthsTo (t .year) (t .month)) (t .day - 1) (located (c .before)))
 
 add-day-at : tie.Need-add-day-at
-add-day-at c = omega (arith, small (c .before))
-
-cast-day-at : tie.Need-cast-day-at
-cast-day-at c = omega (arith, small (c .before))
+add-day-at c = omega (arith, small c)
 
 returns-4 : tie.Need-returns-4
 returns-4 c =
-    let w = c .before .before in
-    let e = w .before .before .before in
+    let w = c .before in
+    let e = w .before in
     let b = e .before .before in
     let t = b .before .before .args .date in
     ap (λ (z : ℤ). dayHanded (answer z))
     (toZ-ofZ {w = w64} {z = c .day-at .result} (record { sfits = c .day-at .ok })
     ∙ c .day-at .ensures
-    ∙ ap (λ (x : ℕ). dayAt (x + (t .day - 1) + 29773)) (entry w))
+    ∙ ap (λ (x : ℕ). dayAt (x + 29773)) (w .days-to .ensures))
     ∙ day-within t (is-real b) (e .before .if2 .left) (e .if3 .left)
 
 pub day-of-spec : {M : Type 1} → statement M
 day-of-spec =
     tie.close
-    (tie.spec
-    (λ c κs. search needs)
-    returns
-    returns-2
-    returns-3
-    (λ c. search needs)
-    sub-k
-    add-k
-    (λ c κs. search needs)
-    mul-wide
-    array-read-wide
-    (λ c κs. search needs)
-    sub-n
-    add-n
-    add-day-at
-    cast-day-at
-    (λ c κs. search needs)
-    returns-4)
+    (tie.spec (λ c κs. search needs) returns returns-2 returns-3 days-to-requires add-day-at (λ c κs. search needs) returns-4)

@@ -1,14 +1,14 @@
 -- `calendar::is_first` meets its contract: one law for each way out. Assumes nothing.
-use Prim.Native.Nat.{ℕ, _-_}
+use Prim.Native.Nat.{ℕ, _-_, _%_}
 use mathlib.Core.Path.{_≡_, sym, ap, _∙_}
 use native.Mathlib.Omega.{arith}
-use lib.Dec.{eqb}
+use lib.Dec.{eqb, ltb}
 use mir.Facts.{toZ-ofZ}
 use borrow.Author.Needs.{needs}
 use Rattle.axis.specs.Meaning.{placeOfDay}
-use Rattle.calendar.specs.Meaning.{firstDay, walk}
+use Rattle.calendar.specs.Meaning.{walk}
 use Rattle.calendar.specs.Days.{first-early, first-late, first-within}
-use Rattle.calendar.proofs.Near.{near-is}
+use Rattle.calendar.specs.Formula.{first-is}
 use Rattle.calendar.proofs.is_first.Statement.{statement}
 use Rattle.calendar.proofs.is_first.Tie as tie
 
@@ -24,13 +24,11 @@ returns-2 c = let b = c .before .before in sym (first-late (b .before .args .day
 
 returns-3 : tie.Need-returns-3
 returns-3 c =
-    let s = c .before .before in
-    let b = s .before .before .before in
+    let b = c .before .before .before in
     let p = b .place-of-day .result in
     let d = b .before .args .day in
-    ap (λ (x : ℕ). eqb x (p - 29773))
-    (c .wide .ensures ∙ b .before .pre .entry (s .month-near .result) (omega arith) ∙ ap firstDay (s .month-near .ensures))
-    ∙ near-is (p - 29773) (omega arith)
+    ap (λ (x : ℕ). ltb (x % 65536) 2141) (c .scaled .ensures)
+    ∙ first-is (p - 29773) (omega arith)
     ∙ ap (λ (x : ℕ). eqb (walk 1536 0 (x - 29773) .past) 0) (seen b)
     ∙ sym (first-within d (omega (arith, seen b)) (omega (arith, seen b)))
 
@@ -41,8 +39,6 @@ is-first-spec =
     (λ c κs. search needs)
     returns
     returns-2
-    (λ c κs. search needs)
-    (λ c. search needs)
     (λ c. search needs)
     (λ c κs. search needs)
     returns-3)
