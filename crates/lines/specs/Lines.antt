@@ -2,13 +2,13 @@
 use mathlib.Core.Path.{_≡_, refl, sym, ap, ap₂, _∙_}
 use mathlib.Core.Bool.{Bool, true, false, cond}
 use mathlib.Core.List.{List, [], _∷_, _++_, append-nil, append-assoc}
-use Prim.Native.Nat.{ℕ, suc, _+_, _-_, _≤_, _<_}
+use Prim.Native.Nat.{ℕ, zero, suc, _+_, _-_, _≤_, _<_}
 use native.Mathlib.Omega.{arith}
 use native.Mathlib.Numerals.{add-one}
 use lib.Dec.{eqb, ltb}
 use lib.IntN.{ℤ}
 use lib.ListN.{length, take, drop, getD, length-append, length-drop}
-use lib.Seq.{drop-cons, drop-drop, drop-length, length-take-le}
+use lib.Seq.{drop-cons, drop-drop, length-take-le}
 use borrow.Author.Tests.{eq-eqb, ne-eqb, lt-ltb, le-ltb, ltb-false}
 use Rattle.octets.specs.Meaning.{onto}
 use Rattle.octets.specs.Place.{onto-room, length-onto, rest-onto}
@@ -18,21 +18,16 @@ use Rattle.lines.specs.Stage.{beforeNewline, Put}
 use Rattle.lines.specs.Told.{answer-small}
 use Rattle.lines.specs.declared.Progress.{Progress}
 
--- ---- the first newline, looked for byte by byte
+-- ---- the first newline, looked for from a place on
 module _ (s : List ℕ) (i : ℕ) (h : i < length s) where
-  pub newline-here : getD s i 0 ≡ 10 → i ≡ i + beforeNewline (drop i s)
+  pub newline-here : getD s i 0 ≡ 10 → beforeNewline (drop i s) ≡ 0
   unfolding beforeNewline
-  newline-here e = rw (drop-cons s i 0 h, eq-eqb (getD s i 0) 10 e) (omega arith)
+  newline-here e = rw (drop-cons s i 0 h, eq-eqb (getD s i 0) 10 e)
 
-  pub newline-later : (getD s i 0 ≡ 10 → ⊥) → i + 1 + beforeNewline (drop (i + 1) s) ≡ i + beforeNewline (drop i s)
+  pub newline-later : (getD s i 0 ≡ 10 → ⊥) → beforeNewline (drop i s) ≡ beforeNewline (drop (i + 1) s) + 1
   unfolding beforeNewline
   newline-later e = rw (drop-cons s i 0 h, ne-eqb (getD s i 0) 10 e, add-one i) (omega arith)
 
-pub newline-none : (s : List ℕ) → length s ≡ length s + beforeNewline (drop (length s) s)
-unfolding beforeNewline
-newline-none s = rw (drop-length s) (omega arith)
-
--- ---- the whole lines
 pub before-within : (s : List ℕ) → beforeNewline s ≤ length s
 unfolding beforeNewline
 before-within [] = omega arith
@@ -42,6 +37,39 @@ before-within (b ∷ s) = go (eqb b 10) (before-within s)
     go true h = omega arith
     go false h = omega arith
 
+-- any number of bytes that are no newline may be passed over
+passed : (k : ℕ) (s : List ℕ) → k ≤ beforeNewline s → k + beforeNewline (drop k s) ≡ beforeNewline s
+unfolding beforeNewline
+passed zero s h = omega arith
+passed (suc k) [] h = absurd (omega arith)
+passed (suc k) (b ∷ s) h = go (eqb b 10) h (λ h. passed k s h)
+  where
+    go : (x : Bool) → suc k ≤ cond x 0 (suc (beforeNewline s)) → (k ≤ beforeNewline s → k + beforeNewline (drop k s) ≡ beforeNewline s)
+        → suc k + beforeNewline (drop k s) ≡ cond x 0 (suc (beforeNewline s))
+    go true h ih = absurd (omega arith)
+    go false h ih = omega (arith, ih (omega arith))
+
+-- no newline stands from place i to place j
+pub record Passed (s : List ℕ) (i j : ℕ) : Type 0 where
+  pub from : i ≤ j
+  pub to : j ≤ i + beforeNewline (drop i s)
+
+module _ {s : List ℕ} {i j : ℕ} (p : Passed s i j) where
+  pub newline-same : j + beforeNewline (drop j s) ≡ i + beforeNewline (drop i s)
+  newline-same =
+      let e : i + (j - i) ≡ j = omega (arith, p .from) in
+      let q : j - i + beforeNewline (drop j s) ≡ beforeNewline (drop i s) =
+      ap (λ (n : ℕ). j - i + beforeNewline (drop n s)) (sym e) ∙ ap (λ (t : List ℕ). j - i + beforeNewline t) (sym (drop-drop (j - i) i s))
+      ∙ passed (j - i) (drop i s) (omega (arith, p .to)) in
+      omega arith
+
+  pub newline-at : getD s j 0 ≡ 10 → j < length s → j ≡ i + beforeNewline (drop i s)
+  newline-at e h = omega (arith, newline-same, newline-here s j h e)
+
+  pub newline-after : (getD s j 0 ≡ 10 → ⊥) → j < length s → (k : ℕ) → k ≡ j + 1 → Passed s i k
+  newline-after e h k q = record { from = omega (arith, p .from); to = omega (arith, newline-same, newline-later s j h e) }
+
+-- ---- the whole lines
 pub whole-none : (s : List ℕ) → beforeNewline s ≡ length s → wholeIn s ≡ []
 unfolding beforeNewline wholeIn
 whole-none [] h = refl

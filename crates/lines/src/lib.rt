@@ -85,12 +85,61 @@ fn answer(line: &[u8], days: &[i64], offsets: &[u64], last: i64, out: &mut [u8])
 
 // ---- a block
 
+// The place of the first newline among eight bytes, or the place after them. The tests are written out: a turn for each byte costs
+// more than its test.
+fn newline_in_eight(s: &[u8], i: usize) -> usize
+    requires { ⌜ i + 8 ≤ length (now s) ⌝ }
+    ensures { λ r. ⌜ r ≡ i + min 8 (beforeNewline (drop i (now (s .entry)))) ⌝ }
+{
+    if s[i] == b'\n' {
+        return i;
+    }
+    if s[i + 1] == b'\n' {
+        return i + 1;
+    }
+    if s[i + 2] == b'\n' {
+        return i + 2;
+    }
+    if s[i + 3] == b'\n' {
+        return i + 3;
+    }
+    if s[i + 4] == b'\n' {
+        return i + 4;
+    }
+    if s[i + 5] == b'\n' {
+        return i + 5;
+    }
+    if s[i + 6] == b'\n' {
+        return i + 6;
+    }
+    if s[i + 7] == b'\n' {
+        return i + 7;
+    }
+    i + 8
+}
+
+// A place from which on the next newline is the same, found eight bytes at a time: that newline's, or one of the last eight.
+fn nearer(s: &[u8], from: usize) -> usize
+    requires { ⌜ from ≤ length (now s) ⌝ }
+    ensures { λ r. ⌜ r + beforeNewline (drop r (now (s .entry))) ≡ from + beforeNewline (drop from (now (s .entry))) ⌝ }
+{
+    let mut i = from;
+    while 8 <= s.len() - i {
+        let k = newline_in_eight(s, i);
+        if k < i + 8 {
+            return k;
+        }
+        i = k;
+    }
+    i
+}
+
 // The place of the next newline from a place on, or the end.
 fn newline_from(s: &[u8], from: usize) -> usize
     requires { ⌜ from ≤ length (now s) ⌝ }
     ensures { λ r. ⌜ r ≡ from + beforeNewline (drop from (now (s .entry))) ⌝ }
 {
-    let mut i = from;
+    let mut i = nearer(s, from);
     while i < s.len() {
         if s[i] == b'\n' {
             return i;
