@@ -2,7 +2,7 @@
 --     if z < -b { return 0; } if t - b < z { return t; } (z + b) as u64
 -- tell of z, and what its operations ask. The code's -b is `negsuc c` with b = suc c, and t - b is `pos h`. Assumes nothing.
 use mathlib.Core.Path.{_≡_, refl, sym, ap, ap₂, _∙_}
-use mathlib.Core.Bool.{true, false, false≢true}
+use mathlib.Core.Bool.{Bool, true, false, false≢true}
 use Prim.Native.Nat.{ℕ, suc, _+_, _-_, _<_, _≤_, _^_}
 use native.Mathlib.Omega.{arith}
 use lib.Dec.{T}
@@ -38,6 +38,21 @@ module _ (c h : ℕ) where
 
     pub after-is : ltZ (pos h) (toZ w64 (ofZ w64 z)) ≡ true → h + suc c ≡ place (suc c) (h + suc c) z
     after-is e = after z (sym (ap (λ (x : ℤ). ltZ (pos h) x) seen) ∙ e)
+
+    -- a number whose place is neither end
+    pub not-before : 0 < place (suc c) (h + suc c) z → ltZ (toZ w64 (ofZ w64 z)) (negsuc c) ≡ false
+    not-before k = go (ltZ (toZ w64 (ofZ w64 z)) (negsuc c)) refl
+      where
+        go : (b : Bool) → ltZ (toZ w64 (ofZ w64 z)) (negsuc c) ≡ b → b ≡ false
+        go true e = absurd (omega (arith, before-is e))
+        go false e = refl
+
+    pub not-after : place (suc c) (h + suc c) z < h + suc c → ltZ (pos h) (toZ w64 (ofZ w64 z)) ≡ false
+    not-after k = go (ltZ (pos h) (toZ w64 (ofZ w64 z))) refl
+      where
+        go : (b : Bool) → ltZ (pos h) (toZ w64 (ofZ w64 z)) ≡ b → b ≡ false
+        go true e = absurd (omega (arith, after-is e))
+        go false e = refl
 
     module _ (e : ltZ (toZ w64 (ofZ w64 z)) (negsuc c) ≡ false) (g : ltZ (pos h) (toZ w64 (ofZ w64 z)) ≡ false)
         (room : h + suc c < 2 ^ 63) where

@@ -1,7 +1,9 @@
 // The one axis: signed days, and signed microseconds and counts since day 0, as naturals and back.
-// Only these eight functions meet a signed number; all other code reckons with places.
+// Only these eight functions and the two of `inner` meet a signed number; all other code reckons with places.
 ghost use mathlib.Core.Path.{_≡_};
 ghost use Rattle.axis.specs.Meaning.{isBetween, placeOfDay, dayAt, placeOfMicros, heldMicrosAt, placeOfCounts, signedOf, bitsOf};
+
+pub mod inner;
 
 // Whether a day lies from one day to another, both included.
 pub fn is_between(first: i64, day: i64, last: i64) -> bool

@@ -6,6 +6,8 @@ ghost use Rattle.calendar.specs.Meaning.{leap, monthLength, isDate, mont
 ghost use Rattle.calendar.specs.Formula.{marchYear, scaledOf, firstIn};
 use scales::Refusal;
 
+pub mod inner;
+
 // A date: the month and the day of the month are counted from 1.
 pub struct Date {
     pub year: u64,
@@ -121,7 +123,7 @@ fn is_first(day: i64) -> bool
     if 76525 < place {
         return false;
     }
-    scaled((place - 29773) as u32) % 65536 < 2141
+    inner::is_first(day)
 }
 
 // The first of a month of a March year, counted from 1 March 1968.

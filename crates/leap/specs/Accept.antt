@@ -1,21 +1,23 @@
--- What acceptance says on the axis: how the test of it goes on from one step to the next, where it fails, and what an accepted
--- list has. Assumes nothing.
-use mathlib.Core.Path.{_≡_, refl, sym, ap, ap₂, _∙_}
-use mathlib.Core.Bool.{Bool, true, false, _&&_, false≢true}
+-- What acceptance says: how the test of it goes on from one step to the next, where it fails, and what an accepted list has.
+-- Assumes nothing.
+use mathlib.Core.Path.{_≡_, refl, sym, ap, _∙_}
+use mathlib.Core.Bool.{Bool, true, false, _&&_}
 use mathlib.Core.List.{List, [], _∷_}
-use Prim.Native.Nat.{ℕ, zero, suc, _+_, _<_, _≤_}
+use Prim.Native.Nat.{ℕ, zero, suc, _+_, _-_, _<_, _≤_}
 use native.Mathlib.Numerals.{add-one}
 use native.Mathlib.Omega.{arith}
-use lib.Dec.{leb, ltb, eqb, lit<, lit≤}
+use lib.Dec.{leb, eqb, lit<, lit≤}
 use lib.IntN.{ℤ, pos, negsuc, _+ℤ_}
 use lib.ListN.{length, getD, drop, drop-of-length-le}
 use lib.Seq.{drop-cons}
 use lib.Signed.{leZ, ltZ}
-use borrow.Author.Tests.{leb-true, eqb-true, le-leb, lt-leb, eq-eqb, ne-eqb}
+use borrow.Author.Tests.{leb-true, le-leb, lt-leb, eq-eqb, ne-eqb}
 use Rattle.axis.specs.Meaning.{placeOfDay, dayAt}
-use Rattle.axis.specs.Axis.{day-from, day-to, day-place, day-lt, day-next}
+use Rattle.axis.specs.Axis.{day-from, day-to, day-place, day-next}
+use Rattle.axis.specs.Order.{isAfter}
 use Rattle.scales.specs.Place.{and-false, and-both}
-use Rattle.calendar.specs.Meaning.{isFirst, allFirsts}
+use Rattle.calendar.specs.Meaning.{leap, monthLength, lengthOf, walk, isFirst, allFirsts}
+use Rattle.calendar.specs.Days.{first-within}
 use Rattle.calendar.specs.Told.{first-span}
 use Rattle.leap.specs.Meaning.{sameDay, areSteps, begins, risesFrom, rises, countsFrom, countsUp, endsIn, noneLater, accepted}
 use Rattle.leap.specs.Places.{same-at}
@@ -41,71 +43,48 @@ ends-span e t =
       leb-true (placeOfDay e) 76524 (sym (day-to 76524 e (lit< tt)) ∙ x .1),
     )
 
--- ---- the steps after (s, o), in a list whose last day stands at b
-abbrev pub rest : ℕ → ℕ → ℕ → List ℤ → List ℕ → Bool
-rest b s o ds os = risesFrom (dayAt s) ds && (countsFrom o os && noneLater ds (dayAt b +ℤ pos 1))
+-- ---- the steps after the step (s, o), none of them after the day l
+abbrev pub rest : ℤ → ℤ → ℕ → List ℤ → List ℕ → Bool
+rest l s o ds os = risesFrom s ds && (allFirsts ds && (countsFrom o os && noneLater ds l))
 
-four : (a b c d e f : Bool) → ((a && b) && ((c && d) && (e && f))) ≡ ((a && (c && e)) && (b && (d && f)))
-four true b true d true f = refl
-four true b true d false f = ap (λ (x : Bool). b && x) (and-false d) ∙ and-false b
-four true b false d e f = and-false b
-four false b c d e f = refl
+-- a step on day d may follow one on day s
+abbrev pub may : ℤ → ℤ → ℤ → Bool
+may l s d = isAfter s d l && isFirst d
 
--- step i may follow, and so may those after it
-abbrev pub may : ℕ → ℕ → ℕ → ℕ → ℕ → Bool
-may b s o t p = ltb s t && (eqb p (o + 1) && leb t (b + 1))
+eight : (a r f g e c l n : Bool) → ((a && r) && ((f && g) && ((e && c) && (l && n)))) ≡ (e && (((a && l) && f) && (r && (g && (c && n)))))
+eight a r f g false c l n = ap (λ (x : Bool). (a && r) && x) (and-false (f && g)) ∙ and-false (a && r)
+eight false r f g true c l n = refl
+eight true r f g true c false n = rw (and-false c, and-false (f && g), and-false r)
+eight true r false g true c true n = and-false r
+eight true r true g true c true n = refl
 
-module _ (b s o : ℕ) (h : b < 76525) where
-  rest-cons : (d : ℤ) (ds : List ℤ) (p : ℕ) (os : List ℕ) → isFirst d ≡ true
-      → rest b s o (d ∷ ds) (p ∷ os) ≡ (may b s o (placeOfDay d) p && rest b (placeOfDay d) p ds os)
+module _ (l s : ℤ) (o : ℕ) where
+  rest-cons : (d : ℤ) (ds : List ℤ) (p : ℕ) (os : List ℕ)
+      → rest l s o (d ∷ ds) (p ∷ os) ≡ (eqb p (o + 1) && (may l s d && rest l d p ds os))
   unfolding risesFrom countsFrom noneLater
-  rest-cons d ds p os e =
-      let q = first-at d e in
-      let x : ltZ (dayAt s) d ≡ ltb s (placeOfDay d) = ap (ltZ (dayAt s)) (sym q) ∙ day-lt s (placeOfDay d) in
-      let y : leZ d (dayAt b +ℤ pos 1) ≡ leb (placeOfDay d) (b + 1) = ap (leZ d) (day-next b) ∙ day-to (b + 1) d (omega arith) in
-      ap₂ (λ (u v : Bool). (u && risesFrom d ds) && ((eqb p (o + 1) && countsFrom p os) && (v && noneLater ds (dayAt b +ℤ pos 1)))) x y
-      ∙ four (ltb s (placeOfDay d)) (risesFrom d ds) (eqb p (o + 1)) (countsFrom p os) (leb (placeOfDay d) (b + 1)) (noneLater ds (dayAt b +ℤ pos 1))
-      ∙ ap (λ (z : ℤ). may b s o (placeOfDay d) p && (risesFrom z ds && (countsFrom p os && noneLater ds (dayAt b +ℤ pos 1)))) (sym q)
+  rest-cons d ds p os = eight (ltZ s d) (risesFrom d ds) (isFirst d) (allFirsts ds) (eqb p (o + 1)) (countsFrom p os) (leZ d l) (noneLater ds l)
 
-  pub rest-step : (ds : List ℤ) (os : List ℕ) (i : ℕ) → allFirsts ds ≡ true → i < length ds → i < length os
-      → rest b s o (drop i ds) (drop i os)
-      ≡ (may b s o (placeOfDay (getD ds i (pos 0))) (getD os i 0) && rest b (placeOfDay (getD ds i (pos 0))) (getD os i 0) (drop (i + 1) ds) (drop (i + 1) os))
-  rest-step ds os i e k l =
-      rw (add-one i, drop-cons ds i (pos 0) k, drop-cons os i 0 l)
-      (rest-cons (getD ds i (pos 0)) (drop (suc i) ds) (getD os i 0) (drop (suc i) os) (firsts-at ds i e k))
+  pub rest-step : (ds : List ℤ) (os : List ℕ) (i : ℕ) → i < length ds → i < length os
+      → rest l s o (drop i ds) (drop i os)
+      ≡ (eqb (getD os i 0) (o + 1)
+      && (may l s (getD ds i (pos 0)) && rest l (getD ds i (pos 0)) (getD os i 0) (drop (i + 1) ds) (drop (i + 1) os)))
+  rest-step ds os i h k =
+      rw (add-one i, drop-cons ds i (pos 0) h, drop-cons os i 0 k)
+      (rest-cons (getD ds i (pos 0)) (drop (suc i) ds) (getD os i 0) (drop (suc i) os))
 
-  pub rest-end : (ds : List ℤ) (os : List ℕ) (i : ℕ) → length ds ≤ i → length os ≤ i → rest b s o (drop i ds) (drop i os) ≡ true
+  pub rest-end : (ds : List ℤ) (os : List ℕ) (i : ℕ) → length ds ≤ i → length os ≤ i → rest l s o (drop i ds) (drop i os) ≡ true
   unfolding risesFrom countsFrom noneLater
-  rest-end ds os i k l = rw (drop-of-length-le ds k, drop-of-length-le os l)
+  rest-end ds os i h k = rw (drop-of-length-le ds h, drop-of-length-le os k)
 
--- ---- the whole: the first step, and the steps after it
-abbrev whole : List ℤ → List ℕ → ℤ → Bool
-whole ds os e = begins ds os && (rises ds && (countsUp os && noneLater ds (e +ℤ pos 1)))
+-- ---- the first step: 1 January 1972
+first-is : (d : ℤ) → placeOfDay d ≡ 29773 → isFirst d ≡ true
+unfolding walk lengthOf monthLength leap
+first-is d h = first-within d (omega arith) (omega arith) ∙ ap (λ (n : ℕ). eqb (walk 1536 0 (n - 29773) .past) 0) h
 
 first-ok : (d : ℤ) (o : ℕ) → placeOfDay d ≡ 29773 → o ≡ 10 → (sameDay d (negsuc 10226) && eqb o 10) ≡ true
 first-ok d o h k = rw (same-at d 29773 (lit< tt) (lit< tt), eq-eqb (placeOfDay d) 29773 h, eq-eqb o 10 k)
 
-whole-starts : (ds : List ℤ) (os : List ℕ) (e : ℤ) → 0 < length ds → 0 < length os → allFirsts ds ≡ true → 29773 ≤ placeOfDay e → placeOfDay e ≤ 76524
-    → placeOfDay (getD ds 0 (pos 0)) ≡ 29773 → getD os 0 0 ≡ 10
-    → whole ds os e ≡ rest (placeOfDay e) (placeOfDay (getD ds 0 (pos 0))) (getD os 0 0) (drop 1 ds) (drop 1 os)
-unfolding begins rises countsUp noneLater
-whole-starts [] os e a b f l h x y = absurd (omega arith)
-whole-starts (d ∷ ds) [] e a b f l h x y = absurd (omega arith)
-whole-starts (d ∷ ds) (o ∷ os) e a b f l h x y =
-    let q = first-at d (firsts-at (d ∷ ds) 0 f a) in
-    let z : e ≡ dayAt (placeOfDay e) = sym (day-place e (omega arith) (omega arith)) in
-    let w : leZ d (e +ℤ pos 1) ≡ true =
-    ap (λ (n : ℤ). leZ d (n +ℤ pos 1)) z ∙ ap (leZ d) (day-next (placeOfDay e)) ∙ day-to (placeOfDay e + 1) d (omega arith)
-    ∙ le-leb (placeOfDay d) (placeOfDay e + 1) (omega arith) in
-    rw (first-ok d o x y, w)
-    (ap₂ (λ (m n : ℤ). risesFrom m ds && (countsFrom o os && noneLater ds (n +ℤ pos 1))) (sym q) z)
-
 -- ---- acceptance, by its parts
-seven : (a b c d e f g : Bool) → d ≡ true → f ≡ true → (a && (b && (c && (d && (e && (f && g)))))) ≡ (a && (b && (c && (e && g))))
-seven a b c true e true g x y = refl
-seven a b c true e false g x y = absurd (false≢true y)
-seven a b c false e f g x y = absurd (false≢true x)
-
 other-day : (ds : List ℤ) (os : List ℕ) → (placeOfDay (getD ds 0 (pos 0)) ≡ 29773 → ⊥) → begins ds os ≡ false
 unfolding begins
 other-day [] os h = refl
@@ -127,10 +106,6 @@ module _ (ds : List ℤ) (os : List ℕ) (e : ℤ) where
   begins-no : begins ds os ≡ false → false ≡ accepted ds os e
   unfolding accepted
   begins-no h = sym (rw (h, and-false (areSteps ds os)))
-
-  pub firsts-no : allFirsts ds ≡ false → false ≡ accepted ds os e
-  unfolding accepted
-  firsts-no h = sym (rw (h, and-false (rises ds), and-false (begins ds os), and-false (areSteps ds os)))
 
   ends-no : endsIn e ≡ false → false ≡ accepted ds os e
   unfolding accepted
@@ -159,25 +134,31 @@ module _ (ds : List ℤ) (os : List ℕ) (e : ℤ) where
   pub accept-other-offset : (getD os 0 0 ≡ 10 → ⊥) → false ≡ accepted ds os e
   accept-other-offset h = begins-no (other-offset ds os h)
 
-  -- all holds but what is said of the steps after the first
-  pub accept-rest : 1 ≤ length ds → length ds ≤ 64 → length os ≡ length ds → 29773 ≤ placeOfDay e → placeOfDay e ≤ 76524
-      → placeOfDay (getD ds 0 (pos 0)) ≡ 29773 → getD os 0 0 ≡ 10 → allFirsts ds ≡ true
-      → rest (placeOfDay e) 29773 10 (drop 1 ds) (drop 1 os) ≡ accepted ds os e
-  unfolding accepted
-  accept-rest a b c x y p q f =
-      sym
-      (seven (areSteps ds os) (begins ds os) (rises ds) (allFirsts ds) (countsUp os) (endsIn e) (noneLater ds (e +ℤ pos 1)) f (ends-at e x y)
-      ∙ rw (le-leb 1 (length ds) a, le-leb (length ds) 64 b, eq-eqb (length os) (length ds) c)
-      (whole-starts ds os e (omega arith) (omega arith) f x y p q
-      ∙ ap₂ (λ (s o : ℕ). rest (placeOfDay e) s o (drop 1 ds) (drop 1 os)) p q))
+steps-ok : (ds : List ℤ) (os : List ℕ) → 1 ≤ length ds → length ds ≤ 64 → length os ≡ length ds → areSteps ds os ≡ true
+steps-ok ds os a b c = rw (le-leb 1 (length ds) a, le-leb (length ds) 64 b, eq-eqb (length os) (length ds) c)
+
+not-later : (d e : ℤ) → (0 < placeOfDay d) × (placeOfDay d ≤ placeOfDay e) → placeOfDay e ≤ 76524 → leZ d (e +ℤ pos 1) ≡ true
+not-later d e h k =
+    ap (λ (n : ℤ). leZ d (n +ℤ pos 1)) (sym (day-place e (omega (arith, h .0, h .1)) (omega arith)))
+    ∙ ap (leZ d) (day-next (placeOfDay e))
+    ∙ day-to (placeOfDay e + 1) d (omega arith)
+    ∙ le-leb (placeOfDay d) (placeOfDay e + 1) (omega (arith, h .1))
+
+-- all holds but what is said of the steps after the first
+pub accept-rest : (ds : List ℤ) (os : List ℕ) (e : ℤ) → 1 ≤ length ds → length ds ≤ 64 → length os ≡ length ds → 29773 ≤ placeOfDay e
+    → placeOfDay e ≤ 76524 → placeOfDay (getD ds 0 (pos 0)) ≡ 29773 → getD os 0 0 ≡ 10
+    → rest (e +ℤ pos 1) (getD ds 0 (pos 0)) 10 (drop 1 ds) (drop 1 os) ≡ accepted ds os e
+unfolding accepted begins rises countsUp noneLater
+accept-rest [] os e a b c x y p q = absurd (omega arith)
+accept-rest (d ∷ ds) [] e a b c x y p q = absurd (omega arith)
+accept-rest (d ∷ ds) (o ∷ os) e a b c x y p q =
+    rw (steps-ok (d ∷ ds) (o ∷ os) a b c, first-ok d o p q, first-is d p, ends-at e x y, not-later d e (omega arith, omega arith) y)
+    (ap (λ (n : ℕ). rest (e +ℤ pos 1) d n ds os) (sym q))
 
 -- what is tested of a list before the steps after the first are
-pub record Tested (ds : List ℤ) (os : List ℕ) (b : ℕ) : Type 0 where
+pub record Tested (ds : List ℤ) (os : List ℕ) (l : ℤ) : Type 0 where
+  pub some : 0 < length ds
   pub few : length ds ≤ 64
   pub even : length os ≡ length ds
-  pub firsts : allFirsts ds ≡ true
-  pub early : b < 76525
-
-pub may-offset : (b s o t p : ℕ) → may b s o t p ≡ true → p ≡ o + 1
-may-offset b s o t p h =
-    eqb-true p (o + 1) (and-both (eqb p (o + 1)) (leb t (b + 1)) (and-both (ltb s t) (eqb p (o + 1) && leb t (b + 1)) h .1) .0)
+  pub from : 29773 ≤ placeOfDay (getD ds 0 (pos 0))
+  pub to : placeOfDay l ≤ 76525

@@ -2,7 +2,9 @@
 // from each day on, with its last day E.
 ghost use mathlib.Core.Path.{_≡_};
 ghost use Prim.Native.Nat.{_≤_};
-ghost use lib.ListN.{drop};
+ghost use lib.IntN.{pos};
+ghost use lib.ListN.{getD, drop};
+ghost use Rattle.axis.specs.Meaning.{placeOfDay};
 ghost use Rattle.leap.specs.Meaning.{accepted, publishedDays, publishedOffsets};
 ghost use Rattle.leap.specs.Accept.{may, Tested, rest};
 
@@ -13,42 +15,37 @@ const FIRST: u64 = 29773;
 
 const LAST: u64 = 76524;
 
-// May the step (d, p) follow the step (s, o) in a list whose last day stands at e?
-fn follows(e: u64, s: u64, o: u64, d: u64, p: u64) -> bool
-    requires { ⌜ (e ≤ 100000) × (o ≤ 100) ⌝ }
-    ensures { λ r. ⌜ r ≡ may e s o d p ⌝ }
+// May a step on day d follow one on day s, in a list whose steps end by a day?
+fn may_follow(end: i64, s: i64, d: i64) -> bool
+    requires { ⌜ (29773 ≤ placeOfDay s) × (placeOfDay end ≤ 76525) ⌝ }
+    ensures { λ r. ⌜ r ≡ may end s d ⌝ }
 {
-    if d <= s {
+    if !axis::inner::is_after(s, d, end) {
         return false;
     }
-    if p != o + 1 {
-        return false;
-    }
-    d <= e + 1
+    calendar::inner::is_first(d)
 }
 
-// May each step after the first follow the one before it?
-fn steps_follow(days: &[i64], offsets: &[u64], e: u64) -> bool
-    requires { ⌜ Tested (now days) (now offsets) e ⌝ }
-    ensures { λ r. ⌜ r ≡ rest e 29773 10 (drop 1 (now (days .entry))) (drop 1 (now (offsets .entry))) ⌝ }
+// May each step after the first follow the one before it? Offsets count up from the first, which is 10.
+fn steps_follow(days: &[i64], offsets: &[u64], end: i64) -> bool
+    requires { ⌜ Tested (now days) (now offsets) end ⌝ }
+    ensures { λ r. ⌜ r ≡ rest end (getD (now (days .entry)) 0 (pos 0)) 10 (drop 1 (now (days .entry))) (drop 1 (now (offsets .entry))) ⌝ }
 {
-    let mut s = FIRST;
-    let mut o = 10;
-    let mut i = 1;
-    while i < days.len() {
-        let d = inner::step_day(days, i);
-        let p = offsets[i];
-        if !follows(e, s, o, d, p) {
+    let mut i = 0;
+    while i + 1 < days.len() {
+        let k = i + 1;
+        if offsets[k] != k as u64 + 10 {
             return false;
         }
-        s = d;
-        o = p;
-        i += 1;
+        if !may_follow(end, days[i], days[k]) {
+            return false;
+        }
+        i = k;
     }
     true
 }
 
-// Is the list accepted? The calendar is asked once, of all the days.
+// Is the list accepted?
 pub fn is_accepted(days: &[i64], offsets: &[u64], last: i64) -> bool
     ensures { λ r. ⌜ r ≡ accepted (now (days .entry)) (now (offsets .entry)) last ⌝ }
 {
@@ -75,10 +72,7 @@ pub fn is_accepted(days: &[i64], offsets: &[u64], last: i64) -> bool
     if offsets[0] != 10 {
         return false;
     }
-    if !calendar::all_firsts(days) {
-        return false;
-    }
-    steps_follow(days, offsets, e)
+    steps_follow(days, offsets, axis::day_at((e + 1) as u32))
 }
 
 // The last day of the published list: 31 December 2024.

@@ -1,14 +1,11 @@
 -- `calendar::is_first` meets its contract: one law for each way out. Assumes nothing.
-use Prim.Native.Nat.{ℕ, _-_, _%_}
 use mathlib.Core.Path.{_≡_, sym, ap, _∙_}
 use native.Mathlib.Omega.{arith}
-use lib.Dec.{eqb, ltb}
 use mir.Facts.{toZ-ofZ}
 use borrow.Author.Needs.{needs}
 use Rattle.axis.specs.Meaning.{placeOfDay}
-use Rattle.calendar.specs.Meaning.{walk}
-use Rattle.calendar.specs.Days.{first-early, first-late, first-within}
-use Rattle.calendar.specs.Formula.{first-is}
+use Rattle.calendar.specs.Meaning.{isFirst}
+use Rattle.calendar.specs.Days.{first-early, first-late}
 use Rattle.calendar.proofs.is_first.Statement.{statement}
 use Rattle.calendar.proofs.is_first.Tie as tie
 
@@ -22,15 +19,11 @@ returns c = let b = c .before in sym (first-early (b .before .args .day) (omega 
 returns-2 : tie.Need-returns-2
 returns-2 c = let b = c .before .before in sym (first-late (b .before .args .day) (omega (arith, seen b)))
 
+is-first-requires : tie.Need-is-first-requires
+is-first-requires c κs = let b = c .before .before in (omega (arith, b .place-of-day .ensures), omega (arith, b .place-of-day .ensures))
+
 returns-3 : tie.Need-returns-3
-returns-3 c =
-    let b = c .before .before .before in
-    let p = b .place-of-day .result in
-    let d = b .before .args .day in
-    ap (λ (x : ℕ). ltb (x % 65536) 2141) (c .scaled .ensures)
-    ∙ first-is (p - 29773) (omega arith)
-    ∙ ap (λ (x : ℕ). eqb (walk 1536 0 (x - 29773) .past) 0) (seen b)
-    ∙ sym (first-within d (omega (arith, seen b)) (omega (arith, seen b)))
+returns-3 c = c .is-first .ensures ∙ ap isFirst (toZ-ofZ (c .before .before .before .before .fits .day))
 
 pub is-first-spec : {M : Type 1} → statement M
 is-first-spec =
@@ -39,6 +32,5 @@ is-first-spec =
     (λ c κs. search needs)
     returns
     returns-2
-    (λ c. search needs)
-    (λ c κs. search needs)
+    is-first-requires
     returns-3)

@@ -1,12 +1,15 @@
 -- `leap::is_accepted` meets its contract: one law for each way out. Assumes nothing.
 use mathlib.Core.Path.{_≡_, sym, ap, _∙_}
-use Prim.Native.Nat.{ℕ}
+use Prim.Native.Nat.{ℕ, _+_}
 use native.Mathlib.Omega.{arith}
-use lib.ListN.{drop}
+use lib.IntN.{ℤ, pos, _+ℤ_}
+use lib.ListN.{getD, drop}
+use mir.Syntax.{w64}
+use mir.Val.{toZ, ofZ}
 use mir.Facts.{toZ-ofZ}
-use borrow.Author.Tests.{not-true, not-false}
-use Rattle.axis.specs.Meaning.{placeOfDay}
-use Rattle.leap.specs.Accept.{accept-empty, accept-long, accept-uneven, accept-early, accept-late, accept-other-day, accept-other-offset, firsts-no, accept-rest, rest}
+use Rattle.axis.specs.Meaning.{placeOfDay, dayAt}
+use Rattle.axis.specs.Axis.{day-next, day-place, place-day}
+use Rattle.leap.specs.Accept.{accept-empty, accept-long, accept-uneven, accept-early, accept-late, accept-other-day, accept-other-offset, accept-rest, rest}
 use borrow.Author.Needs.{needs}
 use Rattle.leap.proofs.is_accepted.Statement.{statement}
 use Rattle.leap.proofs.is_accepted.Tie as tie
@@ -36,25 +39,36 @@ returns-6 c = let a = c .before .before .before .before .before .before .before 
 returns-7 : tie.Need-returns-7
 returns-7 c = let a = c .before .before .before .before .before .before .before .before .before .before .before .args in accept-other-offset (a .days .now) (a .offsets .now) (a .last) (c .if7 .taken)
 
-returns-8 : tie.Need-returns-8
-returns-8 c =
-    let a = c .before .before .before .before .before .before .before .before .before .before .before .before .before .args in
-    firsts-no (a .days .now) (a .offsets .now) (a .last) (sym (c .before .all-firsts .ensures) ∙ not-true (c .before .all-firsts .result) (c .if8 .taken))
+-- the day after the last, as the callee reads it
+next-at : (c : tie.After-day-at) → toZ w64 (ofZ w64 (c .day-at .result)) ≡ dayAt (c .before .before .before .before .before .before .before .place-of-day .result + 1)
+next-at c = toZ-ofZ {w = w64} {z = c .day-at .result} (record { sfits = c .day-at .ok }) ∙ c .day-at .ensures
+
+next : (c : tie.After-day-at) → toZ w64 (ofZ w64 (c .day-at .result)) ≡ c .before .before .before .before .before .before .before .before .before .before .before .before .args .last +ℤ pos 1
+next c =
+    let p = c .before .before .before .before .before in
+    let m = p .before .before in
+    let e = m .before .before .before .before .before .args .last in
+    next-at c
+    ∙ ap (λ (n : ℕ). dayAt (n + 1)) (seen m)
+    ∙ sym (day-next (placeOfDay e))
+    ∙ ap (λ (d : ℤ). d +ℤ pos 1) (day-place e (omega (arith, seen m, p .before .if4 .left)) (omega (arith, seen m, p .if5 .left)))
 
 steps-follow-requires : tie.Need-steps-follow-requires
 steps-follow-requires c κs =
-    let f = c .before in
-    let p = f .before .before .before .before .before in
+    let d = c .before .before .before .before in
+    let p = d .before in
+    let m = p .before .before in
     record {
-      few = p .before .before .before .before .if2 .left;
-      even = p .before .before .before .if3 .left;
-      firsts = sym (f .all-firsts .ensures) ∙ not-false (f .all-firsts .result) (c .if8 .left);
-      early = omega (arith, p .if5 .left);
+      some = m .before .before .before .if1 .left;
+      few = m .before .before .if2 .left;
+      even = m .before .if3 .left;
+      from = omega (arith, d .step-day .ensures, c .before .before .before .if6 .left);
+      to = rw (next-at c, place-day (m .place-of-day .result + 1) (omega (arith, p .if5 .left))) (omega (arith, p .if5 .left));
     }
 
-returns-9 : tie.Need-returns-9
-returns-9 c =
-    let f = c .before .before in
+returns-8 : tie.Need-returns-8
+returns-8 c =
+    let f = c .before in
     let k = f .before .before in
     let d = k .before .before in
     let p = d .before in
@@ -62,10 +76,10 @@ returns-9 c =
     let n = m .before in
     let a = n .before .before .before .before .args in
     c .steps-follow .ensures
-    ∙ ap (λ (e : ℕ). rest e 29773 10 (drop 1 (a .days .now)) (drop 1 (a .offsets .now))) (seen m)
+    ∙ ap (λ (l : ℤ). rest l (getD (a .days .now) 0 (pos 0)) 10 (drop 1 (a .days .now)) (drop 1 (a .offsets .now))) (next f)
     ∙ accept-rest (a .days .now) (a .offsets .now) (a .last) (n .before .before .if1 .left) (n .before .if2 .left) (n .if3 .left)
     (omega (arith, seen m, p .before .if4 .left)) (omega (arith, seen m, p .if5 .left)) (sym (d .step-day .ensures) ∙ k .before .if6 .left)
-    (f .before .if7 .left) (sym (f .all-firsts .ensures) ∙ not-false (f .all-firsts .result) (c .before .if8 .left))
+    (f .before .if7 .left)
 
 pub is-accepted-spec : {M : Type 1} → statement M
 is-accepted-spec =
@@ -81,7 +95,8 @@ is-accepted-spec =
     returns-6
     (λ c. search needs)
     returns-7
+    (λ c. search needs)
+    (λ c. search needs)
     (λ c κs. search needs)
-    returns-8
     steps-follow-requires
-    returns-9)
+    returns-8)
