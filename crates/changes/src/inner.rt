@@ -3,17 +3,16 @@ ghost use mathlib.Core.Path.{_≡_};
 ghost use mathlib.Core.Bool.{true};
 ghost use Rattle.axis.specs.Meaning.{microsAt};
 ghost use Rattle.scales.specs.Meaning.{outcome, dated, slip, slipTai, slipUtc, slipGps, timeScale, timeCount};
-ghost use Rattle.handed.specs.Meaning.{takenScale};
 ghost use Rattle.leap.specs.Meaning.{accepted};
 ghost use Rattle.via_tai.specs.Meaning.{ofCount, toScale, isUtc};
 ghost use Rattle.via_tai.specs.Ways.{OnTheWay};
 ghost use Rattle.changes.specs.Meaning.{changeUsesList, moving};
-ghost use Rattle.changes.specs.Asked.{timeUsesList, lacksList, takenAsked};
-use handed::Taken;
+ghost use Rattle.changes.specs.Asked.{lacksList, recordAsked};
 use scales::Dated;
 use scales::DatedGps;
 use scales::DatedTai;
 use scales::DatedUtc;
+use scales::Record;
 use scales::Refusal;
 use scales::Scale;
 use scales::Tai;
@@ -95,17 +94,6 @@ pub fn change_uses_list(from: Scale, to: Scale) -> bool
     is_utc(to)
 }
 
-// Does a time that stays in its scale?
-pub fn time_uses_list(t: Taken) -> bool
-    ensures { λ r. ⌜ r ≡ timeUsesList t ⌝ }
-{
-    match t {
-        Taken::NotFinite(_) => false,
-        Taken::Outside(scale) => is_utc(scale),
-        Taken::At(n) => is_utc(n.scale()),
-    }
-}
-
 // Is a list used that is not accepted?
 pub fn lacks_list(used: bool, days: &[i64], offsets: &[u64], last: i64) -> bool
     ensures { λ r. ⌜ r ≡ lacksList used (now (days .entry)) (now (offsets .entry)) last ⌝ }
@@ -116,14 +104,26 @@ pub fn lacks_list(used: bool, days: &[i64], offsets: &[u64], last: i64) -> bool
     !leap::is_accepted(days, offsets, last)
 }
 
-// A time in its own scale, after the refusals that this scale brings; a list that is used was accepted before.
-pub fn judge(t: Taken, days: &[i64], offsets: &[u64], last: i64) -> Dated
-    requires { ⌜ (timeUsesList t ≡ true → accepted (now days) (now offsets) last ≡ true) ⌝ }
-    ensures { λ r. ⌜ slip r ≡ dated (takenScale t) (outcome (takenAsked t (now (days .entry)) (now (offsets .entry)) last)) ⌝ }
+// A record in its own scale, after the refusals that this scale brings; a list that is used was accepted before.
+pub fn judge(r: Record, days: &[i64], offsets: &[u64], last: i64) -> Dated
+    requires { ⌜ (isUtc (r .scale) ≡ true → accepted (now days) (now offsets) last ≡ true) ⌝ }
+    ensures { λ d. ⌜ slip d ≡ dated (r .scale) (outcome (recordAsked r (now (days .entry)) (now (offsets .entry)) last)) ⌝ }
 {
-    match t {
-        Taken::NotFinite(scale) => Dated::Refused(Refusal::DecimalNotFinite, scale),
-        Taken::Outside(scale) => Dated::Refused(Refusal::OutsideSpan, scale),
-        Taken::At(n) => change(n, n.scale(), days, offsets, last),
+    let scale = r.scale;
+    match r.judged() {
+        Dated::Refused(f, z) => Dated::Refused(f, z),
+        Dated::At(_) => {
+            if !is_utc(scale) {
+                return Dated::At(r);
+            }
+            let day = axis::place_of_day(r.day);
+            if axis::place_of_day(last) < day {
+                return Dated::Refused(Refusal::ListExpired, scale);
+            }
+            if !via_tai::inner::has_micro(days, day, r.micro) {
+                return Dated::Refused(Refusal::SecondLacking, scale);
+            }
+            Dated::At(r)
+        }
     }
 }

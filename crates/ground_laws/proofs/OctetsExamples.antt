@@ -7,7 +7,7 @@ use lib.Dec.{lit<, lit≤}
 use lib.ListN.{take, drop}
 use Rattle.octets.specs.Meaning.{number, word, field, hasRoom, onto}
 use Rattle.octets.specs.Field.{Bytes, none, more, number-field-small, field-inj, field-number, word-small}
-use Rattle.octets.specs.Place.{rest-none, rest-onto, rest-front}
+use Rattle.octets.specs.Place.{rest-onto}
 
 -- 01 02 is 258, and back
 pub two-bytes : number (1 ∷ 2 ∷ []) ≡ 258
@@ -61,12 +61,5 @@ fields-meet = (word-small two-are-bytes (lit≤ tt), field-number two-are-bytes,
 abbrev four : List ℕ
 four = 6 ∷ 7 ∷ 8 ∷ 9 ∷ []
 
-pub rests-meet :
-    (take 2 (onto two four) ++ onto (3 ∷ []) (drop 2 (onto two four)) ≡ onto (1 ∷ 2 ∷ 3 ∷ []) four)
-    × (onto two (take 2 four ++ onto (3 ∷ []) (drop 2 four)) ≡ onto (1 ∷ 2 ∷ 3 ∷ []) four)
-    × (take 3 four ++ onto two (drop 3 four) ≡ four)
-rests-meet = (
-  rest-onto 2 two (3 ∷ []) four refl (lit≤ tt),
-  rest-front 2 two (3 ∷ []) four refl (lit≤ tt),
-  rest-none 3 two four (lit≤ tt) (lit< tt),
-)
+pub rest-meets : take 2 (onto two four) ++ onto (3 ∷ []) (drop 2 (onto two four)) ≡ onto (1 ∷ 2 ∷ 3 ∷ []) four
+rest-meets = rest-onto 2 two (3 ∷ []) four refl (lit≤ tt)

@@ -2,3 +2,4 @@ pub mod Meaning
 pub mod Parts
 pub mod Signs
 pub mod Told
+pub mod Laid

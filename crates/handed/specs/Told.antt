@@ -18,7 +18,7 @@ use Rattle.handed.specs.declared.Handed.the-variants as H
 use Rattle.handed.specs.Signs.{place-from, place-to, day-at, micro-at}
 use Rattle.handed.specs.declared.Taken.{Taken}
 use Rattle.handed.specs.declared.Taken.the-variants as K
-use Rattle.handed.specs.Meaning.{scaleOf, isFinite, isInSpan, dayOf, microOf, takenOf, Kept, Took, takenScale, takenSlip, taking}
+use Rattle.handed.specs.Meaning.{scaleOf, isFinite, isInSpan, dayOf, microOf, takenOf, Kept, Took, takenSlip, taking}
 
 -- Any two answers that the contract of `take` allows are equal.
 pub took-one : (h : Handed) (s t : Taken) → Took h s → Took h t → s ≡ t
@@ -109,11 +109,6 @@ module _ (h : Handed) (t : Time) (w : Told h t) where
 
   pub told-record : recordAt (timeScale t) (timeCount t) ≡ recordOf (scaleOf h) (dayOf h) (microOf h)
   told-record = ap₂ (λ (s : Scale) (m : Moment). recordOf s (m .day) (m .micro)) told-scale told-moment
-
-pub took-scale : (h : Handed) (t : Taken) → Took h t → takenScale t ≡ scaleOf h
-took-scale h (K.NotFinite z) w = told-nothing h (K.NotFinite z) w z refl .1
-took-scale h (K.Outside z) w = told-outside h (K.Outside z) w z refl .2
-took-scale h (K.At t) w = told-scale h t (told-at h (K.At t) w t refl)
 
 -- the number and the values of what was taken are those of the chain that judges it
 pub taken-is : (h : Handed) (t : Taken) → Took h t → takenSlip t ≡ dated (scaleOf h) (outcome (taking h))

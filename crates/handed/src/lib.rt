@@ -14,6 +14,8 @@ use scales::Time;
 use scales::Timed;
 use scales::Utc;
 
+pub mod inner;
+
 // What a caller hands in: a record, or a decimal day with its scale.
 pub enum Handed {
     Record(Record),

@@ -17,8 +17,9 @@ use Rattle.scales.specs.declared.Scale.{Scale}
 use Rattle.scales.specs.declared.Scale.the-variants as S
 use Rattle.scales.specs.declared.Written.{Written}
 use Rattle.scales.specs.declared.Written.the-variants as W
-use Rattle.text_fields.specs.Meaning.{prefixOf}
-use Rattle.text_write.specs.Meaning.{textOf, imageOf}
+use Rattle.calendar.specs.Meaning.{dateOfDay}
+use Rattle.text_write.specs.Meaning.{stampOf, imageOf}
+use Rattle.text_write.specs.Image.{size-is}
 use Rattle.text_write.specs.Stage.{imaged}
 use Rattle.text_write.specs.declared.Form.the-variants as F
 use Rattle.lines.specs.Meaning.{digit, refusedText, told, lineDating, answerTo}
@@ -44,10 +45,7 @@ refused-is n = refl
 
 -- ---- a time
 image-length : (z : Scale) (m : Moment) → length (imageOf F.PrefixedMicros z m) ≡ 31
-unfolding prefixOf textOf
-image-length S.Tai m = refl
-image-length S.Utc m = refl
-image-length S.Gps m = refl
+image-length z m = size-is F.PrefixedMicros z (stampOf (dateOfDay (m .day) .value) (m .micro))
 
 module _ (z : Scale) (m : Moment) (out : List ℕ) (room : 32 ≤ length out) where
   abbrev image : List ℕ

@@ -6,9 +6,8 @@ use Prim.Native.Nat.{ℕ, _+_, _-_, _≤_, _<_}
 use native.Mathlib.Omega.{arith}
 use native.Mathlib.Numerals.{add-one}
 use native.Mathlib.Nat.{zero-add}
-use lib.Dec.{leb}
-use lib.ListN.{length, take, drop, getD, set, length-append, length-drop, take-append-drop, drop-of-length-le}
-use lib.Seq.{take-all, length-take-le, take-at, drop-at, drop-drop, paste-suc}
+use lib.ListN.{length, take, drop, getD, set, length-append, length-drop, drop-of-length-le}
+use lib.Seq.{take-all, take-at, drop-at, drop-drop, paste-suc}
 use borrow.Author.Tests.{leb-true, leb-false, le-leb, lt-leb}
 use Rattle.octets.specs.Meaning.{hasRoom, onto}
 
@@ -45,43 +44,13 @@ module _ {A : Type 0} where
       let e : drop (length out - a) (drop a out) ≡ [] = drop-of-length-le (drop a out) {i = length out - a} (omega (arith, length-drop a out)) in
       rw (e, append-nil r)
 
-  -- a rest that was left as it was
-  pub rest-keep : (a : ℕ) (out : List A) → take a out ++ drop a out ≡ out
-  rest-keep = take-append-drop
-
-  pub rest-length : (a : ℕ) (out r : List A) → length r ≡ length (drop a out) → length (take a out ++ r) ≡ length out
-  rest-length a out r e = omega (arith, length-append (take a out) r, length-append (take a out) (drop a out), ap length (rest-keep a out))
-
-  -- whether n elements fit into the rest is whether a + n fit into the whole
-  pub rest-room : (a n : ℕ) (out : List A) → a ≤ length out → leb n (length (drop a out)) ≡ leb (a + n) (length out)
-  rest-room a n out h = go (leb (a + n) (length out)) refl
-    where
-      go : (room : Bool) → leb (a + n) (length out) ≡ room → leb n (length (drop a out)) ≡ leb (a + n) (length out)
-      go true e = le-leb n (length (drop a out)) (omega (arith, length-drop a out, leb-true)) ∙ sym e
-      go false e = lt-leb n (length (drop a out)) (omega (arith, length-drop a out, leb-false)) ∙ sym e
-
-  -- an image that has no room in the rest
-  pub rest-none : (a : ℕ) (image out : List A) → a ≤ length out → length out < a + length image → take a out ++ onto image (drop a out) ≡ out
-  rest-none a image out h k = rw (onto-none image (drop a out) (omega (arith, length-drop a out))) (rest-keep a out)
-
-  -- ---- a front of a elements and an image on the rest are both put on in one
-  module _ (a : ℕ) (front image out : List A) (n : length front ≡ a) (h : a + length image ≤ length out) where
-    both : front ++ onto image (drop a out) ≡ onto (front ++ image) out
-    both =
-        let l : length (front ++ image) ≡ a + length image = length-append front image ∙ ap (λ (m : ℕ). m + length image) n in
-        ap (λ (s : List A). front ++ s) (onto-room image (drop a out) (omega (arith, length-drop a out)) ∙ rw drop-drop)
-        ∙ sym (append-assoc front image (drop (a + length image) out))
-        ∙ sym (onto-room (front ++ image) out (omega arith) ∙ rw l)
-
-    -- the front first
-    pub rest-onto : take a (onto front out) ++ onto image (drop a (onto front out)) ≡ onto (front ++ image) out
-    rest-onto =
-        let e : onto front out ≡ front ++ drop a out = onto-room front out (omega arith) ∙ rw n in
-        rw (e, take-at front (drop a out) a n, drop-at front (drop a out) a n) both
-
-    -- the rest first
-    pub rest-front : onto front (take a out ++ onto image (drop a out)) ≡ onto (front ++ image) out
-    rest-front =
-        let r = onto image (drop a out) in
-        let l : length (take a out ++ r) ≡ length out = rest-length a out r (length-onto image (drop a out)) in
-        onto-room front (take a out ++ r) (omega arith) ∙ rw (n, drop-at (take a out) r a (length-take-le a out (omega arith))) both
+  -- ---- a front of a elements, and then an image on the rest, are both put on in one
+  pub rest-onto : (a : ℕ) (front image out : List A) → length front ≡ a → a + length image ≤ length out
+      → take a (onto front out) ++ onto image (drop a (onto front out)) ≡ onto (front ++ image) out
+  rest-onto a front image out n h =
+      let e : onto front out ≡ front ++ drop a out = onto-room front out (omega arith) ∙ rw n in
+      let l : length (front ++ image) ≡ a + length image = length-append front image ∙ ap (λ (m : ℕ). m + length image) n in
+      rw (e, take-at front (drop a out) a n, drop-at front (drop a out) a n)
+      (ap (λ (s : List A). front ++ s) (onto-room image (drop a out) (omega (arith, length-drop a out)) ∙ rw drop-drop)
+      ∙ sym (append-assoc front image (drop (a + length image) out))
+      ∙ sym (onto-room (front ++ image) out (omega arith) ∙ rw l))

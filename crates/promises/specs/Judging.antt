@@ -3,9 +3,9 @@
 use mathlib.Core.Path.{_≡_, refl, ap, ap₂, _∙_}
 use mathlib.Core.Bool.{Bool, true, false, cond, not, _&&_, _||_}
 use mathlib.Core.List.{List, [], _∷_, _++_}
-use Prim.Native.Nat.{ℕ, _+_}
+use Prim.Native.Nat.{ℕ}
 use lib.IntN.{ℤ, _+ℤ_}
-use lib.ListN.{length, length-append}
+use lib.ListN.{length}
 use Rattle.axis.specs.Meaning.{Moment, since}
 use Rattle.scales.specs.Meaning.{Judged, gives, sameScale, inSpan, momentAt}
 use Rattle.scales.specs.declared.Scale.{Scale}
@@ -16,10 +16,9 @@ use Rattle.leap.specs.Meaning.{seconds, accepted, hasMicro, isExpiredDay, isExp
 use Rattle.via_tai.specs.Meaning.{isUtc, ofCount}
 use Rattle.changes.specs.Meaning as Changes
 use Rattle.clock.specs.Meaning as Clock
-use Rattle.text_fields.specs.Meaning.{prefixOf}
 use Rattle.text_read.specs.Meaning as TextRead
 use Rattle.text_write.specs.Meaning as TextWrite
-use Rattle.text_write.specs.Image.{prefix-length}
+use Rattle.text_write.specs.Image.{sizeOf, size-is}
 use Rattle.text_write.specs.declared.Form.{Form}
 use Rattle.text_write.specs.declared.Form.the-variants as F
 use Rattle.lines_laws.specs.First.{inTai, lineJudging}
@@ -40,11 +39,13 @@ not-all true b c = not-both b c
 not-all false b c = refl
 
 image-length : (f : Form) (z : Scale) (m : Moment) → length (TextWrite.imageOf f z m) ≡ Rows.formLength f
-unfolding TextWrite.textOf
-image-length F.Plain z m = refl
-image-length F.Micros z m = refl
-image-length F.Prefixed z m = length-append (prefixOf z) _ ∙ ap (λ (n : ℕ). n + 20) (prefix-length z)
-image-length F.PrefixedMicros z m = length-append (prefixOf z) _ ∙ ap (λ (n : ℕ). n + 27) (prefix-length z)
+image-length f z m = size-is f z _ ∙ go f
+  where
+    go : (f : Form) → sizeOf f ≡ Rows.formLength f
+    go F.Plain = refl
+    go F.Micros = refl
+    go F.Prefixed = refl
+    go F.PrefixedMicros = refl
 
 module _ (ds : List ℤ) (os : List ℕ) (e : ℤ) where
   -- ---- the nine changes

@@ -39,9 +39,10 @@ use Rattle.text_read.specs.Meaning.{inLimits, isBody, hasMarks, stampIn, scaleI
 use Rattle.text_fields.specs.declared.Stamp.{Stamp}
 use Rattle.text_fields.specs.Meaning.{prefixOf}
 use Rattle.text_write.specs.Meaning.{stampOf, textOf, hasMicros, showsScale, fullText, imageOf, hasImage, imaging, writing, writeText}
+use Rattle.text_write.specs.Columns.{Fits, stamp-fits}
 use Rattle.text_write.specs.declared.Form.{Form}
 use Rattle.text_write.specs.declared.Form.the-variants as F
-use Rattle.text_laws.specs.Digits.{Small, stamp-long, stamp-short}
+use Rattle.text_laws.specs.Digits.{stamp-long, stamp-short}
 
 -- ---- the text of a stamp, read
 record Reads (s : List ℕ) (z : Scale) (t : Stamp) : Type 0 where
@@ -51,7 +52,7 @@ record Reads (s : List ℕ) (z : Scale) (t : Stamp) : Type 0 where
   marks : hasMarks (bodyIn s) ≡ true
   stamp : stampIn (bodyIn s) ≡ t
 
-module _ (t : Stamp) (w : Small t) where
+module _ (t : Stamp) (w : Fits t) where
   text-reads : (f : Form) (z : Scale) → (hasMicros f ≡ false → t .micro ≡ 0) → (showsScale f ≡ false → z ≡ S.Utc) → Reads (fullText f z t) z t
   unfolding scaleIn bodyIn isPrefixRight hasPrefix prefixOf textOf hasMarks
   text-reads F.Plain z m g = record { known = refl; prefix = refl; scale = sym (g refl); marks = refl; stamp = stamp-short t w (m refl) }
@@ -94,32 +95,9 @@ module _ (t : Date) (u : ℕ) where
       go (below k) = rw (lt-ltb u dayMicros k) (omega arith)
       go (above k) = rw (le-ltb u dayMicros k) (omega arith)
 
-  stamp-small : Real t → u < 86401000000 → Small (stampOf t u)
-  stamp-small r h = go (way u dayMicros)
-    where
-      go : Way u dayMicros → Small (stampOf t u)
-      go k = record {
-        year = r .year-to;
-        month-from = r .month-from;
-        month-to = r .month-to;
-        day = omega (arith, r .day-to, month-bounds (t .year) (t .month));
-        hour = hour k;
-        minute = minute k;
-        second = second k;
-        micro = omega arith;
-      }
-        where
-          hour : Way u dayMicros → stampOf t u .hour < 100
-          hour (below k) = rw (lt-ltb u dayMicros k) (omega arith)
-          hour (above k) = rw (le-ltb u dayMicros k) (omega arith)
-
-          minute : Way u dayMicros → stampOf t u .minute < 100
-          minute (below k) = rw (lt-ltb u dayMicros k) (omega arith)
-          minute (above k) = rw (le-ltb u dayMicros k) (omega arith)
-
-          second : Way u dayMicros → stampOf t u .second < 100
-          second (below k) = rw (lt-ltb u dayMicros k) (omega arith)
-          second (above k) = rw (le-ltb u dayMicros k) (omega arith)
+  stamp-small : Real t → u < 86401000000 → Fits (stampOf t u)
+  stamp-small r h =
+      stamp-fits t u (omega (arith, r .year-to)) (r .month-from, r .month-to) (omega (arith, r .day-to, month-bounds (t .year) (t .month))) h
 
 -- ---- the date of a day of a span
 record Dates (d : ℤ) : Type 0 where

@@ -13,6 +13,7 @@ use Rattle.text_read.specs.Meaning.{digitOf, twoOf, fourOf, sixOf, isNamed, see
 use Rattle.text_fields.specs.declared.Stamp.{Stamp}
 use Rattle.text_fields.specs.Meaning.{names, letter}
 use Rattle.text_write.specs.Meaning.{tens, units, textOf}
+use Rattle.text_write.specs.Columns.{Fits}
 
 digit-back : (d : ℕ) → d < 10 → digitOf (48 + d) ≡ d
 unfolding digitOf
@@ -32,7 +33,7 @@ four-last : (v w : ℕ) → fourOf (tens v) (units v) (tens w) (units w) ≡ v %
 unfolding fourOf
 four-last v w = rw (two-last v, two-last w, lt-ltb (v % 100) 100 (omega arith), lt-ltb (w % 100) 100 (omega arith))
 
-four-back : (v : ℕ) → v ≤ 9999 → fourOf (tens (v / 100)) (units (v / 100)) (tens v) (units v) ≡ v
+four-back : (v : ℕ) → v < 10000 → fourOf (tens (v / 100)) (units (v / 100)) (tens v) (units v) ≡ v
 four-back v h = four-last (v / 100) v ∙ omega arith
 
 six-back : (v : ℕ) → v < 1000000 → sixOf (tens (v / 10000)) (units (v / 10000)) (tens (v / 100)) (units (v / 100)) (tens v) (units v) ≡ v
@@ -71,40 +72,29 @@ month-back m h k =
     let t : named (m - 1) ≡ true = at-each named 12 months (m - 1) (omega arith) in
     rw e at (eqb-true (monthNamed (letter (m - 1 + 1) 0) (letter (m - 1 + 1) 1) (letter (m - 1 + 1) 2)) (m - 1 + 1) t)
 
--- fields that their places can hold
-pub record Small (t : Stamp) : Type 0 where
-  pub year : t .date .year ≤ 9999
-  pub month-from : 1 ≤ t .date .month
-  pub month-to : t .date .month ≤ 12
-  pub day : t .date .day < 100
-  pub hour : t .hour < 100
-  pub minute : t .minute < 100
-  pub second : t .second < 100
-  pub micro : t .micro < 1000000
-
-module _ (t : Stamp) (s : Small t) where
+module _ (t : Stamp) (s : Fits t) where
   pub stamp-long : stampIn (textOf t) ≡ t
   unfolding stampIn microIn textOf
   stamp-long =
       rw (
-        four-back (t .date .year) (s .year),
-        month-back (t .date .month) (s .month-from) (s .month-to),
-        two-back (t .date .day) (s .day),
-        two-back (t .hour) (s .hour),
-        two-back (t .minute) (s .minute),
-        two-back (t .second) (s .second),
-        six-back (t .micro) (s .micro),
+        four-back (t .date .year) (s .years),
+        month-back (t .date .month) (s .named .0) (s .named .1),
+        two-back (t .date .day) (s .days),
+        two-back (t .hour) (s .hours),
+        two-back (t .minute) (s .minutes),
+        two-back (t .second) (s .seconds),
+        six-back (t .micro) (s .micros),
       )
 
   pub stamp-short : t .micro ≡ 0 → stampIn (take 20 (textOf t)) ≡ t
   unfolding stampIn microIn textOf
   stamp-short z =
       rw (
-        four-back (t .date .year) (s .year),
-        month-back (t .date .month) (s .month-from) (s .month-to),
-        two-back (t .date .day) (s .day),
-        two-back (t .hour) (s .hour),
-        two-back (t .minute) (s .minute),
-        two-back (t .second) (s .second),
+        four-back (t .date .year) (s .years),
+        month-back (t .date .month) (s .named .0) (s .named .1),
+        two-back (t .date .day) (s .days),
+        two-back (t .hour) (s .hours),
+        two-back (t .minute) (s .minutes),
+        two-back (t .second) (s .seconds),
         sym z,
       )

@@ -5,19 +5,21 @@ use mathlib.Core.List.{List}
 use Prim.Native.Nat.{ℕ}
 use lib.IntN.{ℤ, _+ℤ_}
 use Rattle.axis.specs.Meaning.{Moment, since}
-use Rattle.scales.specs.Meaning.{andThen, inSpan, Judged, given, gives, Outcome, refused, outcome, dated, numberOf, momentAt, timeScale, timeCount}
+use Rattle.scales.specs.Meaning.{andThen, inSpan, Judged, given, gives, Outcome, refused, outcome, dated, numberOf, momentAt, timeScale, timeCount, slipTimed, spanned, recordMoment}
 use Rattle.scales.specs.Order.{onward, then-is}
+use Rattle.scales.specs.Place.{countOf, moment-of}
+use Rattle.scales.specs.Counts.{timed-at, timed-no}
+use Rattle.scales.specs.Same.{time-scale, time-count}
 use Rattle.scales.specs.declared.Scale.{Scale}
 use Rattle.scales.specs.declared.Scale.the-variants as S
 use Rattle.scales.specs.declared.Time.{Time}
+use Rattle.scales.specs.declared.Timed.the-variants as TD
+use Rattle.scales.specs.declared.Record.{Record}
 use Rattle.scales.specs.declared.Refusal.{Refusal}
-use Rattle.handed.specs.declared.Taken.{Taken}
-use Rattle.handed.specs.declared.Taken.the-variants as K
-use Rattle.handed.specs.Meaning.{takenScale}
 use Rattle.leap.specs.Meaning.{seconds, accepted, taiOf, hasMicro, isExpiredDay}
 use Rattle.via_tai.specs.Meaning.{ofCount}
 use Rattle.changes.specs.Meaning.{settled, moving, asked}
-use Rattle.changes.specs.Asked.{takenAsked, list-passes}
+use Rattle.changes.specs.Asked.{recordAsked, list-passes}
 use Rattle.text_read.specs.Meaning.{scaleIn, reading, readingIn}
 use Rattle.text_read.specs.Stage.{ParsesText}
 use Rattle.text_read.specs.declared.Parsed.{Parsed}
@@ -27,14 +29,11 @@ module _ (to : Scale) (ds : List ℤ) (os : List ℕ) (e : ℤ) where
   abbrev pub into : Scale → Moment → Judged Moment
   into z m = moving z to ds os e (inSpan z (m .day) (m .micro)) m
 
-  -- of a time that was taken from a text
-  abbrev pub timeIn : Taken → Judged Moment
-  timeIn t = andThen (takenAsked t ds os e) (into (takenScale t))
+  -- of a record that a text stands for
+  abbrev pub recordIn : Record → Judged Moment
+  recordIn r = andThen (recordAsked r ds os e) (into (r .scale))
 
   module _ (w : accepted ds os e ≡ true) where
-    pub in-outside : (z : Scale) → dated to (refused 7) ≡ dated to (outcome (timeIn (K.Outside z)))
-    in-outside z = sym (rw (list-passes ds os e z (λ h. w)))
-
     -- what was judged once is judged the same again
     once : (a b c : Bool) (k : Judged Moment)
         → outcome (given a 7 (given b 9 (given c 10 k))) ≡ outcome (given a 7 (given b 9 (given c 10 (given a 7 (given b 9 (given c 10 k))))))
@@ -54,9 +53,22 @@ module _ (to : Scale) (ds : List ℤ) (os : List ℕ) (e : ℤ) where
         ∙ sym (rw w)
     twice S.Gps m = again (inSpan S.Gps (m .day) (m .micro)) (settled S.Gps to ds os e m (since (m .day) (m .micro) +ℤ seconds 19))
 
-    pub in-at : (t : Time)
-        → dated to (outcome (ofCount (timeScale t) (timeCount t) (moving (timeScale t) to ds os e))) ≡ dated to (outcome (timeIn (K.At t)))
-    in-at t = ap (dated to) (twice (timeScale t) (momentAt (timeScale t) (timeCount t)))
+    module _ (r : Record) where
+      pub in-at : (t : Time) → slipTimed (TD.At t) ≡ spanned (r .scale) (r .day) (r .micro)
+          → dated to (outcome (ofCount (timeScale t) (timeCount t) (moving (timeScale t) to ds os e))) ≡ dated to (outcome (recordIn r))
+      in-at t q =
+          let k = timed-at (r .scale) (r .day) (r .micro) t q in
+          let n = countOf (r .scale) (r .day) (r .micro) in
+          ap (dated to)
+          (ap (λ (x : Time). outcome (into (timeScale x) (momentAt (timeScale x) (timeCount x)))) (k .1)
+          ∙ ap₂ (λ (z : Scale) (m : ℕ). outcome (into z (momentAt z m))) (time-scale (r .scale) n) (time-count (r .scale) n)
+          ∙ ap (λ (m : Moment). outcome (into (r .scale) m)) (moment-of (r .scale) (r .day) (r .micro) (k .0))
+          ∙ twice (r .scale) (recordMoment r))
+
+      pub in-outside : (f : Refusal) (z : Scale) → slipTimed (TD.Refused f z) ≡ spanned (r .scale) (r .day) (r .micro) → dated to (refused (numberOf f)) ≡ dated to (outcome (recordIn r))
+      in-outside f z q =
+          let k = timed-no (r .scale) (r .day) (r .micro) f z q in
+          ap (λ (g : Refusal). dated to (refused (numberOf g))) (k .1 .0) ∙ sym (rw (list-passes ds os e (r .scale) (λ h. w), k .0))
 
   -- ---- a text that was parsed
   module _ (s : List ℕ) (r : Parsed) (p : ParsesText s r) where
@@ -65,10 +77,10 @@ module _ (to : Scale) (ds : List ℤ) (os : List ℕ) (e : ℤ) where
         let x = subst (ParsesText s) q p .is ds os e in
         ap (dated to) (ap (onward (into (scaleIn s))) x ∙ sym (then-is (reading s ds os e) (into (scaleIn s))))
 
-    pub in-parsed : (t : Taken) → r ≡ P.Time t → dated to (outcome (timeIn t)) ≡ dated to (outcome (readingIn to s ds os e))
+    pub in-parsed : (t : Record) → r ≡ P.Time t → dated to (outcome (recordIn t)) ≡ dated to (outcome (readingIn to s ds os e))
     in-parsed t q =
         let x = subst (ParsesText s) q p .is in
         ap (dated to)
-        (then-is (takenAsked t ds os e) (into (takenScale t))
+        (then-is (recordAsked t ds os e) (into (t .scale))
         ∙ ap₂ (λ (z : Scale) (o : Outcome Moment). onward (into z) o) (x .0) (x .1 ds os e)
         ∙ sym (then-is (reading s ds os e) (into (scaleIn s))))

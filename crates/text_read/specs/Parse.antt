@@ -14,17 +14,15 @@ use Rattle.scales.specs.Place.{and-false, and-both}
 use Rattle.scales.specs.declared.Scale.{Scale}
 use Rattle.scales.specs.declared.Scale.the-variants as S
 use Rattle.scales.specs.declared.Refusal.the-variants as R
-use Rattle.handed.specs.declared.Handed.the-variants as H
 use Rattle.calendar.specs.Meaning.{isDate, dayAfter, dayHanded, dayOfDate}
 use Rattle.calendar.specs.Days.{daysToDate}
 use Rattle.calendar.specs.declared.Date.{Date}
-use Rattle.handed.specs.declared.Taken.{Taken}
-use Rattle.handed.specs.declared.Taken.the-variants as K
-use Rattle.handed.specs.Meaning.{Took}
-use Rattle.handed.specs.Told.{took-scale}
+use Rattle.calendar.specs.Gregorian.{month-bounds}
+use Rattle.calendar.specs.Dates.{real}
+use Rattle.handed.specs.Laid.{outsideOf, outside-span}
 use Rattle.via_tai.specs.Meaning.{isUtc}
-use Rattle.changes.specs.Asked.{took-is}
 use Rattle.text_read.specs.Meaning.{hasMarks, stampIn, inLimits, isBody, isPrefixed, isPlain, hasPrefix, prefixScale, scaleIn, bodyIn, isPrefixRight, stampMicro, reading}
+use Rattle.text_read.specs.Digits.{hasDigits, digits-in}
 use Rattle.text_read.specs.Stage.{Parses, bodyChain, ParsesBody, ParsesText}
 use Rattle.text_fields.specs.declared.Stamp.{Stamp}
 use Rattle.text_read.specs.declared.Parsed.{Parsed}
@@ -97,6 +95,25 @@ module _ (z : Scale) (s : List ℕ) where
   unfolding isBody
   body-marks w = body-lacks (rw w)
 
+  -- limits that hold are those of digits
+  body-fits : isBody z s ≡ true → hasDigits s ≡ true
+  unfolding isBody
+  body-fits e =
+      let a = and-both (hasMarks s) (inLimits z (stampIn s) && isDate (stampIn s .date)) e in
+      let b = and-both (inLimits z (stampIn s)) (isDate (stampIn s .date)) (a .1) in
+      let l = limited z (stampIn s) (b .0) in
+      let r = real (stampIn s .date) (b .1) in
+      let t = stampIn s in
+      digits-in s (omega (arith, r .day-to, month-bounds (t .date .year) (t .date .month) .1)) (omega (arith, r .year-to)) (omega (arith, l .hour)) (omega (arith, l .minute))
+      (omega (arith, l .second)) (l .micro)
+
+  pub body-digits : hasDigits s ≡ false → ParsesBody z s (P.Refused R.FieldOver)
+  body-digits w = body-lacks (go (isBody z s) refl)
+    where
+      go : (b : Bool) → isBody z s ≡ b → isBody z s ≡ false
+      go false p = p
+      go true p = absurd (false≢true (sym w ∙ body-fits p))
+
   pub body-limits : inLimits z (stampIn s) ≡ false → ParsesBody z s (P.Refused R.FieldOver)
   unfolding isBody
   body-limits w = body-lacks (rw w (and-false (hasMarks s)))
@@ -113,25 +130,19 @@ module _ (z : Scale) (s : List ℕ) where
     unfolding isBody
     is-body q = rw (m, l, has date q)
 
-    pub body-outside : (dayOfDate date .number ≡ 3 → ⊥) → (dayOfDate date .number ≡ 0 → ⊥) → ParsesBody z s (P.Time (K.Outside z))
-    body-outside q r = record { is = (refl, λ ds os e. sym (rw (is-body q, ne-eqb (dayOfDate date .number) 0 r))) }
+    pub body-outside : (dayOfDate date .number ≡ 3 → ⊥) → (dayOfDate date .number ≡ 0 → ⊥) → ParsesBody z s (P.Time (outsideOf z))
+    body-outside q r = record { is = (refl, λ ds os e. rw (outside-span z, is-body q, ne-eqb (dayOfDate date .number) 0 r)) }
 
-    pub body-at : (d : ℤ) → dayHanded (answer d) ≡ dayOfDate date → (t : Taken) → Took (H.Record (recordOf z d (stampMicro (stampIn s)))) t → ParsesBody z s (P.Time t)
-    body-at d q t w =
-        let r = H.Record (recordOf z d (stampMicro (stampIn s))) in
+    pub body-at : (d : ℤ) → dayHanded (answer d) ≡ dayOfDate date → ParsesBody z s (P.Time (recordOf z d (stampMicro (stampIn s))))
+    body-at d q =
         let n : dayOfDate date .number ≡ 0 = λ i. sym q i .number in
-        record {
-          is = (
-            took-scale r t w,
-            λ ds os e. took-is ds os e r t w ∙ sym (rw (is-body (λ k. omega arith), sym q)),
-          );
-        }
+        record { is = (refl, λ ds os e. sym (rw (is-body (λ k. omega arith), sym q))) }
 
 -- ---- the whole text
 carried : (z y : Scale) (i j : List ℤ → List ℕ → ℤ → Judged Moment) → z ≡ y → ((ds : List ℤ) (os : List ℕ) (e : ℤ) → outcome (i ds os e) ≡ outcome (j ds os e))
     → (r : Parsed) → Parses z i r → Parses y j r
 carried z y i j p q (P.Refused f) w = λ ds os e. w ds os e ∙ q ds os e
-carried z y i j p q (P.Time t) w = (w .0 ∙ p, λ ds os e. w .1 ds os e ∙ q ds os e)
+carried z y i j p q (P.Time r) w = (w .0 ∙ p, λ ds os e. w .1 ds os e ∙ q ds os e)
 
 module _ (s : List ℕ) where
   pub text-length : isPrefixed s ≡ false → isPlain s ≡ false → ParsesText s (P.Refused R.LengthIsNone)

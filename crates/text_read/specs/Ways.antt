@@ -1,4 +1,4 @@
--- The ways out of reading and of writing: a law for each. Assumes nothing.
+-- The ways out of reading: a law for each. Assumes nothing.
 use mathlib.Core.Path.{_≡_, sym, ap, ap₂, subst, _∙_}
 use mathlib.Core.Bool.{true, not, _&&_}
 use mathlib.Core.List.{List}
@@ -11,10 +11,9 @@ use Rattle.scales.specs.declared.Scale.the-variants as S
 use Rattle.scales.specs.declared.Record.{Record}
 use Rattle.scales.specs.declared.Refusal.{Refusal}
 use Rattle.scales.specs.declared.Dated.the-variants as D
-use Rattle.handed.specs.declared.Taken.{Taken}
-use Rattle.handed.specs.Meaning.{takenScale}
 use Rattle.leap.specs.Meaning.{accepted}
-use Rattle.changes.specs.Asked.{timeUsesList, takenAsked, list-lacks, slip-refused, lacking}
+use Rattle.via_tai.specs.Meaning.{isUtc}
+use Rattle.changes.specs.Asked.{recordAsked, list-lacks, slip-refused, lacking}
 use Rattle.text_read.specs.Meaning.{datedIn, scaleIn, readText}
 use Rattle.text_read.specs.Stage.{ParsesText}
 use Rattle.text_read.specs.declared.Parsed.{Parsed}
@@ -37,11 +36,11 @@ module _ (s : List ℕ) (ds : List ℤ) (os : List ℕ) (e : ℤ) (r : Parsed) (
   unfolding readText
   read-refused f q = ap (datedIn (scaleIn s)) (subst (ParsesText s) q w .is ds os e)
 
-  pub read-parsed : (t : Taken) → r ≡ P.Time t → datedIn (takenScale t) (outcome (takenAsked t ds os e)) ≡ readText s ds os e
+  pub read-parsed : (t : Record) → r ≡ P.Time t → datedIn (t .scale) (outcome (recordAsked t ds os e)) ≡ readText s ds os e
   unfolding readText
   read-parsed t q = let x = subst (ParsesText s) q w in ap₂ datedIn (x .is .0) (x .is .1 ds os e)
 
-  pub read-lacks : (t : Taken) → r ≡ P.Time t → (timeUsesList t && not (accepted ds os e)) ≡ true → dated S.Tai (refused 5) ≡ readText s ds os e
+  pub read-lacks : (t : Record) → r ≡ P.Time t → (isUtc (t .scale) && not (accepted ds os e)) ≡ true → dated S.Tai (refused 5) ≡ readText s ds os e
   read-lacks t q l =
-      let x = lacking (timeUsesList t) (accepted ds os e) l in
-      ap (datedIn (takenScale t)) (sym (list-lacks ds os e t (x .0) (x .1))) ∙ read-parsed t q
+      let x = lacking (isUtc (t .scale)) (accepted ds os e) l in
+      ap (datedIn (t .scale)) (sym (list-lacks ds os e t (x .0) (x .1))) ∙ read-parsed t q

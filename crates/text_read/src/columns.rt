@@ -1,97 +1,126 @@
-// The fields of a text by their places. A byte that is no digit leads over every limit.
+// The fields of a text by their places.
 ghost use mathlib.Core.Path.{_≡_};
 ghost use mathlib.Core.Bool.{true, _||_};
 ghost use Prim.Native.Nat.{_≤_, _<_};
 ghost use lib.Dec.{eqb};
 ghost use lib.ListN.{length};
-ghost use Rattle.text_fields.specs.Meaning.{names};
-ghost use Rattle.text_read.specs.Meaning.{digitOf, twoOf, fourOf, sixOf, isNamed, monthNamed, hasMarks, microIn, stampIn, inLimits, hasPrefix, prefixScale, stampMicro};
+ghost use Rattle.text_read.specs.Meaning.{digitOf, twoOf, fourOf, sixOf, monthNamed, hasMarks, microIn, stampIn, inLimits, hasPrefix, prefixScale, stampMicro};
+ghost use Rattle.text_read.specs.Digits.{isDigit, areTwo, areFour, areSix, hasMicros, hasDigits};
 use calendar::Date;
 use scales::Scale;
 use text_fields::Stamp;
 
-fn digit(b: u8) -> u64
-    ensures { λ r. ⌜ r ≡ digitOf b ⌝ }
+// ---- digits
+
+fn is_digit(b: u8) -> bool
+    ensures { λ r. ⌜ r ≡ isDigit b ⌝ }
 {
     if b < 48 {
-        return 10;
+        return false;
     }
-    if 57 < b {
-        return 10;
+    b <= 57
+}
+
+fn are_two(a: u8, b: u8) -> bool
+    ensures { λ r. ⌜ r ≡ areTwo a b ⌝ }
+{
+    if !is_digit(a) {
+        return false;
     }
+    is_digit(b)
+}
+
+fn are_four(a: u8, b: u8, c: u8, d: u8) -> bool
+    ensures { λ r. ⌜ r ≡ areFour a b c d ⌝ }
+{
+    if !are_two(a, b) {
+        return false;
+    }
+    are_two(c, d)
+}
+
+fn are_six(a: u8, b: u8, c: u8, d: u8, e: u8, f: u8) -> bool
+    ensures { λ r. ⌜ r ≡ areSix a b c d e f ⌝ }
+{
+    if !are_four(a, b, c, d) {
+        return false;
+    }
+    are_two(e, f)
+}
+
+// The digits of all fields, and the point of the long texts: each field is a plain number after this test.
+pub fn has_digits(s: &[u8]) -> bool
+    requires { ⌜ 20 ≤ length (now s) ⌝ }
+    ensures { λ r. ⌜ r ≡ hasDigits (now (s .entry)) ⌝ }
+{
+    if !are_two(s[0], s[1]) {
+        return false;
+    }
+    if !are_four(s[7], s[8], s[9], s[10]) {
+        return false;
+    }
+    if !are_six(s[12], s[13], s[15], s[16], s[18], s[19]) {
+        return false;
+    }
+    if s.len() < 27 {
+        return true;
+    }
+    if s[20] != b'.' {
+        return false;
+    }
+    are_six(s[21], s[22], s[23], s[24], s[25], s[26])
+}
+
+fn digit(b: u8) -> u64
+    requires { ⌜ isDigit b ≡ true ⌝ }
+    ensures { λ r. ⌜ (r ≡ digitOf b) × (r < 10) ⌝ }
+{
     (b - 48) as u64
 }
 
 fn two(a: u8, b: u8) -> u64
-    ensures { λ r. ⌜ r ≡ twoOf a b ⌝ }
+    requires { ⌜ areTwo a b ≡ true ⌝ }
+    ensures { λ r. ⌜ (r ≡ twoOf a b) × (r < 100) ⌝ }
 {
-    let x = digit(a);
-    let y = digit(b);
-    if 10 <= x {
-        return 100;
-    }
-    if 10 <= y {
-        return 100;
-    }
-    x * 10 + y
+    digit(a) * 10 + digit(b)
 }
 
 fn four(a: u8, b: u8, c: u8, d: u8) -> u64
-    ensures { λ r. ⌜ r ≡ fourOf a b c d ⌝ }
+    requires { ⌜ areFour a b c d ≡ true ⌝ }
+    ensures { λ r. ⌜ (r ≡ fourOf a b c d) × (r < 10000) ⌝ }
 {
-    let x = two(a, b);
-    let y = two(c, d);
-    if 100 <= x {
-        return 10_000;
-    }
-    if 100 <= y {
-        return 10_000;
-    }
-    x * 100 + y
+    two(a, b) * 100 + two(c, d)
 }
 
 fn six(a: u8, b: u8, c: u8, d: u8, e: u8, f: u8) -> u64
-    ensures { λ r. ⌜ r ≡ sixOf a b c d e f ⌝ }
+    requires { ⌜ areSix a b c d e f ≡ true ⌝ }
+    ensures { λ r. ⌜ (r ≡ sixOf a b c d e f) × (r < 1000000) ⌝ }
 {
-    let x = four(a, b, c, d);
-    let y = two(e, f);
-    if 10_000 <= x {
-        return 1_000_000;
-    }
-    if 100 <= y {
-        return 1_000_000;
-    }
-    x * 100 + y
+    four(a, b, c, d) * 100 + two(e, f)
 }
 
-// Do three letters name month m?
-fn is_named(t: &[u8; 36], m: usize, a: u8, b: u8, c: u8) -> bool
-    requires { ⌜ (now t ≡ names) × (1 ≤ m) × (m ≤ 12) ⌝ }
-    ensures { λ r. ⌜ r ≡ isNamed m a b c ⌝ }
-{
-    let k = (m - 1) * 3;
-    if a != t[k] {
-        return false;
-    }
-    if b != t[k + 1] {
-        return false;
-    }
-    c == t[k + 2]
-}
+// ---- the fields
 
-// The month that three letters name, and 0 where they name none.
+// The month that three letters name, and 0 where they name none: the letters as one number.
 fn month_of(a: u8, b: u8, c: u8) -> u64
     ensures { λ r. ⌜ r ≡ monthNamed a b c ⌝ }
 {
-    let t = text_fields::inner::month_names();
-    let mut m: usize = 1;
-    while m <= 12 {
-        if is_named(&t, m, a, b, c) {
-            return m as u64;
-        }
-        m += 1;
+    let key = (a as u32 * 256 + b as u32) * 256 + c as u32;
+    match key {
+        0x4A414E => 1, // JAN
+        0x464542 => 2, // FEB
+        0x4D4152 => 3, // MAR
+        0x415052 => 4, // APR
+        0x4D4159 => 5, // MAY
+        0x4A554E => 6, // JUN
+        0x4A554C => 7, // JUL
+        0x415547 => 8, // AUG
+        0x534550 => 9, // SEP
+        0x4F4354 => 10, // OCT
+        0x4E4F56 => 11, // NOV
+        0x444543 => 12, // DEC
+        _ => 0,
     }
-    0
 }
 
 pub fn has_marks(s: &[u8]) -> bool
@@ -114,19 +143,17 @@ pub fn has_marks(s: &[u8]) -> bool
 }
 
 fn micro_in(s: &[u8]) -> u64
+    requires { ⌜ hasMicros (now s) ≡ true ⌝ }
     ensures { λ r. ⌜ r ≡ microIn (now (s .entry)) ⌝ }
 {
     if s.len() < 27 {
         return 0;
     }
-    if s[20] != b'.' {
-        return 1_000_000;
-    }
     six(s[21], s[22], s[23], s[24], s[25], s[26])
 }
 
 pub fn stamp_in(s: &[u8]) -> Stamp
-    requires { ⌜ 20 ≤ length (now s) ⌝ }
+    requires { ⌜ (20 ≤ length (now s)) × (hasDigits (now s) ≡ true) ⌝ }
     ensures { λ r. ⌜ r ≡ stampIn (now (s .entry)) ⌝ }
 {
     let day = two(s[0], s[1]);
@@ -147,19 +174,16 @@ pub fn stamp_in(s: &[u8]) -> Stamp
 
 // Second 60 only in UTC and only after 23:59.
 pub fn in_limits(z: Scale, t: Stamp) -> bool
+    requires { ⌜ t .micro < 1000000 ⌝ }
     ensures { λ r. ⌜ r ≡ inLimits z t ⌝ }
 {
     let h = t.hour;
     let m = t.minute;
     let s = t.second;
-    let u = t.micro;
     if 23 < h {
         return false;
     }
     if 59 < m {
-        return false;
-    }
-    if 1_000_000 <= u {
         return false;
     }
     if s <= 59 {

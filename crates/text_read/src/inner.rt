@@ -4,21 +4,20 @@ ghost use mathlib.Core.Bool.{true};
 ghost use Prim.Native.Nat.{_≤_};
 ghost use lib.ListN.{length};
 ghost use Rattle.scales.specs.Meaning.{slip, outcome, dated};
-ghost use Rattle.handed.specs.Meaning.{takenScale};
 ghost use Rattle.leap.specs.Meaning.{accepted};
-ghost use Rattle.changes.specs.Asked.{timeUsesList, takenAsked};
+ghost use Rattle.via_tai.specs.Meaning.{isUtc};
+ghost use Rattle.changes.specs.Asked.{recordAsked};
 ghost use Rattle.text_read.specs.Meaning.{readingIn, datedIn};
-ghost use Rattle.text_read.specs.In.{timeIn};
+ghost use Rattle.text_read.specs.In.{recordIn};
 ghost use Rattle.text_read.specs.Stage.{ParsesBody, ParsesText};
 use super::Parsed;
 use super::columns;
 use calendar::DayAnswer;
-use handed::Handed;
-use handed::Taken;
 use scales::Dated;
 use scales::Record;
 use scales::Refusal;
 use scales::Scale;
+use scales::Timed;
 
 // ---- what a text stands for
 
@@ -30,21 +29,21 @@ fn parse_body(z: Scale, s: &[u8]) -> Parsed
     if !columns::has_marks(s) {
         return Parsed::Refused(Refusal::FieldOver);
     }
+    if !columns::has_digits(s) {
+        return Parsed::Refused(Refusal::FieldOver);
+    }
     let t = columns::stamp_in(s);
     if !columns::in_limits(z, t) {
         return Parsed::Refused(Refusal::FieldOver);
     }
     let date = t.date;
     match calendar::day_of(date) {
-        DayAnswer::Day(day) => {
-            let r = Record::new(z, day, columns::micro_of(t));
-            Parsed::Time(handed::take(Handed::Record(r)))
-        }
+        DayAnswer::Day(day) => Parsed::Time(Record::new(z, day, columns::micro_of(t))),
         DayAnswer::Refused(f) => {
             if f.number() == 3 {
                 return Parsed::Refused(Refusal::FieldOver);
             }
-            Parsed::Time(Taken::Outside(z))
+            Parsed::Time(handed::inner::outside(z))
         }
     }
 }
@@ -69,26 +68,25 @@ pub(crate) fn parse(text: &[u8]) -> Parsed
 // ---- reading
 
 // A refused reading gives the empty TAI record.
-pub fn read_time(t: Taken, days: &[i64], offsets: &[u64], last: i64) -> Dated
-    requires { ⌜ (timeUsesList t ≡ true → accepted (now days) (now offsets) last ≡ true) ⌝ }
-    ensures { λ r. ⌜ slip r ≡ datedIn (takenScale t) (outcome (takenAsked t (now (days .entry)) (now (offsets .entry)) last)) ⌝ }
+pub fn read_time(r: Record, days: &[i64], offsets: &[u64], last: i64) -> Dated
+    requires { ⌜ (isUtc (r .scale) ≡ true → accepted (now days) (now offsets) last ≡ true) ⌝ }
+    ensures { λ d. ⌜ slip d ≡ datedIn (r .scale) (outcome (recordAsked r (now (days .entry)) (now (offsets .entry)) last)) ⌝ }
 {
-    match changes::inner::judge(t, days, offsets, last) {
-        Dated::At(r) => Dated::At(r),
+    match changes::inner::judge(r, days, offsets, last) {
+        Dated::At(t) => Dated::At(t),
         Dated::Refused(f, _) => Dated::Refused(f, Scale::Tai),
     }
 }
 
 // ---- reading in a scale that is wanted
 
-fn time_in(t: Taken, to: Scale, days: &[i64], offsets: &[u64], last: i64) -> Dated
+fn record_in(r: Record, to: Scale, days: &[i64], offsets: &[u64], last: i64) -> Dated
     requires { ⌜ accepted (now days) (now offsets) last ≡ true ⌝ }
-    ensures { λ r. ⌜ slip r ≡ dated to (outcome (timeIn to (now (days .entry)) (now (offsets .entry)) last t)) ⌝ }
+    ensures { λ d. ⌜ slip d ≡ dated to (outcome (recordIn to (now (days .entry)) (now (offsets .entry)) last r)) ⌝ }
 {
-    match t {
-        Taken::NotFinite(_) => Dated::Refused(Refusal::DecimalNotFinite, to),
-        Taken::Outside(_) => Dated::Refused(Refusal::OutsideSpan, to),
-        Taken::At(n) => changes::inner::change(n, to, days, offsets, last),
+    match r.to_time() {
+        Timed::At(t) => changes::inner::change(t, to, days, offsets, last),
+        Timed::Refused(f, _) => Dated::Refused(f, to),
     }
 }
 
@@ -98,6 +96,6 @@ pub fn read_in(text: &[u8], to: Scale, days: &[i64], offsets: &[u64], last: i64)
 {
     match parse(text) {
         Parsed::Refused(f) => Dated::Refused(f, to),
-        Parsed::Time(t) => time_in(t, to, days, offsets, last),
+        Parsed::Time(r) => record_in(r, to, days, offsets, last),
     }
 }

@@ -2,18 +2,18 @@
 ghost use mathlib.Core.Path.{_≡_};
 ghost use Rattle.scales.specs.Meaning.{slip};
 ghost use Rattle.text_read.specs.Meaning.{readText};
-use handed::Taken;
 use scales::Dated;
+use scales::Record;
 use scales::Refusal;
 use scales::Scale;
 
 mod columns;
 pub mod inner;
 
-// A text that is refused for what stands in it alone, or the time that it stands for.
+// A text that is refused for what stands in it alone, or the record that it stands for, which nothing has judged yet.
 pub enum Parsed {
     Refused(Refusal),
-    Time(Taken),
+    Time(Record),
 }
 
 // The time that a text stands for, in the text's scale.
@@ -22,12 +22,13 @@ pub fn read(text: &[u8], days: &[i64], offsets: &[u64], last: i64) -> Dated
 {
     match inner::parse(text) {
         Parsed::Refused(f) => Dated::Refused(f, Scale::Tai),
-        Parsed::Time(t) => {
-            let used = changes::inner::time_uses_list(t);
+        Parsed::Time(r) => {
+            let scale = r.scale;
+            let used = changes::inner::is_utc(scale);
             if changes::inner::lacks_list(used, days, offsets, last) {
                 return Dated::Refused(Refusal::ListNotAccepted, Scale::Tai);
             }
-            inner::read_time(t, days, offsets, last)
+            inner::read_time(r, days, offsets, last)
         }
     }
 }

@@ -1,123 +1,119 @@
--- Laws of an image that is put onto a slice, and onto the rest of it after a prefix. Assumes nothing.
-use mathlib.Core.Path.{_≡_, refl, sym, ap, _∙_}
-use mathlib.Core.Bool.{Bool, true, false}
-use mathlib.Core.List.{List, [], _∷_, _++_}
-use Prim.Native.Nat.{ℕ, _+_, _-_, _*_, _/_, _≤_, _<_}
-use native.Mathlib.Nat.{add-zero}
+-- Laws of the image of a text: its bytes, and how it stands on a slice. Assumes nothing.
+use mathlib.Core.Path.{_≡_, refl, sym, ap, ap₂, _∙_}
+use mathlib.Core.Bool.{Bool, true, false, cond}
+use mathlib.Core.List.{List, [], _++_}
+use Prim.Native.Nat.{ℕ, _+_, _≤_, _<_}
 use native.Mathlib.Omega.{arith}
-use lib.ListN.{length, getD, take, drop, length-append}
-use borrow.Author.Tests.{le-leb, lt-leb, leb-true, leb-false}
-use Rattle.octets.specs.Meaning.{hasRoom, onto}
-use Rattle.octets.specs.Place.{onto-none, rest-room, rest-none, rest-front}
+use lib.ListN.{length, getD, set, take, drop, length-append, length-drop}
+use lib.Seq.{sets}
+use borrow.Author.Tests.{le-leb, lt-leb}
+use Rattle.octets.specs.Meaning.{onto}
+use Rattle.octets.specs.Place.{onto-room, length-onto, rest-onto}
 use Rattle.scales.specs.Meaning.{wrote}
-use Rattle.scales.specs.Same.{refusals, no-zero}
 use Rattle.scales.specs.declared.Scale.{Scale}
 use Rattle.scales.specs.declared.Scale.the-variants as S
-use Rattle.scales.specs.declared.Refusal.{Refusal}
 use Rattle.scales.specs.declared.Refusal.the-variants as R
 use Rattle.scales.specs.declared.Written.the-variants as W
-use Rattle.text_write.specs.Meaning.{tens, units, textOf, bodyOf}
-use Rattle.text_write.specs.Stage.{putting}
 use Rattle.text_fields.specs.declared.Stamp.{Stamp}
-use Rattle.text_fields.specs.Meaning.{prefixOf, names, letter}
+use Rattle.text_fields.specs.Meaning.{prefixOf}
+use Rattle.text_write.specs.Meaning.{textOf, bodyOf, hasMicros, showsScale, fullText}
+use Rattle.text_write.specs.Stage.{putting}
+use Rattle.text_write.specs.Columns.{front-put}
+use Rattle.text_write.specs.declared.Form.{Form}
+use Rattle.text_write.specs.declared.Form.the-variants as F
 
-module _ (image out : List ℕ) where
-  pub put-done : hasRoom image out ≡ true → wrote (W.Bytes (length image)) (onto image out) ≡ putting image out
-  unfolding putting onto
-  put-done e = rw e
+-- ---- how many bytes
+abbrev pub sizeOf : Form → ℕ
+sizeOf F.Plain = 20
+sizeOf F.Micros = 27
+sizeOf F.Prefixed = 24
+sizeOf F.PrefixedMicros = 31
 
-  pub put-none : hasRoom image out ≡ false → wrote (W.Refused R.OutputShorter) (onto image out) ≡ putting image out
-  unfolding putting onto
-  put-none e = rw e
-
-  -- ---- what an answer tells
-  pub record Put (n : ℕ) (left : List ℕ) : Type 0 where
-    pub room : hasRoom image out ≡ true
-    pub size : n ≡ length image
-    pub lent : left ≡ onto image out
-
-  pub put-bytes : (n : ℕ) (left : List ℕ) → wrote (W.Bytes n) left ≡ putting image out → Put n left
-  put-bytes n left q = go (hasRoom image out) refl
-    where
-      go : (b : Bool) → hasRoom image out ≡ b → Put n left
-      go true e = let p = q ∙ sym (put-done e) in record { room = e; size = λ i. p i .length; lent = λ i. p i .lent }
-      go false e = absurd (let p = q ∙ sym (put-none e) in let z : _≡_ {A = ℕ} 0 13 = λ i. p i .number in omega arith)
-
-  pub record Kept (f : Refusal) (left : List ℕ) : Type 0 where
-    pub room : hasRoom image out ≡ false
-    pub why : f ≡ R.OutputShorter
-    pub lent : left ≡ onto image out
-
-  pub put-refused : (f : Refusal) (left : List ℕ) → wrote (W.Refused f) left ≡ putting image out → Kept f left
-  put-refused f left q = go (hasRoom image out) refl
-    where
-      go : (b : Bool) → hasRoom image out ≡ b → Kept f left
-      go true e = absurd (let p = q ∙ sym (put-done e) in no-zero f (λ i. p i .number))
-      go false e = let p = q ∙ sym (put-none e) in record { room = e; why = refusals f R.OutputShorter (λ i. p i .number); lent = λ i. p i .lent }
-
--- ---- a prefix of four bytes
 pub prefix-length : (z : Scale) → length (prefixOf z) ≡ 4
 unfolding prefixOf
 prefix-length S.Tai = refl
 prefix-length S.Utc = refl
 prefix-length S.Gps = refl
 
-module _ (z : Scale) (body out : List ℕ) where
-  size : length (prefixOf z ++ body) ≡ 4 + length body
-  size = length-append (prefixOf z) body ∙ ap (λ (n : ℕ). n + length body) (prefix-length z)
+-- the prefix that a form has
+abbrev pub prefixIn : Form → Scale → List ℕ
+prefixIn f z = cond (showsScale f) (prefixOf z) []
 
-  none : length out < 4 + length body → wrote (W.Refused R.OutputShorter) out ≡ putting (prefixOf z ++ body) out
-  none h =
-      let l : length out < length (prefixOf z ++ body) = omega (arith, size) in
-      ap (wrote (W.Refused R.OutputShorter)) (sym (onto-none (prefixOf z ++ body) out l)) ∙ put-none (prefixOf z ++ body) out (lt-leb _ _ l)
-
-  pub prefix-short : length out < 4 → wrote (W.Refused R.OutputShorter) out ≡ putting (prefixOf z ++ body) out
-  prefix-short h = none (omega arith)
-
-  module _ (h : 4 ≤ length out) (left : List ℕ) where
-    -- the rest had no room
-    pub prefix-none : (f : Refusal) → wrote (W.Refused f) left ≡ putting body (drop 4 out) → wrote (W.Refused f) (take 4 out ++ left) ≡ putting (prefixOf z ++ body) out
-    prefix-none f q =
-        let k = put-refused body (drop 4 out) f left q in
-        let m : length out < 4 + length body = leb-false (4 + length body) (length out) (sym (rest-room 4 (length body) out h) ∙ k .room) in
-        rw (k .why, k .lent, rest-none 4 body out h m) (none m)
-
-    -- the rest was filled, and then the prefix
-    pub prefix-done : (n : ℕ) → wrote (W.Bytes n) left ≡ putting body (drop 4 out)
-        → wrote (W.Bytes (n + 4)) (onto (prefixOf z) (take 4 out ++ left)) ≡ putting (prefixOf z ++ body) out
-    prefix-done n q =
-        let k = put-bytes body (drop 4 out) n left q in
-        let m : 4 + length body ≤ length out = leb-true (4 + length body) (length out) (sym (rest-room 4 (length body) out h) ∙ k .room) in
-        let l : n + 4 ≡ length (prefixOf z ++ body) = omega (arith, size, k .size) in
-        rw (l, k .lent, rest-front 4 (prefixOf z) body out (prefix-length z) m)
-        (put-done (prefixOf z ++ body) out (le-leb (length (prefixOf z ++ body)) (length out) (omega (arith, size))))
-
-    pub rest-small : (n : ℕ) → wrote (W.Bytes n) left ≡ putting body (drop 4 out) → n ≡ length body
-    rest-small n q = put-bytes body (drop 4 out) n left q .size
-
--- ---- the bytes of a text, each as it was made
-pub text-is : (t : Stamp) (n : List ℕ) → n ≡ names →
-    (a0 b0 : ℕ) → a0 ≡ tens (t .date .day) → b0 ≡ units (t .date .day) →
-    (a1 b1 : ℕ) → a1 ≡ tens (t .date .year / 100) → b1 ≡ units (t .date .year / 100) →
-    (a2 b2 : ℕ) → a2 ≡ tens (t .date .year) → b2 ≡ units (t .date .year) →
-    (a3 b3 : ℕ) → a3 ≡ tens (t .hour) → b3 ≡ units (t .hour) →
-    (a4 b4 : ℕ) → a4 ≡ tens (t .minute) → b4 ≡ units (t .minute) →
-    (a5 b5 : ℕ) → a5 ≡ tens (t .second) → b5 ≡ units (t .second) →
-    (a6 b6 : ℕ) → a6 ≡ tens (t .micro / 10000) → b6 ≡ units (t .micro / 10000) →
-    (a7 b7 : ℕ) → a7 ≡ tens (t .micro / 100) → b7 ≡ units (t .micro / 100) →
-    (a8 b8 : ℕ) → a8 ≡ tens (t .micro) → b8 ≡ units (t .micro) →
-    a0 ∷ b0 ∷ 45 ∷ getD n ((t .date .month - 1) * 3) 0 ∷ getD n ((t .date .month - 1) * 3 + 1) 0 ∷ getD n ((t .date .month - 1) * 3 + 2) 0 ∷ 45
-    ∷ a1 ∷ b1 ∷ a2 ∷ b2 ∷ 32 ∷ a3 ∷ b3 ∷ 58 ∷ a4 ∷ b4 ∷ 58 ∷ a5 ∷ b5 ∷ 46 ∷ a6 ∷ b6 ∷ a7 ∷ b7 ∷ a8 ∷ b8 ∷ []
-    ≡ textOf t
-unfolding textOf letter
-text-is t n w a0 b0 p0 q0 a1 b1 p1 q1 a2 b2 p2 q2 a3 b3 p3 q3 a4 b4 p4 q4 a5 b5 p5 q5 a6 b6 p6 q6 a7 b7 p7 q7 a8 b8 p8 q8 =
-    rw (w, p0, q0, p1, q1, p2, q2, p3, q3, p4, q4, p5, q5, p6, q6, p7, q7, p8, q8, add-zero)
-
-pub text-length : (t : Stamp) → length (textOf t) ≡ 27
+pub size-is : (f : Form) (z : Scale) (t : Stamp) → length (fullText f z t) ≡ sizeOf f
 unfolding textOf
-text-length t = refl
+size-is F.Plain z t = refl
+size-is F.Micros z t = refl
+size-is F.Prefixed z t = length-append (prefixOf z) _ ∙ ap (λ (n : ℕ). n + 20) (prefix-length z)
+size-is F.PrefixedMicros z t = length-append (prefixOf z) _ ∙ ap (λ (n : ℕ). n + 27) (prefix-length z)
 
-pub body-small : (micros : Bool) (t : Stamp) → length (bodyOf micros t) ≤ 27
-unfolding textOf
-body-small true t = omega arith
-body-small false t = omega arith
+-- the prefix, and then the rest
+full-is : (f : Form) (z : Scale) (t : Stamp) → fullText f z t ≡ prefixIn f z ++ bodyOf (hasMicros f) t
+full-is f z t = go (showsScale f)
+  where
+    go : (b : Bool) → cond b (prefixOf z ++ bodyOf (hasMicros f) t) (bodyOf (hasMicros f) t) ≡ cond b (prefixOf z) [] ++ bodyOf (hasMicros f) t
+    go true = refl
+    go false = refl
+
+-- ---- the prefix, as it was put
+copied : (z : Scale) (out p : List ℕ) → p ≡ prefixOf z
+    → set (set (set (set out 0 (getD p 0 0)) 1 (getD p 1 0)) 2 (getD p 2 0)) 3 (getD p 3 0) ≡ sets out 0 (prefixOf z)
+unfolding prefixOf
+copied S.Tai out p e = rw e
+copied S.Utc out p e = rw e
+copied S.Gps out p e = rw e
+
+module _ (f : Form) (z : Scale) (out : List ℕ) where
+  pub prefix-none : showsScale f ≡ false → (0 ≡ length (prefixIn f z)) × (out ≡ onto (prefixIn f z) out)
+  prefix-none q =
+      let e : prefixIn f z ≡ [] = rw q in
+      (ap length (sym e), sym (ap (λ (x : List ℕ). onto x out) e ∙ onto-room [] out (omega arith)))
+
+  module _ (q : showsScale f ≡ true) where
+    prefix-is : prefixIn f z ≡ prefixOf z
+    prefix-is = rw q
+
+    pub prefix-room : length (prefixIn f z) ≤ length out → 4 ≤ length out
+    prefix-room h = omega (arith, ap length prefix-is, prefix-length z)
+
+    pub prefix-put : length (prefixIn f z) ≤ length out → (p : List ℕ) → p ≡ prefixOf z →
+        (4 ≡ length (prefixIn f z)) × (set (set (set (set out 0 (getD p 0 0)) 1 (getD p 1 0)) 2 (getD p 2 0)) 3 (getD p 3 0) ≡ onto (prefixIn f z) out)
+    prefix-put h p e =
+        let l : length (prefixOf z) ≤ length out = omega (arith, ap length prefix-is) in
+        (omega (arith, ap length prefix-is, prefix-length z), copied z out p e ∙ front-put (prefixOf z) out l ∙ ap (λ (x : List ℕ). onto x out) (sym prefix-is))
+
+-- ---- the whole text
+module _ (f : Form) (z : Scale) (t : Stamp) (out : List ℕ) (n : ℕ) (size : n ≡ sizeOf f) where
+  pub text-short : length out < n → wrote (W.Refused R.OutputShorter) out ≡ putting (fullText f z t) out
+  unfolding putting
+  text-short h = sym (rw (lt-leb (length (fullText f z t)) (length out) (omega (arith, size, size-is f z t))))
+
+  module _ (h : n ≤ length out) where
+    abbrev front : List ℕ
+    front = prefixIn f z
+
+    abbrev body : List ℕ
+    body = bodyOf (hasMicros f) t
+
+    room : length front + length body ≤ length out
+    room = omega (arith, size, sym (ap length (full-is f z t)) ∙ size-is f z t, length-append front body)
+
+    pub front-room : length front ≤ length out
+    front-room = omega (arith, room)
+
+    -- what is lent after the prefix, and the slice when it was filled
+    module _ (k : ℕ) (ek : k ≡ length front) (p : List ℕ) (ep : p ≡ onto front out) where
+      pub from-room : k ≤ length p
+      from-room = omega (arith, room, ap length ep, length-onto front out)
+
+      pub rest-room : length body ≤ length (drop k p)
+      rest-room = omega (arith, room, ap length ep, length-onto front out, length-drop k p)
+
+      pub text-put : (b : List ℕ) → b ≡ onto body (drop k p) → wrote (W.Bytes n) (take k p ++ b) ≡ putting (fullText f z t) out
+      unfolding putting
+      text-put b eb =
+          let l : length (fullText f z t) ≤ length out = omega (arith, size, size-is f z t) in
+          let o : take k p ++ b ≡ onto (front ++ body) out =
+          ap (λ (s : List ℕ). take k p ++ s) eb ∙ rw (ep) (rest-onto k front body out (sym ek) (omega (arith, room))) in
+          ap₂ (λ (i : ℕ) (s : List ℕ). wrote (W.Bytes i) s) (size ∙ sym (size-is f z t))
+          (o ∙ ap (λ (x : List ℕ). onto x out) (sym (full-is f z t)) ∙ onto-room (fullText f z t) out l)
+          ∙ sym (rw (le-leb (length (fullText f z t)) (length out) l))

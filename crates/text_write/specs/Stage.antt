@@ -6,9 +6,8 @@ use Rattle.axis.specs.Meaning.{Moment}
 use Rattle.octets.specs.Meaning.{hasRoom}
 use Rattle.scales.specs.Meaning.{andThen, given, gives, outcome, Wrote, written}
 use Rattle.scales.specs.declared.Scale.{Scale}
-use Rattle.handed.specs.declared.Taken.{Taken}
-use Rattle.handed.specs.Meaning.{takenScale}
-use Rattle.changes.specs.Asked.{takenAsked}
+use Rattle.scales.specs.declared.Record.{Record}
+use Rattle.changes.specs.Asked.{recordAsked}
 use Rattle.text_write.specs.Meaning.{imaging}
 use Rattle.text_write.specs.declared.Form.{Form}
 
@@ -19,5 +18,5 @@ putting image out = written out (outcome (given (hasRoom image out) 13 (gives im
 unfoldable pub imaged : Form → Scale → Moment → List ℕ → Wrote ℕ
 imaged f z m out = written out (outcome (imaging f z m out))
 
-unfoldable pub writtenOf : Taken → Form → List ℤ → List ℕ → ℤ → List ℕ → Wrote ℕ
-writtenOf t f ds os e out = written out (outcome (andThen (takenAsked t ds os e) (λ (m : Moment). imaging f (takenScale t) m out)))
+unfoldable pub writtenOf : Record → Form → List ℤ → List ℕ → ℤ → List ℕ → Wrote ℕ
+writtenOf r f ds os e out = written out (outcome (andThen (recordAsked r ds os e) (λ (m : Moment). imaging f (r .scale) m out)))

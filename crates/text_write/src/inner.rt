@@ -4,13 +4,11 @@ ghost use mathlib.Core.Bool.{true, _||_};
 ghost use Rattle.scales.specs.Meaning.{wrote, inSpan, recordMoment};
 ghost use Rattle.leap.specs.Meaning.{accepted};
 ghost use Rattle.via_tai.specs.Meaning.{isUtc};
-ghost use Rattle.changes.specs.Asked.{timeUsesList};
 ghost use Rattle.text_write.specs.Meaning.{showsScale, hasImage};
 ghost use Rattle.text_write.specs.Stage.{imaged, writtenOf};
 use super::Form;
 use super::image;
 use calendar::DateAnswer;
-use handed::Taken;
 use scales::Dated;
 use scales::Record;
 use scales::Refusal;
@@ -56,18 +54,18 @@ pub fn write_record(r: Record, form: Form, out: &mut [u8]) -> Written
 }
 
 pub fn write_time(
-    t: Taken,
+    r: Record,
     form: Form,
     days: &[i64],
     offsets: &[u64],
     last: i64,
     out: &mut [u8],
 ) -> Written
-    requires { ⌜ (timeUsesList t ≡ true → accepted (now days) (now offsets) last ≡ true) ⌝ }
-    ensures { λ w. ⌜ wrote w (now (out .exit)) ≡ writtenOf t form (now (days .entry)) (now (offsets .entry)) last (now (out .entry)) ⌝ }
+    requires { ⌜ (isUtc (r .scale) ≡ true → accepted (now days) (now offsets) last ≡ true) ⌝ }
+    ensures { λ w. ⌜ wrote w (now (out .exit)) ≡ writtenOf r form (now (days .entry)) (now (offsets .entry)) last (now (out .entry)) ⌝ }
 {
-    match changes::inner::judge(t, days, offsets, last) {
-        Dated::At(r) => write_record(r, form, out),
+    match changes::inner::judge(r, days, offsets, last) {
+        Dated::At(t) => write_record(t, form, out),
         Dated::Refused(f, _) => Written::Refused(f),
     }
 }

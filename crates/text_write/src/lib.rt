@@ -3,6 +3,7 @@ ghost use mathlib.Core.Path.{_≡_};
 ghost use Rattle.scales.specs.Meaning.{wrote};
 ghost use Rattle.text_write.specs.Meaning.{writeText};
 use handed::Handed;
+use handed::inner::Laid;
 use scales::Refusal;
 use scales::Written;
 
@@ -28,10 +29,14 @@ pub fn write(
 ) -> Written
     ensures { λ r. ⌜ wrote r (now (out .exit)) ≡ writeText h form (now (days .entry)) (now (offsets .entry)) last (now (out .entry)) ⌝ }
 {
-    let t = handed::take(h);
-    let used = changes::inner::time_uses_list(t);
-    if changes::inner::lacks_list(used, days, offsets, last) {
-        return Written::Refused(Refusal::ListNotAccepted);
+    match handed::inner::lay(h) {
+        Laid::NotFinite(_) => Written::Refused(Refusal::DecimalNotFinite),
+        Laid::At(r) => {
+            let z = r.scale;
+            if changes::inner::lacks_list(changes::inner::is_utc(z), days, offsets, last) {
+                return Written::Refused(Refusal::ListNotAccepted);
+            }
+            inner::write_time(r, form, days, offsets, last, out)
+        }
     }
-    inner::write_time(t, form, days, offsets, last, out)
 }

@@ -57,7 +57,7 @@ pub fn from_gps(t: Gps) -> DatedTai
 }
 
 // Has the UTC day at a place this microsecond? From 86,400,000,000 up only where the next day is a step.
-fn has_micro(days: &[i64], day: u64, micro: u64) -> bool
+pub fn has_micro(days: &[i64], day: u64, micro: u64) -> bool
     requires { ⌜ day < 99999 ⌝ }
     ensures { λ r. ⌜ r ≡ hasMicro (now (days .entry)) (dayAt day) micro ⌝ }
 {

@@ -1,64 +1,100 @@
 -- `changes::inner::judge` meets its contract: one law for each way out. Assumes nothing.
-use mathlib.Core.Path.{_≡_, sym, ap, subst, _∙_}
-use denote.Ref.{now}
+use mathlib.Core.Path.{_≡_, sym, ap, _∙_}
 use mathlib.Core.Bool.{true}
+use native.Mathlib.Omega.{arith}
+use mir.Syntax.{w64}
 use mir.Facts.{toZ-ofZ}
-use lib.IntN.{ℤ}
-use Rattle.leap.specs.Meaning.{accepted}
-use Rattle.scales.specs.Meaning.{outcome, dated, timeScale, timeCount}
-use Rattle.scales.specs.declared.Scale.{Scale}
-use Rattle.handed.specs.declared.Taken.{Taken}
-use Rattle.handed.specs.Meaning.{takenScale}
-use Rattle.via_tai.specs.Meaning.{ofCount}
-use Rattle.changes.specs.Meaning.{moving}
+use borrow.Author.Tests.{not-true, not-false}
+use Rattle.axis.specs.Meaning.{placeOfDay}
+use Rattle.scales.specs.Meaning.{inSpan, slip}
+use Rattle.changes.specs.Asked.{spanned-at, InUtc, judge-outside, judge-plain, judge-place, judge-expired, judge-lacking, judge-stands}
 use borrow.Author.Needs.{needs}
 use Rattle.changes.proofs.inner.judge.Statement.{statement}
 use Rattle.changes.proofs.inner.judge.Tie as tie
-use Rattle.changes.specs.Asked.{timeUsesList, takenAsked, outside-is, at-is, uses-same}
 
-change-requires : tie.Need-change-requires
-change-requires c κs =
-    let g = c .before .before .t3 .given in
-    let s = c .before .before .before .before .before in
-    let x = s .args in
-    λ h.
-    subst (λ (z : ℤ). accepted (now (x .days)) (now (x .offsets)) z ≡ true) (sym (toZ-ofZ (s .fits .last)))
-    (s .pre (ap timeUsesList (g .1) ∙ uses-same (timeScale (g .0 .0)) (c .scale .result) (c .scale .ensures) h))
+inside : (c : tie.After-enum-told) → let r = c .before .before .before .before .args .r in inSpan (r .scale) (r .day) (r .micro) ≡ true
+inside c =
+    let j = c .before .before in
+    let r = j .before .before .args .r in
+    let g = c .enum-told .given in
+    spanned-at (r .scale) (r .day) (r .micro) (g .0 .0) (ap slip (sym (g .1)) ∙ j .judged .ensures)
+
+-- the callee read the day from its bits
+known : (c : tie.After-place-of-day) → let s = c .before .before .before .before .before .before .before .before in let a = s .args in
+    InUtc (a .days .now) (a .offsets .now) (a .last) (a .r) (s .pre) (c .place-of-day .result)
+known c =
+    let l = c .before .before in
+    let r = l .before .before .before .before .before .before .args .r in
+    record {
+      inside = inside (l .before .before);
+      utc = sym (l .before .is-utc .ensures) ∙ not-false (l .before .is-utc .result) (l .if1 .left);
+      place = c .place-of-day .ensures ∙ ap placeOfDay (toZ-ofZ {w = w64} {z = r .day} (record { sfits = c .before .struct-told .given .1 .0 .1 }));
+    }
+
+-- and the last day
+last : (c : tie.After-place-of-day2) → c .place-of-day2 .result ≡ placeOfDay (c .before .before .before .before .before .before .before .before .before .args .last)
+last c = c .place-of-day2 .ensures ∙ ap placeOfDay (toZ-ofZ (c .before .before .before .before .before .before .before .before .before .fits .last))
 
 returns : tie.Need-returns
 returns c =
-    let x = c .before .before .before .before .args in
-    sym (rw (c .before .t .given .1))
+    let u = c .before in
+    let s = u .before .before .before .before .before in
+    let a = s .args in
+    judge-plain (a .days .now) (a .offsets .now) (a .last) (a .r) (s .pre) (inside (u .before)) (sym (u .is-utc .ensures) ∙ not-true (u .is-utc .result) (c .if1 .taken))
 
 returns-2 : tie.Need-returns-2
 returns-2 c =
-    let g = c .before .t2 .given in
-    let s = c .before .before .before .before in
-    let x = s .args in
-    outside-is (now (x .days)) (now (x .offsets)) (x .last) (g .0 .0) (λ h. s .pre (ap timeUsesList (g .1) ∙ h))
-    ∙ sym (ap (λ (t : Taken). dated (takenScale t) (outcome (takenAsked t (now (x .days)) (now (x .offsets)) (x .last)))) (g .1))
+    let p = c .before .before in
+    let s = p .before .before .before .before .before .before .before .before in
+    let a = s .args in
+    judge-expired (a .days .now) (a .offsets .now) (a .last) (a .r) (s .pre) (p .place-of-day .result) (known p) (omega (arith, last (c .before), c .if2 .taken))
+
+has-micro-requires : tie.Need-has-micro-requires
+has-micro-requires c κs =
+    let p = c .before .before in
+    let s = p .before .before .before .before .before .before .before .before in
+    let a = s .args in
+    judge-place (a .days .now) (a .offsets .now) (a .last) (a .r) (s .pre) (p .place-of-day .result) (known p)
 
 returns-3 : tie.Need-returns-3
 returns-3 c =
-    let g = c .before .before .before .t3 .given in
-    let s = c .before .before .before .before .before .before in
-    let x = s .args in
-    let n = g .0 .0 in
-    c .change .ensures
-    ∙ ap (λ (z : ℤ). dated (c .before .scale .result) (outcome (ofCount (timeScale n) (timeCount n) (moving (timeScale n) (c .before .scale .result) (now (x .days)) (now (x .offsets)) z)))) (toZ-ofZ (s .fits .last))
-    ∙ ap (λ (y : Scale). dated y (outcome (ofCount (timeScale n) (timeCount n) (moving (timeScale n) y (now (x .days)) (now (x .offsets)) (x .last))))) (c .before .scale .ensures)
-    ∙ at-is (now (x .days)) (now (x .offsets)) (x .last) n (λ h. s .pre (ap timeUsesList (g .1) ∙ h))
-    ∙ sym (ap (λ (t : Taken). dated (takenScale t) (outcome (takenAsked t (now (x .days)) (now (x .offsets)) (x .last)))) (g .1))
+    let m = c .before in
+    let p = m .before .before .before in
+    let s = p .before .before .before .before .before .before .before .before in
+    let a = s .args in
+    judge-lacking (a .days .now) (a .offsets .now) (a .last) (a .r) (s .pre) (p .place-of-day .result) (known p) (omega (arith, last (m .before .before), m .before .if2 .left))
+    (sym (m .has-micro .ensures) ∙ not-true (m .has-micro .result) (c .if3 .taken))
+
+returns-4 : tie.Need-returns-4
+returns-4 c =
+    let g = c .before .f .given in
+    let j = c .before .before .before in
+    let s = j .before .before in
+    let a = s .args in
+    judge-outside (a .days .now) (a .offsets .now) (a .last) (a .r) (s .pre) (g .0 .0) (g .0 .1 .0) (ap slip (sym (g .1)) ∙ j .judged .ensures)
+
+returns-5 : tie.Need-returns-5
+returns-5 c =
+    let m = c .before in
+    let p = m .before .before .before in
+    let s = p .before .before .before .before .before .before .before .before in
+    let a = s .args in
+    judge-stands (a .days .now) (a .offsets .now) (a .last) (a .r) (s .pre) (p .place-of-day .result) (known p) (omega (arith, last (m .before .before), m .before .if2 .left))
+    (sym (m .has-micro .ensures) ∙ not-false (m .has-micro .result) (c .if3 .left))
 
 pub judge-spec : {M : Type 1} → statement M
 judge-spec =
     tie.close
     (tie.spec
-    (λ c. search needs)
+    (λ c κs. search needs)
     (λ c. search needs)
     (λ c. search needs)
     (λ c κs. search needs)
-    change-requires
     returns
+    (λ c κs. search needs)
+    (λ c κs. search needs)
     returns-2
-    returns-3)
+    has-micro-requires
+    returns-3
+    returns-4
+    returns-5)

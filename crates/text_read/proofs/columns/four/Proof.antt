@@ -1,33 +1,26 @@
--- `text_read::columns::four` meets its contract: each return rewrites with the tests that led there. Assumes nothing.
-use borrow.Author.Tests.{lt-ltb, le-ltb}
+-- `text_read::columns::four` meets its contract: of two numbers of two digits. Assumes nothing.
+use mathlib.Core.Path.{ap₂, _∙_}
+use Prim.Native.Nat.{ℕ, _+_, _*_}
 use native.Mathlib.Omega.{arith}
-use Rattle.text_read.specs.Meaning.{twoOf, fourOf}
+use Rattle.text_read.specs.Digits.{four-parts, four-is}
 use borrow.Author.Needs.{needs}
 use Rattle.text_read.proofs.columns.four.Statement.{statement}
 use Rattle.text_read.proofs.columns.four.Tie as tie
 
+two-requires : tie.Need-two-requires
+two-requires c κs = let x = c .args in four-parts (x .a) (x .b) (x .c) (x .d) (c .pre) .0
+
+two-requires-2 : tie.Need-two-requires-2
+two-requires-2 c κs = let s = c .before in let x = s .args in four-parts (x .a) (x .b) (x .c) (x .d) (s .pre) .1
+
 returns : tie.Need-returns
-unfolding fourOf
 returns c =
-    let x = twoOf (c .before .before .before .args .a) (c .before .before .before .args .b) in
-    let y = twoOf (c .before .before .before .args .c) (c .before .before .before .args .d) in
-    rw (le-ltb x 100 (omega arith))
-
-returns-2 : tie.Need-returns-2
-unfolding fourOf
-returns-2 c =
-    let x = twoOf (c .before .before .before .before .args .a) (c .before .before .before .before .args .b) in
-    let y = twoOf (c .before .before .before .before .args .c) (c .before .before .before .before .args .d) in
-    rw (lt-ltb x 100 (omega arith), le-ltb y 100 (omega arith))
-
-returns-3 : tie.Need-returns-3
-unfolding fourOf
-returns-3 c =
-    let x = twoOf (c .before .before .before .before .args .a) (c .before .before .before .before .args .b) in
-    let y = twoOf (c .before .before .before .before .args .c) (c .before .before .before .before .args .d) in
-    rw (lt-ltb x 100 (omega arith), lt-ltb y 100 (omega arith), c .before .before .before .two .ensures, c .before .before .two2 .ensures)
+    let f = c .before in
+    let s = f .before in
+    let x = s .args in (
+      ap₂ (λ (m n : ℕ). m * 100 + n) (f .two .ensures .0) (c .two2 .ensures .0) ∙ four-is (x .a) (x .b) (x .c) (x .d) (s .pre),
+      omega (arith, f .two .ensures .1, c .two2 .ensures .1),
+    )
 
 pub four-spec : {M : Type 1} → statement M
-four-spec =
-    tie.close
-    (tie.spec (λ c κs. search needs) (λ c κs. search needs) returns returns-2 (λ c. search needs) (λ c. search needs) returns-3)
+four-spec = tie.close (tie.spec two-requires (λ c. search needs) two-requires-2 (λ c. search needs) returns)

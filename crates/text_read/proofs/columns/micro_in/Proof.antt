@@ -1,21 +1,25 @@
--- `text_read::columns::micro_in` meets its contract: each return rewrites with the tests that led there. Assumes nothing.
-use borrow.Author.Tests.{eq-eqb, ne-eqb, lt-ltb, le-ltb}
-use Rattle.text_read.specs.Meaning.{microIn}
+-- `text_read::columns::micro_in` meets its contract: none in a short text, and the number of its six digits in a long one. Assumes nothing.
+use mathlib.Core.Path.{_∙_}
+use denote.Ref.{now}
+use Rattle.text_read.specs.Digits.{micros, micro-none, micro-six}
 use borrow.Author.Needs.{needs}
 use Rattle.text_read.proofs.columns.micro_in.Statement.{statement}
 use Rattle.text_read.proofs.columns.micro_in.Tie as tie
 
 returns : tie.Need-returns
-unfolding microIn
-returns c = rw (lt-ltb _ _ (c .if1 .taken))
+returns c = micro-none (now (c .before .before .args .s)) (c .if1 .taken)
+
+six-requires : tie.Need-six-requires
+six-requires c κs =
+    let e = c .before .before .before .before .before .before in
+    let s = e .before .before in
+    micros (now (s .args .s)) (e .if1 .left) (s .pre) .1
 
 returns-2 : tie.Need-returns-2
-unfolding microIn
-returns-2 c = rw (le-ltb _ _ (c .before .before .if1 .left), ne-eqb _ _ (c .if2 .taken))
-
-returns-3 : tie.Need-returns-3
-unfolding microIn
-returns-3 c = rw (le-ltb _ _ (c .before .before .before .before .before .before .before .before .before .if1 .left), eq-eqb _ _ (c .before .before .before .before .before .before .before .if2 .left), c .six .ensures)
+returns-2 c =
+    let e = c .before .before .before .before .before .before .before in
+    let s = e .before .before in
+    c .six .ensures .0 ∙ micro-six (now (s .args .s)) (e .if1 .left) (s .pre)
 
 pub micro-in-spec : {M : Type 1} → statement M
 micro-in-spec =
@@ -23,12 +27,10 @@ micro-in-spec =
     (tie.spec
     returns
     (λ c. search needs)
-    returns-2
     (λ c. search needs)
     (λ c. search needs)
     (λ c. search needs)
     (λ c. search needs)
     (λ c. search needs)
-    (λ c. search needs)
-    (λ c κs. search needs)
-    returns-3)
+    six-requires
+    returns-2)

@@ -1,55 +1,58 @@
--- `text_read::columns::month_of` meets its contract: what is left of the search from m on is the whole search. Assumes nothing.
+-- `text_read::columns::month_of` meets its contract: three letters are known by their number. Assumes nothing.
+use mathlib.Core.Path.{_≡_, refl}
+use Prim.Native.Nat.{ℕ}
+use Rattle.text_fields.specs.Meaning.{names, letter}
+use Rattle.text_fields.specs.Names.{numberOf, nameOf}
+use Rattle.text_read.specs.Meaning.{isNamed, seek, monthNamed}
+use Rattle.text_read.specs.Months.{month-named, not-named}
 use borrow.Author.Needs.{needs}
-use Prim.Native.Nat.{_-_, _≤_}
-use mathlib.Core.Path.{_≡_, _∙_, sym, refl}
-use native.Mathlib.Omega.{arith}
-use Rattle.text_read.specs.Meaning.{seek, monthNamed}
-use Rattle.text_read.specs.Months.{seek-step}
 use Rattle.text_read.proofs.columns.month_of.Statement.{statement}
 use Rattle.text_read.proofs.columns.month_of.Tie as tie
 
-abbrev Inv-loop : tie.InvT-loop
-Inv-loop a b c t m₀ m = (1 ≤ m) × (m ≤ 13) × (seek (13 - m) m a b c ≡ monthNamed a b c)
+-- a month's number, where the letters' number is that of its name
+named : (c : tie.Start) (m : ℕ) → monthNamed (letter m 0) (letter m 1) (letter m 2) ≡ m → numberOf (c .args .a) (c .args .b) (c .args .c) ≡ nameOf m
+    → m ≡ monthNamed (c .args .a) (c .args .b) (c .args .c)
+named c = let x = c .args in month-named (x .a) (x .b) (x .c) (c .fits .a .fits, c .fits .b .fits, c .fits .c .fits)
 
-abbrev μ-loop : tie.MeasureT-loop
-μ-loop a b c t m₀ m = 13 - m
-
-loop-holds : tie.Need-loop-holds Inv-loop μ-loop
-unfolding monthNamed
-loop-holds c = (omega arith, omega arith, refl)
-
-is-named-requires : tie.Need-is-named-requires Inv-loop μ-loop
-is-named-requires c κs = (c .before .before .before .month-names .ensures, omega arith, omega arith)
-
-returns : tie.Need-returns Inv-loop μ-loop
-returns c =
-    let m = c .before .before .before .before .loop .m in
-    let g = c .before .before .before .before .before .before .args in
-    rw (sym (c .before .is-named .ensures) ∙ c .if1 .taken) at (sym (seek-step m (g .a) (g .b) (g .c) (omega arith))) ∙ c .before .before .before .before .loop .inv .2
-
-loop-again : tie.Need-loop-again Inv-loop μ-loop
-loop-again c =
-    let m = c .before .before .before .before .loop .m in
-    let g = c .before .before .before .before .before .before .args in
-    (omega arith, omega arith, rw (sym (c .before .is-named .ensures) ∙ c .if1 .left) at (sym (seek-step m (g .a) (g .b) (g .c) (omega arith))) ∙ c .before .before .before .before .loop .inv .2)
-
-returns-2 : tie.Need-returns-2 Inv-loop μ-loop
-unfolding seek
-returns-2 c =
-    let e : 13 - c .before .loop .m ≡ 0 = omega arith in
-    rw e at (c .before .loop .inv .2)
+none : tie.Need-returns-13
+unfolding monthNamed seek letter names
+none c =
+    let x = c .before .args in
+    let r = c .match .rest in
+    rw (
+      not-named (x .a) (x .b) (x .c) 1 (r .0 .0 .0 .0 .0 .0 .0 .0 .0 .0 .0 .1),
+      not-named (x .a) (x .b) (x .c) 2 (r .0 .0 .0 .0 .0 .0 .0 .0 .0 .0 .1),
+      not-named (x .a) (x .b) (x .c) 3 (r .0 .0 .0 .0 .0 .0 .0 .0 .0 .1),
+      not-named (x .a) (x .b) (x .c) 4 (r .0 .0 .0 .0 .0 .0 .0 .0 .1),
+      not-named (x .a) (x .b) (x .c) 5 (r .0 .0 .0 .0 .0 .0 .0 .1),
+      not-named (x .a) (x .b) (x .c) 6 (r .0 .0 .0 .0 .0 .0 .1),
+      not-named (x .a) (x .b) (x .c) 7 (r .0 .0 .0 .0 .0 .1),
+      not-named (x .a) (x .b) (x .c) 8 (r .0 .0 .0 .0 .1),
+      not-named (x .a) (x .b) (x .c) 9 (r .0 .0 .0 .1),
+      not-named (x .a) (x .b) (x .c) 10 (r .0 .0 .1),
+      not-named (x .a) (x .b) (x .c) 11 (r .0 .1),
+      not-named (x .a) (x .b) (x .c) 12 (r .1),
+    )
 
 pub month-of-spec : {M : Type 1} → statement M
+unfolding monthNamed seek isNamed letter names
 month-of-spec =
     tie.close
     (tie.spec
-    Inv-loop
-    μ-loop
-    (λ c κs. search needs)
-    loop-holds
-    is-named-requires
-    returns
-    (λ c. omega arith)
-    (λ c. omega arith)
-    loop-again
-    returns-2)
+    (λ c. search needs)
+    (λ c. search needs)
+    (λ c. search needs)
+    (λ c. search needs)
+    (λ c. named (c .before) 1 refl (c .match .keys1))
+    (λ c. named (c .before) 2 refl (c .match .keys2))
+    (λ c. named (c .before) 3 refl (c .match .keys3))
+    (λ c. named (c .before) 4 refl (c .match .keys4))
+    (λ c. named (c .before) 5 refl (c .match .keys5))
+    (λ c. named (c .before) 6 refl (c .match .keys6))
+    (λ c. named (c .before) 7 refl (c .match .keys7))
+    (λ c. named (c .before) 8 refl (c .match .keys8))
+    (λ c. named (c .before) 9 refl (c .match .keys9))
+    (λ c. named (c .before) 10 refl (c .match .keys10))
+    (λ c. named (c .before) 11 refl (c .match .keys11))
+    (λ c. named (c .before) 12 refl (c .match .keys12))
+    none)

@@ -1,33 +1,26 @@
--- `text_read::columns::six` meets its contract: each return rewrites with the tests that led there. Assumes nothing.
-use borrow.Author.Tests.{lt-ltb, le-ltb}
+-- `text_read::columns::six` meets its contract: of a number of four digits and one of two. Assumes nothing.
+use mathlib.Core.Path.{ap₂, _∙_}
+use Prim.Native.Nat.{ℕ, _+_, _*_}
 use native.Mathlib.Omega.{arith}
-use Rattle.text_read.specs.Meaning.{fourOf, twoOf, sixOf}
+use Rattle.text_read.specs.Digits.{six-parts, six-is}
 use borrow.Author.Needs.{needs}
 use Rattle.text_read.proofs.columns.six.Statement.{statement}
 use Rattle.text_read.proofs.columns.six.Tie as tie
 
+four-requires : tie.Need-four-requires
+four-requires c κs = let x = c .args in six-parts (x .a) (x .b) (x .c) (x .d) (x .e) (x .f) (c .pre) .0
+
+two-requires : tie.Need-two-requires
+two-requires c κs = let s = c .before in let x = s .args in six-parts (x .a) (x .b) (x .c) (x .d) (x .e) (x .f) (s .pre) .1
+
 returns : tie.Need-returns
-unfolding sixOf
 returns c =
-    let x = fourOf (c .before .before .before .args .a) (c .before .before .before .args .b) (c .before .before .before .args .c) (c .before .before .before .args .d) in
-    let y = twoOf (c .before .before .before .args .e) (c .before .before .before .args .f) in
-    rw (le-ltb x 10000 (omega arith))
-
-returns-2 : tie.Need-returns-2
-unfolding sixOf
-returns-2 c =
-    let x = fourOf (c .before .before .before .before .args .a) (c .before .before .before .before .args .b) (c .before .before .before .before .args .c) (c .before .before .before .before .args .d) in
-    let y = twoOf (c .before .before .before .before .args .e) (c .before .before .before .before .args .f) in
-    rw (lt-ltb x 10000 (omega arith), le-ltb y 100 (omega arith))
-
-returns-3 : tie.Need-returns-3
-unfolding sixOf
-returns-3 c =
-    let x = fourOf (c .before .before .before .before .args .a) (c .before .before .before .before .args .b) (c .before .before .before .before .args .c) (c .before .before .before .before .args .d) in
-    let y = twoOf (c .before .before .before .before .args .e) (c .before .before .before .before .args .f) in
-    rw (lt-ltb x 10000 (omega arith), lt-ltb y 100 (omega arith), c .before .before .before .four .ensures, c .before .before .two .ensures)
+    let f = c .before in
+    let s = f .before in
+    let x = s .args in (
+      ap₂ (λ (m n : ℕ). m * 100 + n) (f .four .ensures .0) (c .two .ensures .0) ∙ six-is (x .a) (x .b) (x .c) (x .d) (x .e) (x .f) (s .pre),
+      omega (arith, f .four .ensures .1, c .two .ensures .1),
+    )
 
 pub six-spec : {M : Type 1} → statement M
-six-spec =
-    tie.close
-    (tie.spec (λ c κs. search needs) (λ c κs. search needs) returns returns-2 (λ c. search needs) (λ c. search needs) returns-3)
+six-spec = tie.close (tie.spec four-requires (λ c. search needs) two-requires (λ c. search needs) returns)

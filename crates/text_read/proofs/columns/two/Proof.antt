@@ -1,33 +1,26 @@
--- `text_read::columns::two` meets its contract: each return rewrites with the tests that led there. Assumes nothing.
-use borrow.Author.Tests.{lt-ltb, le-ltb}
+-- `text_read::columns::two` meets its contract: of two digits. Assumes nothing.
+use mathlib.Core.Path.{ap₂, _∙_}
+use Prim.Native.Nat.{ℕ, _+_, _*_}
 use native.Mathlib.Omega.{arith}
-use Rattle.text_read.specs.Meaning.{digitOf, twoOf}
+use Rattle.text_read.specs.Digits.{two-parts, two-is}
 use borrow.Author.Needs.{needs}
 use Rattle.text_read.proofs.columns.two.Statement.{statement}
 use Rattle.text_read.proofs.columns.two.Tie as tie
 
+digit-requires : tie.Need-digit-requires
+digit-requires c κs = let x = c .args in two-parts (x .a) (x .b) (c .pre) .0
+
+digit-requires-2 : tie.Need-digit-requires-2
+digit-requires-2 c κs = let s = c .before in let x = s .args in two-parts (x .a) (x .b) (s .pre) .1
+
 returns : tie.Need-returns
-unfolding twoOf
 returns c =
-    let x = digitOf (c .before .before .before .args .a) in
-    let y = digitOf (c .before .before .before .args .b) in
-    rw (le-ltb x 10 (omega arith))
-
-returns-2 : tie.Need-returns-2
-unfolding twoOf
-returns-2 c =
-    let x = digitOf (c .before .before .before .before .args .a) in
-    let y = digitOf (c .before .before .before .before .args .b) in
-    rw (lt-ltb x 10 (omega arith), le-ltb y 10 (omega arith))
-
-returns-3 : tie.Need-returns-3
-unfolding twoOf
-returns-3 c =
-    let x = digitOf (c .before .before .before .before .args .a) in
-    let y = digitOf (c .before .before .before .before .args .b) in
-    rw (lt-ltb x 10 (omega arith), lt-ltb y 10 (omega arith), c .before .before .before .digit .ensures, c .before .before .digit2 .ensures)
+    let f = c .before in
+    let s = f .before in
+    let x = s .args in (
+      ap₂ (λ (m n : ℕ). m * 10 + n) (f .digit .ensures .0) (c .digit2 .ensures .0) ∙ two-is (x .a) (x .b) (s .pre),
+      omega (arith, f .digit .ensures .1, c .digit2 .ensures .1),
+    )
 
 pub two-spec : {M : Type 1} → statement M
-two-spec =
-    tie.close
-    (tie.spec (λ c κs. search needs) (λ c κs. search needs) returns returns-2 (λ c. search needs) (λ c. search needs) returns-3)
+two-spec = tie.close (tie.spec digit-requires (λ c. search needs) digit-requires-2 (λ c. search needs) returns)

@@ -8,7 +8,7 @@ use Rattle.scales.specs.Meaning.{recordMoment}
 use Rattle.calendar.specs.Meaning.{dateSlip, dateOfDay}
 use Rattle.text_write.specs.Meaning.{fullText}
 use Rattle.text_write.specs.Stage.{putting}
-use Rattle.text_write.specs.Writes.{image-lacks, image-put, has-date, month-in}
+use Rattle.text_write.specs.Writes.{image-lacks, image-put, has-date, micro-under, date-fits}
 use Rattle.text_fields.specs.declared.Stamp.{Stamp}
 use borrow.Author.Needs.{needs}
 use Rattle.text_write.proofs.inner.write_record.Statement.{statement}
@@ -27,8 +27,9 @@ put-text-requires : tie.Need-put-text-requires
 put-text-requires c κs =
     let g = c .before .before .before .date .given in
     let d = c .before .before .before .before .before in
-    let x = d .before .before .before .before .before .args in
-    rw (c .before .stamp-of .ensures) (month-in (x .r .day) (g .0 .0) (ap dateSlip (sym (g .1)) ∙ dated d))
+    let s = d .before .before .before .before .before in
+    let r = s .args .r in
+    rw (c .before .stamp-of .ensures) (date-fits (r .day) (g .0 .0) (ap dateSlip (sym (g .1)) ∙ dated d) (r .micro) (micro-under (r .scale) (r .day) (r .micro) (s .pre)))
 
 returns-2 : tie.Need-returns-2
 returns-2 c =
