@@ -2,7 +2,7 @@
 ghost use mathlib.Core.Path.{_≡_};
 ghost use mathlib.Core.Bool.{true};
 ghost use mathlib.Core.List.{[], _∷_, _++_};
-ghost use Prim.Native.Nat.{_+_, _≤_, min};
+ghost use Prim.Native.Nat.{_+_, _-_, _*_, _/_, _≤_, min};
 ghost use lib.ListN.{length, drop};
 ghost use Rattle.scales.specs.Meaning.{inSpan, numberOf, recordMoment};
 ghost use Rattle.leap.specs.Meaning.{accepted};
@@ -118,10 +118,10 @@ fn newline_in_eight(s: &[u8], i: usize) -> usize
     i + 8
 }
 
-// A place from which on the next newline is the same, found eight bytes at a time: that newline's, or one of the last eight.
+// The next newline from a place on, as far as whole eights of bytes are left, or the place after these.
 fn nearer(s: &[u8], from: usize) -> usize
     requires { ⌜ from ≤ length (now s) ⌝ }
-    ensures { λ r. ⌜ r + beforeNewline (drop r (now (s .entry))) ≡ from + beforeNewline (drop from (now (s .entry))) ⌝ }
+    ensures { λ r. ⌜ r ≡ from + min (beforeNewline (drop from (now (s .entry)))) ((length (now (s .entry)) - from) / 8 * 8) ⌝ }
 {
     let mut i = from;
     while 8 <= s.len() - i {

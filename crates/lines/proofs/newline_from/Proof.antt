@@ -5,7 +5,7 @@ use native.Mathlib.Omega.{arith}
 use denote.Ref.{now}
 use lib.ListN.{length, drop, length-drop}
 use Rattle.lines.specs.Stage.{beforeNewline}
-use Rattle.lines.specs.Lines.{before-within, newline-here, newline-later}
+use Rattle.lines.specs.Lines.{before-within, newline-here, newline-later, newline-same}
 use borrow.Author.Needs.{needs}
 use Rattle.lines.proofs.newline_from.Statement.{statement}
 use Rattle.lines.proofs.newline_from.Tie as tie
@@ -19,8 +19,10 @@ abbrev μ-loop : tie.MeasureT-loop
 loop-holds : tie.Need-loop-holds Inv-loop μ-loop
 loop-holds c =
     let x = c .before .before .args in
-    let s = now (x .s) in
-    (omega (arith, c .nearer .ensures, before-within (drop (x .from) s), length-drop (x .from) s), c .nearer .ensures)
+    let s = now (x .s) in (
+      omega (arith, c .nearer .ensures),
+      newline-same {i = x .from} (record { from = omega (arith, c .nearer .ensures); to = omega (arith, c .nearer .ensures) }),
+    )
 
 returns : tie.Need-returns Inv-loop μ-loop
 returns c =
