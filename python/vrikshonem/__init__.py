@@ -39,7 +39,7 @@ from ._refusals import *
 from ._season import *
 from ._times import *
 
-__version__ = "0.4.2"
+__version__ = "0.4.3"
 # Each module lists its own names, and in this form a checker of types can add them up.
 __all__: list[str] = []
 __all__ += _correlations.__all__

@@ -70,12 +70,6 @@ takenSlip (K.NotFinite z) = dated z (refused 4)
 takenSlip (K.Outside z) = dated z (refused 7)
 takenSlip (K.At t) = dated (timeScale t) (answer (momentAt (timeScale t) (timeCount t)))
 
--- the scale that a handed time has, whatever it is taken for
-abbrev pub takenScale : Taken → Scale
-takenScale (K.NotFinite z) = z
-takenScale (K.Outside z) = z
-takenScale (K.At t) = timeScale t
-
 -- a count that was taken lies in its span, rounded or not; of the other two there is nothing to say
 abbrev pub Kept : Taken → Type 0
 Kept (K.NotFinite s) = 0 ≤ 0
