@@ -5,7 +5,7 @@ use mathlib.Core.Bool.{Bool, true, _&&_}
 use Prim.Native.Nat.{ℕ, zero, suc, _+_, _-_, _*_, _/_, _%_, _<_, _≤_}
 use native.Mathlib.Nat.{add-zero}
 use native.Mathlib.Omega.{arith}
-use lib.Dec.{eqb, ltb, leb}
+use lib.Dec.{eqb, ltb, leb, lit<, lit≤}
 use borrow.Author.Tests.{eqb-true, ltb-true, leb-true, eq-eqb, ne-eqb, lt-ltb, le-ltb}
 use Rattle.axis.specs.Diff.{Way, way, below, above}
 use Rattle.scales.specs.Place.{and-both}
@@ -211,8 +211,11 @@ first-is n h = go (way (scaledOf n % 65536) 2141) ∙ rw (walk-by n h)
     go (above l) = rw (le-ltb (scaledOf n % 65536) 2141 l, ne-eqb (pastOf n) 0 (λ e. omega arith))
 
 -- ---- 29 February 2000, and 1 January 2100, which is a first and no date
-pub leap-day : (monthAt 10286 ≡ monthsTo 2000 2) × (pastOf 10286 + 1 ≡ 29)
-leap-day = (refl, refl)
+pub february-2000 : firstIn 31 14 ≡ firstDay (monthsTo 2000 2) + 1401
+february-2000 = first-of 31 14 337 (lit≤ tt) (lit≤ tt) refl (lit< tt)
 
-pub last-first : (monthAt 46752 ≡ monthsTo 2100 1) × (pastOf 46752 ≡ 0)
-last-first = (refl, refl)
+pub leap-day : Located 10286 (monthsTo 2000 2) 28
+leap-day = located 10286 (lit< tt)
+
+pub last-first : firstDay (monthsTo 2100 1) + 0 ≡ 46752
+last-first = lies 46752 (lit≤ tt) .whole
