@@ -1,5 +1,6 @@
--- The formula behind the dates. A year is taken from March on, so that a leap day is its last; every fourth has one from March 1968
--- to February 2100, since 2000 is a leap year. Nothing outside this crate names it. Assumes nothing.
+-- The formula behind the dates. A year is taken from March on, so that a leap day is its last, and every fourth is given one: rightly
+-- from 1968 to 2096, since 2000 is a leap year. It is asked of no day after 1 January 2100, and 29 February 2100 would be the first that is
+-- lacking. Nothing outside this crate names it. Assumes nothing.
 use mathlib.Core.Path.{_≡_, refl, ap, ap₂, _∙_}
 use mathlib.Core.Bool.{Bool, true, _&&_}
 use Prim.Native.Nat.{ℕ, zero, suc, _+_, _-_, _*_, _/_, _%_, _<_, _≤_}
