@@ -1,16 +1,12 @@
 -- Days in their order, and what it says of their places. Assumes nothing.
 use mathlib.Core.Path.{_≡_}
-use mathlib.Core.Bool.{Bool, true, false≢true, _&&_}
+use mathlib.Core.Bool.{true, false≢true}
 use Prim.Native.Nat.{_≤_}
 use native.Mathlib.Omega.{arith}
 use lib.IntN.{ℤ, pos, negsuc}
 use lib.Signed.{leZ, ltZ}
 use borrow.Author.Tests.{leb-true, ltb-true}
 use Rattle.axis.specs.Meaning.{placeOfDay}
-
--- a day after one day, and not after another
-abbrev pub isAfter : ℤ → ℤ → ℤ → Bool
-isAfter b d l = ltZ b d && leZ d l
 
 pub place-le : (a b : ℤ) → leZ a b ≡ true → placeOfDay a ≤ placeOfDay b
 place-le (pos n) (pos m) e = omega (arith, leb-true n m e)

@@ -1,26 +1,23 @@
--- What acceptance says: how the test of it goes on from one step to the next, where it fails, and what an accepted list has.
--- Assumes nothing.
+-- What acceptance says: the ways out of the test of it, and what an accepted list has. Assumes nothing.
 use mathlib.Core.Path.{_≡_, refl, sym, ap, _∙_}
-use mathlib.Core.Bool.{Bool, true, false, _&&_}
+use mathlib.Core.Bool.{true, false, _&&_}
 use mathlib.Core.List.{List, [], _∷_}
 use Prim.Native.Nat.{ℕ, zero, suc, _+_, _-_, _<_, _≤_}
-use native.Mathlib.Numerals.{add-one}
 use native.Mathlib.Omega.{arith}
 use lib.Dec.{leb, eqb, lit<, lit≤}
 use lib.IntN.{ℤ, pos, negsuc, _+ℤ_}
-use lib.ListN.{length, getD, drop, drop-of-length-le}
-use lib.Seq.{drop-cons}
-use lib.Signed.{leZ, ltZ}
+use lib.ListN.{length, getD, drop}
+use lib.Signed.{leZ}
 use borrow.Author.Tests.{leb-true, le-leb, lt-leb, eq-eqb, ne-eqb}
 use Rattle.axis.specs.Meaning.{placeOfDay, dayAt}
 use Rattle.axis.specs.Axis.{day-from, day-to, day-place, day-next}
-use Rattle.axis.specs.Order.{isAfter}
 use Rattle.scales.specs.Place.{and-false, and-both}
 use Rattle.calendar.specs.Meaning.{leap, monthLength, lengthOf, walk, isFirst, allFirsts}
 use Rattle.calendar.specs.Days.{first-within}
 use Rattle.calendar.specs.Told.{first-span}
-use Rattle.leap.specs.Meaning.{sameDay, areSteps, begins, risesFrom, rises, countsFrom, countsUp, endsIn, noneLater, accepted}
+use Rattle.leap.specs.Meaning.{sameDay, areSteps, begins, rises, countsUp, endsIn, noneLater, accepted}
 use Rattle.leap.specs.Places.{same-at}
+use Rattle.leap.specs.Follow.{rest}
 
 -- ---- a day that is the first of a month stands well on the axis
 pub first-at : (d : ℤ) → isFirst d ≡ true → dayAt (placeOfDay d) ≡ d
@@ -42,39 +39,6 @@ ends-span e t =
       leb-true 29773 (placeOfDay e) (sym (day-from 29773 e (lit< tt) (lit≤ tt)) ∙ x .0),
       leb-true (placeOfDay e) 76524 (sym (day-to 76524 e (lit< tt)) ∙ x .1),
     )
-
--- ---- the steps after the step (s, o), none of them after the day l
-abbrev pub rest : ℤ → ℤ → ℕ → List ℤ → List ℕ → Bool
-rest l s o ds os = risesFrom s ds && (allFirsts ds && (countsFrom o os && noneLater ds l))
-
--- a step on day d may follow one on day s
-abbrev pub may : ℤ → ℤ → ℤ → Bool
-may l s d = isAfter s d l && isFirst d
-
-eight : (a r f g e c l n : Bool) → ((a && r) && ((f && g) && ((e && c) && (l && n)))) ≡ (e && (((a && l) && f) && (r && (g && (c && n)))))
-eight a r f g false c l n = ap (λ (x : Bool). (a && r) && x) (and-false (f && g)) ∙ and-false (a && r)
-eight false r f g true c l n = refl
-eight true r f g true c false n = rw (and-false c, and-false (f && g), and-false r)
-eight true r false g true c true n = and-false r
-eight true r true g true c true n = refl
-
-module _ (l s : ℤ) (o : ℕ) where
-  rest-cons : (d : ℤ) (ds : List ℤ) (p : ℕ) (os : List ℕ)
-      → rest l s o (d ∷ ds) (p ∷ os) ≡ (eqb p (o + 1) && (may l s d && rest l d p ds os))
-  unfolding risesFrom countsFrom noneLater
-  rest-cons d ds p os = eight (ltZ s d) (risesFrom d ds) (isFirst d) (allFirsts ds) (eqb p (o + 1)) (countsFrom p os) (leZ d l) (noneLater ds l)
-
-  pub rest-step : (ds : List ℤ) (os : List ℕ) (i : ℕ) → i < length ds → i < length os
-      → rest l s o (drop i ds) (drop i os)
-      ≡ (eqb (getD os i 0) (o + 1)
-      && (may l s (getD ds i (pos 0)) && rest l (getD ds i (pos 0)) (getD os i 0) (drop (i + 1) ds) (drop (i + 1) os)))
-  rest-step ds os i h k =
-      rw (add-one i, drop-cons ds i (pos 0) h, drop-cons os i 0 k)
-      (rest-cons (getD ds i (pos 0)) (drop (suc i) ds) (getD os i 0) (drop (suc i) os))
-
-  pub rest-end : (ds : List ℤ) (os : List ℕ) (i : ℕ) → length ds ≤ i → length os ≤ i → rest l s o (drop i ds) (drop i os) ≡ true
-  unfolding risesFrom countsFrom noneLater
-  rest-end ds os i h k = rw (drop-of-length-le ds h, drop-of-length-le os k)
 
 -- ---- the first step: 1 January 1972
 first-is : (d : ℤ) → placeOfDay d ≡ 29773 → isFirst d ≡ true
@@ -154,11 +118,3 @@ accept-rest (d ∷ ds) [] e a b c x y p q = absurd (omega arith)
 accept-rest (d ∷ ds) (o ∷ os) e a b c x y p q =
     rw (steps-ok (d ∷ ds) (o ∷ os) a b c, first-ok d o p q, first-is d p, ends-at e x y, not-later d e (omega arith, omega arith) y)
     (ap (λ (n : ℕ). rest (e +ℤ pos 1) d n ds os) (sym q))
-
--- what is tested of a list before the steps after the first are
-pub record Tested (ds : List ℤ) (os : List ℕ) (l : ℤ) : Type 0 where
-  pub some : 0 < length ds
-  pub few : length ds ≤ 64
-  pub even : length os ≡ length ds
-  pub from : 29773 ≤ placeOfDay (getD ds 0 (pos 0))
-  pub to : placeOfDay l ≤ 76525

@@ -1,6 +1,7 @@
 pub mod Meaning
 pub mod Places
 pub mod Walk
+pub mod Follow
 pub mod Accept
 pub mod Steps
 pub mod Search

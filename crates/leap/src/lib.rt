@@ -1,12 +1,11 @@
 // The leap list: its acceptance, and the list as published. A list is lent as two slices, the steps' days and TAI minus UTC
 // from each day on, with its last day E.
 ghost use mathlib.Core.Path.{_≡_};
-ghost use Prim.Native.Nat.{_≤_};
 ghost use lib.IntN.{pos};
 ghost use lib.ListN.{getD, drop};
-ghost use Rattle.axis.specs.Meaning.{placeOfDay};
 ghost use Rattle.leap.specs.Meaning.{accepted, publishedDays, publishedOffsets};
-ghost use Rattle.leap.specs.Accept.{may, Tested, rest};
+ghost use Rattle.leap.specs.Follow.{Tested, rest};
+use scales::Utc;
 
 pub mod inner;
 
@@ -15,32 +14,32 @@ const FIRST: u64 = 29773;
 
 const LAST: u64 = 76524;
 
-// May a step on day d follow one on day s, in a list whose steps end by a day?
-fn may_follow(end: i64, s: i64, d: i64) -> bool
-    requires { ⌜ (29773 ≤ placeOfDay s) × (placeOfDay end ≤ 76525) ⌝ }
-    ensures { λ r. ⌜ r ≡ may end s d ⌝ }
-{
-    if !axis::inner::is_after(s, d, end) {
-        return false;
-    }
-    calendar::inner::is_first(d)
-}
-
-// May each step after the first follow the one before it? Offsets count up from the first, which is 10.
+// May each step after the first follow the one before it? Offsets count up from the first, which is 10, so that the offset that
+// a step must have tells its place in the list. From the last step down, only the last day is held to the end, and each day
+// stays in the calendar's days.
 fn steps_follow(days: &[i64], offsets: &[u64], end: i64) -> bool
     requires { ⌜ Tested (now days) (now offsets) end ⌝ }
     ensures { λ r. ⌜ r ≡ rest end (getD (now (days .entry)) 0 (pos 0)) 10 (drop 1 (now (days .entry))) (drop 1 (now (offsets .entry))) ⌝ }
 {
-    let mut i = 0;
-    while i + 1 < days.len() {
-        let k = i + 1;
-        if offsets[k] != k as u64 + 10 {
+    let mut o = days.len() + 9;
+    if end < days[o - 10] {
+        return false;
+    }
+    while 10 < o {
+        if offsets[o - 10] != o as u64 {
             return false;
         }
-        if !may_follow(end, days[i], days[k]) {
+        let d = days[o - 10];
+        o = o - 1;
+        if d <= days[o - 10] {
             return false;
         }
-        i = k;
+        if d <= Utc::FIRST_DAY {
+            return false;
+        }
+        if !calendar::inner::is_first(d) {
+            return false;
+        }
     }
     true
 }

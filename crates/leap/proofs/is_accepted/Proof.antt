@@ -9,7 +9,8 @@ use mir.Val.{toZ, ofZ}
 use mir.Facts.{toZ-ofZ}
 use Rattle.axis.specs.Meaning.{placeOfDay, dayAt}
 use Rattle.axis.specs.Axis.{day-next, day-place, place-day}
-use Rattle.leap.specs.Accept.{accept-empty, accept-long, accept-uneven, accept-early, accept-late, accept-other-day, accept-other-offset, accept-rest, rest}
+use Rattle.leap.specs.Follow.{rest}
+use Rattle.leap.specs.Accept.{accept-empty, accept-long, accept-uneven, accept-early, accept-late, accept-other-day, accept-other-offset, accept-rest}
 use borrow.Author.Needs.{needs}
 use Rattle.leap.proofs.is_accepted.Statement.{statement}
 use Rattle.leap.proofs.is_accepted.Tie as tie
@@ -58,12 +59,14 @@ steps-follow-requires c κs =
     let d = c .before .before .before .before in
     let p = d .before in
     let m = p .before .before in
+    let q = ap placeOfDay (next-at c) ∙ place-day (m .place-of-day .result + 1) (omega (arith, p .if5 .left)) in
     record {
       some = m .before .before .before .if1 .left;
       few = m .before .before .if2 .left;
       even = m .before .if3 .left;
-      from = omega (arith, d .step-day .ensures, c .before .before .before .if6 .left);
-      to = rw (next-at c, place-day (m .place-of-day .result + 1) (omega (arith, p .if5 .left))) (omega (arith, p .if5 .left));
+      first = sym (d .step-day .ensures) ∙ c .before .before .before .if6 .left;
+      from = omega (arith, q, p .before .if4 .left);
+      to = omega (arith, q, p .if5 .left);
     }
 
 returns-8 : tie.Need-returns-8
