@@ -25,7 +25,7 @@ pub enum Decimal {
 pub fn read(day: f64, scale: Scale) -> Dated
     ensures { λ r. ⌜ slip r ≡ readOf day scale ⌝ }
 {
-    match handed::take(Handed::Decimal(day, scale)) {
+    match handed::inner::take_decimal(day, scale) {
         Taken::NotFinite(s) => Dated::Refused(Refusal::DecimalNotFinite, s),
         Taken::Outside(s) => Dated::Refused(Refusal::OutsideSpan, s),
         Taken::At(t) => Dated::At(t.to_record()),

@@ -9,11 +9,12 @@ use lib.Dec.{lit<, lit≤}
 use lib.IntN.{ℤ, pos, negsuc}
 use lib.Ieee.{Float, fin, binary64, ofBits, fits}
 use Rattle.axis.specs.Meaning.{dayMicros}
-use Rattle.scales.specs.Meaning.{Slip, slip, timeAt, recordOf}
+use Rattle.scales.specs.Meaning.{Slip, slip, timeAt, recordOf, markedRecord}
 use Rattle.scales.specs.Place.{Placed}
 use Rattle.scales.specs.declared.Scale.{Scale}
 use Rattle.scales.specs.declared.Scale.the-variants as S
 use Rattle.scales.specs.declared.Refusal.the-variants as R
+use Rattle.scales.specs.declared.Mark.the-variants as M
 use Rattle.scales.specs.declared.Dated.the-variants as A
 use Rattle.double.specs.Meaning.{exactOf, plusZero}
 use Rattle.handed.specs.declared.Handed.the-variants as H
@@ -67,7 +68,7 @@ got (c ∷ cs) = readOf (ofBits binary64 (c .bits)) (c .scale) ∷ got cs
 
 abbrev stated : List Case → List Slip
 stated [] = []
-stated (c ∷ cs) = record { number = c .number; scale = c .scale; day = c .day; micro = c .micro } ∷ stated cs
+stated (c ∷ cs) = record { number = c .number; scale = c .scale; day = c .day; micro = c .micro; mark = M.Plain } ∷ stated cs
 
 pub readings : got cases ≡ stated cases
 unfolding readOf ofBits
@@ -145,7 +146,7 @@ unfolding fits
 none-nearer = no-nearer (pos 1) one (fin false 7164004856975581 (negsuc 88)) (one-written .1) tt refl
 
 pub half-trip : readOf half S.Tai ≡ slip (A.At (recordOf S.Tai (negsuc 0) 43200000000))
-half-trip = trip (recordOf S.Tai (negsuc 0) 43200000000) half half-written
+half-trip = trip (markedRecord (M.Correlated 9) (recordOf S.Tai (negsuc 0) 43200000000)) half half-written
 
 pub half-less : less (exactOf half) (exactOf one) ≡ true
 half-less = later S.Tai (negsuc 0) (pos 0) 43200000000 1 half one half-written one-written (inl refl)

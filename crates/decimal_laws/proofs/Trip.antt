@@ -14,12 +14,11 @@ use borrow.Author.Tests.{lt-ltb, le-ltb, ltb-true}
 use Rattle.axis.specs.Meaning.{placeOfDay, dayAt, microsAt, floorZ, Moment, dayMicros, since}
 use Rattle.axis.specs.Axis.{day-place, micros-day, micros-left, since-at}
 use Rattle.axis.specs.Diff.{is-pos, is-negsuc, sub-eq, sub-inj, sub-mul, sub-add, sub-lt, sub-floor, up, down, parts}
-use Rattle.scales.specs.Meaning.{first, inSpan, dated, refused, answer, slip, recordOf}
+use Rattle.scales.specs.Meaning.{first, inSpan, dated, refused, answer, recordOf, recordMoment}
 use Rattle.scales.specs.Place.{firstAt, apart, Placed, placed, day-part, micro-part}
 use Rattle.scales.specs.declared.Scale.{Scale}
 use Rattle.scales.specs.declared.Scale.the-variants as S
 use Rattle.scales.specs.declared.Record.{Record}
-use Rattle.scales.specs.declared.Dated.the-variants as A
 use Rattle.double.specs.Meaning.{Exact, exactOf, under, signedOver, finite, before}
 use Rattle.double.proofs.Exact.{under-pos}
 use Rattle.handed.specs.declared.Handed.the-variants as H
@@ -179,8 +178,8 @@ module _ (s : Scale) (d : ℤ) (u : ℕ) (x : Float) (w : Placing s d u x) where
   unfolding readOf
   trip-by = rw (ends (microsAt (placeAt d u)) x (w .day), spans-here) (ap (λ (m : Moment). dated s (answer m)) moment)
 
--- Record to double to record is the same record.
-pub trip : (r : Record) (x : Float) → WroteDay (H.Record r) (D.Day x) → readOf x (r .scale) ≡ slip (A.At r)
+-- Record to double to record is the same time, and plain.
+pub trip : (r : Record) (x : Float) → WroteDay (H.Record r) (D.Day x) → readOf x (r .scale) ≡ dated (r .scale) (answer (recordMoment r))
 trip r x w = trip-by (r .scale) (r .day) (r .micro) x (placing (r .scale) (r .day) (r .micro) x w)
 
 -- ---- the order

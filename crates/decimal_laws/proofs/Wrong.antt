@@ -9,10 +9,12 @@ use lib.Ieee.{Float, nan, inf, fin, binary64, fits, neg, div, ofInt}
 use lib.Ieee.Fits.{eq→eqb}
 use Rattle.evidence.specs.ShutOut.{ShutOut, differ}
 use Rattle.axis.specs.Meaning.{placeOfDay, floorZ, modZ, dayMicros, since}
-use Rattle.scales.specs.Meaning.{inSpan, given, gives, outcome, Slip, dated, timeCount, timeAt, recordOf, codeOf}
+use Rattle.scales.specs.Meaning.{inSpan, given, gives, outcome, Slip, dated, timeCount, timeAt, recordOf, markedRecord, codeOf}
 use Rattle.scales.specs.declared.Scale.{Scale}
 use Rattle.scales.specs.declared.Scale.the-variants as S
 use Rattle.scales.specs.declared.Refusal.the-variants as R
+use Rattle.scales.specs.declared.Mark.{Mark}
+use Rattle.scales.specs.declared.Mark.the-variants as M
 use Rattle.double.specs.Meaning.{Exact, exactOf, over, under, signedOver, signed, finite, nearest, plusZero}
 use Rattle.handed.specs.declared.Handed.{Handed}
 use Rattle.handed.specs.declared.Handed.the-variants as H
@@ -21,9 +23,9 @@ use Rattle.decimal.specs.declared.Decimal.{Decimal}
 use Rattle.decimal.specs.declared.Decimal.the-variants as D
 use Rattle.handed.specs.declared.Taken.{Taken}
 use Rattle.handed.specs.declared.Taken.the-variants as K
-use Rattle.handed.specs.Meaning.{spans, microsOf, scaleOf, isFinite, dayOf, microOf, takenOf, Took}
+use Rattle.handed.specs.Meaning.{spans, microsOf, scaleOf, markOf, isFinite, dayOf, microOf, takenOf, Took}
 use Rattle.decimal_laws.proofs.Unique.{wrote-one}
-use Rattle.ground_laws.proofs.Desks.{answered, empty, byNumber, byMicro}
+use Rattle.ground_laws.proofs.Desks.{answered, empty, markNumber, byNumber, byMicro}
 
 -- ---- read: a desk with another nearest microsecond
 abbrev desk : (Scale → Exact → Bool) → (Exact → ℤ) → Float → Scale → Slip
@@ -51,7 +53,7 @@ read-truncated = (refl, refl, byMicro (λ e. omega arith))
 
 -- minus zero as day -1: every double with a minus sign is put before day 0
 abbrev signFirst : Float → Scale → Slip
-signFirst x s = record { number = 0; scale = s; day = cond (exactOf x .minus) (negsuc (natAbs (microsOf (exactOf x)) / dayMicros)) (floorZ (microsOf (exactOf x)) dayMicros); micro = modZ (microsOf (exactOf x)) dayMicros }
+signFirst x s = record { number = 0; scale = s; day = cond (exactOf x .minus) (negsuc (natAbs (microsOf (exactOf x)) / dayMicros)) (floorZ (microsOf (exactOf x)) dayMicros); micro = modZ (microsOf (exactOf x)) dayMicros; mark = M.Plain }
 
 pub read-minus-zero :
     ShutOut (readOf (fin true 0 (pos 0)) S.Tai) (answered S.Tai (pos 0) 0) (signFirst (fin true 0 (pos 0)) S.Tai) (answered S.Tai (negsuc 0) 0)
@@ -190,3 +192,21 @@ pub write-carried : ShutWrite sixty (D.Refused R.NoImage) (carried sixty) (D.Day
 unfolding div ofInt
 write-carried =
     ((refl, refl), refl, forbidden sixty (D.Refused R.NoImage) (D.Day (fin false 3105 (pos 1))) (refl, refl) (byDayNumber (λ e. omega arith)))
+
+-- ---- Handed::mark
+-- every handed time plain
+abbrev allPlain : Handed → Mark
+allPlain h = M.Plain
+
+pub handed-plain :
+    ShutOut (markOf (H.Record (markedRecord (M.Correlated 9) (recordOf S.Tai (pos 0) 0)))) (M.Correlated 9)
+    (allPlain (H.Record (markedRecord (M.Correlated 9) (recordOf S.Tai (pos 0) 0)))) M.Plain
+handed-plain = (refl, refl, differ markNumber (λ e. omega arith))
+
+-- a decimal day taken for one from Proteus
+abbrev decimalProteus : Handed → Mark
+decimalProteus (H.Record r) = r .mark
+decimalProteus (H.Decimal x s) = M.Proteus false
+
+pub handed-decimal : ShutOut (markOf (H.Decimal plusZero S.Utc)) M.Plain (decimalProteus (H.Decimal plusZero S.Utc)) (M.Proteus false)
+handed-decimal = (refl, refl, differ markNumber (λ e. omega arith))

@@ -1,13 +1,16 @@
 -- What is handed back, a time or a writing, by its numbers, and wrong desks over either, for every function that answers so.
 -- Assumes nothing.
 use mathlib.Core.Path.{_≡_}
+use mathlib.Core.Bool.{true, false}
 use mathlib.Core.List.{List, _∷_, _++_}
 use Prim.Native.Nat.{ℕ, _+_, _-_}
 use lib.IntN.{ℤ, pos}
 use lib.ListN.{length, take, drop, getD, replicate}
 use Rattle.evidence.specs.ShutOut.{differ}
-use Rattle.scales.specs.Meaning.{refused, answer, Slip, dated, Wrote}
+use Rattle.scales.specs.Meaning.{refused, answer, Slip, datedAs, dated, Wrote}
 use Rattle.scales.specs.declared.Scale.{Scale}
+use Rattle.scales.specs.declared.Mark.{Mark}
+use Rattle.scales.specs.declared.Mark.the-variants as M
 
 -- ---- times
 abbrev pub answered : Scale → ℤ → ℕ → Slip
@@ -20,8 +23,26 @@ empty n s = dated s (refused n)
 pub byNumber : {x y : Slip} → (x .number ≡ y .number → ⊥) → x ≡ y → ⊥
 byNumber d e = differ (λ (t : Slip). t .number) d e
 
+-- the same with a mark
+abbrev pub markedAs : Mark → Scale → ℤ → ℕ → Slip
+markedAs m s d u = datedAs m s (answer (record { day = d; micro = u }))
+
+-- a number for each mark, to tell two apart
+abbrev pub markNumber : Mark → ℕ
+markNumber M.Plain = 0
+markNumber (M.Proteus false) = 1
+markNumber (M.Proteus true) = 2
+markNumber (M.Correlated n) = 3 + n
+
+pub byMark : {x y : Slip} → (markNumber (x .mark) ≡ markNumber (y .mark) → ⊥) → x ≡ y → ⊥
+byMark d e = differ (λ (t : Slip). markNumber (t .mark)) d e
+
 pub byMicro : {x y : Slip} → (x .micro ≡ y .micro → ⊥) → x ≡ y → ⊥
 byMicro d e = differ (λ (t : Slip). t .micro) d e
+
+-- the desk that marks every slip, a refusal's too
+abbrev pub alwaysMarked : Mark → Slip → Slip
+alwaysMarked m x = record { number = x .number; scale = x .scale; day = x .day; micro = x .micro; mark = m }
 
 -- the desk that refuses all
 abbrev pub refusesAll : Scale → Slip

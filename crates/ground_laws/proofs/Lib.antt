@@ -4,3 +4,4 @@ pub mod OctetsExamples
 pub mod OctetsWrong
 pub mod ScalesExamples
 pub mod ScalesWrong
+pub mod MarksWrong

@@ -6,7 +6,7 @@ use mathlib.Core.List.{List, [], _∷_}
 use Prim.Native.Nat.{ℕ}
 use lib.Dec.{lit<}
 use lib.IntN.{ℤ, pos, negsuc}
-use Rattle.scales.specs.Meaning.{inSpan, given, gives, refused, outcome, order, standsIn, momentAt, recordAt, recordOf, spanned, timeAt}
+use Rattle.scales.specs.Meaning.{inSpan, given, gives, refused, outcome, order, standsIn, momentAt, recordAt, recordOf, spannedAs, timeAt}
 use Rattle.scales.specs.Order.{Refuses, is-refuses, Answers, is-answers}
 use Rattle.scales.specs.Place.{placed, in-span, in-days, out-days, out-over, moment-of, countOf}
 use Rattle.scales.specs.Counts.{typed-at, typed-no, timed-at}
@@ -81,7 +81,7 @@ spans-meet = (
 pub counts-meet :
     (momentAt S.Gps 3456000000000005 ≡ record { day = pos 0; micro = 5 }) × (3456000000000005 ≡ countOf S.Gps (pos 0) 5)
     × (R.OutsideSpan ≡ R.OutsideSpan) × (timeAt S.Gps 3456000000000005 ≡ timeAt S.Gps (countOf S.Gps (pos 0) 5))
-unfolding spanned
+unfolding spannedAs
 counts-meet = (
   moment-of S.Gps (pos 0) 5 day-zero,
   typed-at S.Gps (pos 0) 5 3456000000000005 refl .1,

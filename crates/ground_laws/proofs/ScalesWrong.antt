@@ -8,12 +8,13 @@ use lib.IntN.{ℤ, pos, negsuc, natAbs}
 use lib.Signed.{leZ}
 use Rattle.evidence.specs.ShutOut.{ShutOut, differ}
 use Rattle.axis.specs.Meaning.{dayAt}
-use Rattle.scales.specs.Meaning.{codeOf, first, last, bound, numberOf, Slip, given, gives, outcome, dated, timeScale, timeCount, timeAt, spanned, recordOf, recordAt}
+use Rattle.scales.specs.Meaning.{codeOf, first, last, bound, numberOf, Slip, given, gives, outcome, dated, timeScale, timeCount, timeAt, spannedAs, spanned, recordOf, recordAt}
 use Rattle.scales.specs.declared.Scale.{Scale}
 use Rattle.scales.specs.declared.Scale.the-variants as S
 use Rattle.scales.specs.declared.Refusal.{Refusal}
 use Rattle.scales.specs.declared.Refusal.the-variants as R
 use Rattle.scales.specs.declared.Record.{Record}
+use Rattle.scales.specs.declared.Mark.the-variants as M
 use Rattle.scales.specs.declared.Time.{Time}
 use Rattle.ground_laws.proofs.Desks.{answered, empty, byNumber, byMicro, refusesAll, dayZero}
 
@@ -56,7 +57,7 @@ abbrev oneDayMore : Scale → ℤ → ℕ → Bool
 oneDayMore s d u = leZ (first s) d && (leZ d (pos 36525) && ltb u (bound s))
 
 pub span-one-day-more : ShutOut (spanned S.Tai (pos 36525) 0) (empty 7 S.Tai) (desk oneDayMore 7 S.Tai (pos 36525) 0) (answered S.Tai (pos 36525) 0)
-unfolding spanned
+unfolding spannedAs
 span-one-day-more = (refl, refl, byNumber (λ e. omega arith))
 
 -- the bound itself taken
@@ -64,7 +65,7 @@ abbrev boundTaken : Scale → ℤ → ℕ → Bool
 boundTaken s d u = leZ (first s) d && (leZ d (last s) && leb u (bound s))
 
 pub span-bound-taken : ShutOut (spanned S.Tai (pos 0) 86400000000) (empty 7 S.Tai) (desk boundTaken 7 S.Tai (pos 0) 86400000000) (answered S.Tai (pos 0) 86400000000)
-unfolding spanned
+unfolding spannedAs
 span-bound-taken = (refl, refl, byNumber (λ e. omega arith))
 
 -- one first day for all scales
@@ -72,7 +73,7 @@ abbrev oneFirstDay : Scale → ℤ → ℕ → Bool
 oneFirstDay s d u = leZ (first S.Tai) d && (leZ d (last s) && ltb u (bound s))
 
 pub span-one-first-day : ShutOut (spanned S.Gps (negsuc 7300) 0) (empty 7 S.Gps) (desk oneFirstDay 7 S.Gps (negsuc 7300) 0) (answered S.Gps (negsuc 7300) 0)
-unfolding spanned
+unfolding spannedAs
 span-one-first-day = (refl, refl, byNumber (λ e. omega arith))
 
 -- no second 60 in UTC
@@ -80,31 +81,31 @@ abbrev noSixty : Scale → ℤ → ℕ → Bool
 noSixty s d u = leZ (first s) d && (leZ d (last s) && ltb u 86400000000)
 
 pub span-no-sixty : ShutOut (spanned S.Utc (pos 6209) 86400000000) (answered S.Utc (pos 6209) 86400000000) (desk noSixty 7 S.Utc (pos 6209) 86400000000) (empty 7 S.Utc)
-unfolding spanned
+unfolding spannedAs
 span-no-sixty = (refl, refl, byNumber (λ e. omega arith))
 
 -- another number
 pub span-eleven : ShutOut (spanned S.Utc (pos 36525) 0) (empty 7 S.Utc) (desk oneFirstDay 11 S.Utc (pos 36525) 0) (empty 11 S.Utc)
-unfolding spanned
+unfolding spannedAs
 span-eleven = (refl, refl, byNumber (λ e. omega arith))
 
 -- a refusal that hands back what was handed in
 abbrev handsBack : Scale → ℤ → ℕ → Slip
-handsBack s d u = record { number = 7; scale = s; day = d; micro = u }
+handsBack s d u = record { number = 7; scale = s; day = d; micro = u; mark = M.Plain }
 
-pub span-hands-back : ShutOut (spanned S.Tai (pos 36525) 5) (empty 7 S.Tai) (handsBack S.Tai (pos 36525) 5) (record { number = 7; scale = S.Tai; day = pos 36525; micro = 5 })
-unfolding spanned
+pub span-hands-back : ShutOut (spanned S.Tai (pos 36525) 5) (empty 7 S.Tai) (handsBack S.Tai (pos 36525) 5) (record { number = 7; scale = S.Tai; day = pos 36525; micro = 5; mark = M.Plain })
+unfolding spannedAs
 span-hands-back = (refl, refl, byMicro (λ e. omega arith))
 
 -- the desk that refuses all, and the one that answers day 0 for everything, in each scale
 pub refuses-all : (s : Scale) → ShutOut (spanned s (pos 5) 7) (answered s (pos 5) 7) (refusesAll s) (empty 7 s)
-unfolding spanned
+unfolding spannedAs
 refuses-all S.Tai = (refl, refl, byNumber (λ e. omega arith))
 refuses-all S.Utc = (refl, refl, byNumber (λ e. omega arith))
 refuses-all S.Gps = (refl, refl, byNumber (λ e. omega arith))
 
 pub day-zero : (s : Scale) → ShutOut (spanned s (pos 5) 7) (answered s (pos 5) 7) (dayZero s) (answered s (pos 0) 0)
-unfolding spanned
+unfolding spannedAs
 day-zero S.Tai = (refl, refl, byMicro (λ e. omega arith))
 day-zero S.Utc = (refl, refl, byMicro (λ e. omega arith))
 day-zero S.Gps = (refl, refl, byMicro (λ e. omega arith))
@@ -114,7 +115,7 @@ abbrev judgedTai : Scale → ℤ → ℕ → Slip
 judgedTai s d u = spanned S.Tai d u
 
 pub span-judged-tai : ShutOut (spanned S.Utc (pos 6209) 86400000000) (answered S.Utc (pos 6209) 86400000000) (judgedTai S.Utc (pos 6209) 86400000000) (empty 7 S.Tai)
-unfolding spanned
+unfolding spannedAs
 span-judged-tai = (refl, refl, byNumber (λ e. omega arith))
 
 -- ---- Time::scale

@@ -1,8 +1,8 @@
--- The ways out of `take`: a record judged by its scale, a decimal day by what was found in its bits. An f64 that is in its span is, rounded to
--- a day and a microsecond, in its span too; a number with more digits than an f64 need not be. Assumes nothing.
-use mathlib.Core.Path.{_≡_, refl, sym, ap₂, subst, _∙_}
+-- The ways out of `take` and `lay`: a record judged by its scale, a decimal day by what was found in its bits. An f64 that is in its
+-- span is, rounded to a day and a microsecond, in its span too; a number with more digits than an f64 need not be. Assumes nothing.
+use mathlib.Core.Path.{_≡_, refl, sym, ap, subst, _∙_}
 use mathlib.Core.Bool.{Bool, true, false, cond, false≢true}
-use Prim.Native.Nat.{ℕ, suc, _+_, _-_, _*_, _^_, _≤_, _<_}
+use Prim.Native.Nat.{ℕ, suc, _+_, _-_, _*_, _/_, _%_, _^_, _≤_, _<_}
 use native.Mathlib.Nat.{div-lt-iff-lt-mul}
 use native.Mathlib.Omega.{arith}
 use lib.Dec.{T, leb, lit<, lit≤}
@@ -10,9 +10,10 @@ use lib.IntN.{ℤ, pos, negsuc}
 use lib.Pow.{pow-pos, pow-mono}
 use lib.Ieee.{Float, nan, inf, fin, binary64, fits}
 use borrow.Author.Tests.{leb-true, leb-false, ltb-true}
-use Rattle.axis.specs.Meaning.{dayMicros}
-use Rattle.scales.specs.Meaning.{bound, inSpan, spanned, slipTimed, timeAt}
-use Rattle.scales.specs.Place.{apart, in-span}
+use Rattle.axis.specs.Meaning.{dayAt, dayMicros, Moment}
+use Rattle.axis.specs.Axis.{place-day}
+use Rattle.scales.specs.Meaning.{bound, inSpan, spanned, slipTimed, timeAt, recordOf}
+use Rattle.scales.specs.Place.{apart, in-span, countOf}
 use Rattle.scales.specs.Counts.{timed-at, timed-no}
 use Rattle.scales.specs.declared.Scale.{Scale}
 use Rattle.scales.specs.declared.Refusal.{Refusal}
@@ -21,23 +22,25 @@ use Rattle.scales.specs.declared.Time.{Time}
 use Rattle.scales.specs.declared.Timed.the-variants as TD
 use Rattle.handed.specs.declared.Handed.{Handed}
 use Rattle.handed.specs.declared.Handed.the-variants as H
-use Rattle.handed.specs.Signs.{double-pos, spans-is, place-to, day-at, micro-at}
+use Rattle.handed.specs.Signs.{double-pos, spans-is, place-to, moment-place, day-at}
 use Rattle.handed.specs.Told.{countIn, loose, kept-is, Told}
+use Rattle.handed.specs.Laid.{Lays, lays-at}
 use Rattle.double.proofs.Exact.{digits}
 use Rattle.double.specs.Meaning.{up, down, finite, exactOf}
 use Rattle.handed.specs.declared.Reading.{Reading}
 use Rattle.handed.specs.declared.Reading.the-variants as R
 use Rattle.handed.specs.declared.Taken.the-variants as K
-use Rattle.handed.specs.Meaning.{spans, scaleOf, isFinite, isInSpan, dayOf, microOf, takenOf, Took}
-use Rattle.handed.specs.Parts.{firstOf, microsIn, inside, placeOf, found, timeOf}
+use Rattle.handed.specs.declared.inner.Laid.the-variants as L
+use Rattle.handed.specs.Meaning.{spans, nearestMoment, scaleOf, isFinite, isInSpan, dayOf, microOf, takenOf, Took}
+use Rattle.handed.specs.Parts.{firstOf, microsIn, inside, placeOf, found, timeOf, takenAs, placeRead}
 
 -- ---- from what is told back to the contract
 module _ (h : Handed) where
-  pub took-nothing : isFinite h ≡ false → Took h (K.NotFinite (scaleOf h))
+  took-nothing : isFinite h ≡ false → Took h (K.NotFinite (scaleOf h))
   unfolding takenOf
   took-nothing p = record { is = rw p; kept = lit≤ tt }
 
-  pub took-outside : isFinite h ≡ true → isInSpan h ≡ false → Took h (K.Outside (scaleOf h))
+  took-outside : isFinite h ≡ true → isInSpan h ≡ false → Took h (K.Outside (scaleOf h))
   unfolding takenOf
   took-outside p q = record { is = rw (p, q); kept = lit≤ tt }
 
@@ -45,7 +48,7 @@ module _ (h : Handed) where
   unfolding takenOf
   took-here p q k = record { is = rw (p, q); kept = kept-is (scaleOf h) (dayOf h) (microOf h) (loose h p q) ∙ k }
 
-  pub took-at : (t : Time) → Told h t → Took h (K.At t)
+  took-at : (t : Time) → Told h t → Took h (K.At t)
   took-at t w = subst (λ (x : Time). Took h (K.At x)) (sym (w .is)) (took-here (w .finite) (w .inside) (w .kept))
 
 -- ---- a record
@@ -111,14 +114,14 @@ pub record At (x : Float) (s : Scale) (n : ℕ) : Type 0 where
   pub ends : finite x ≡ true
   pub inside : spans s (exactOf x) ≡ true
   pub small : n ≤ 76525 * dayMicros
-  pub is : timeOf s n ≡ timeAt s (countIn (H.Decimal x s))
+  pub moment : nearestMoment x ≡ record { day = dayAt (n / dayMicros); micro = n % dayMicros }
 
 abbrev pub Found : Float → Scale → Reading → Type 0
 Found x s R.NotFinite = finite x ≡ false
 Found x s R.Outside = (finite x ≡ true) × (spans s (exactOf x) ≡ false)
 Found x s (R.At n) = At x s n
 
-pub found-is : (x : Float) (s : Scale) → Found x s (found (firstOf s) x)
+found-is : (x : Float) (s : Scale) → Found x s (found (firstOf s) x)
 unfolding found
 found-is nan s = refl
 found-is (inf t) s = refl
@@ -129,9 +132,34 @@ found-is (fin t m e) s = go (inside (firstOf s) t (m * up e) (down e)) refl
     go true p =
         let v = exactOf (fin t m e) in
         let f = spans-is s v ∙ p in
-        record {
-          ends = refl;
-          inside = f;
-          small = place-to s v f;
-          is = ap₂ (λ (d u : ℕ). timeAt s (d * bound s + u)) (sym (day-at s v f)) (sym (micro-at s v f));
-        }
+        record { ends = refl; inside = f; small = place-to s v f; moment = moment-place s v f }
+
+module _ (x : Float) (s : Scale) where
+  -- what `read_days` answers tells, where it was asked with the scale's first day
+  pub read-tells : {n : ℕ} {r : Reading} → n ≡ firstOf s → r ≡ found n x → Found x s r
+  read-tells e f = subst (Found x s) (sym (f ∙ ap (λ (k : ℕ). found k x) e)) (found-is x s)
+
+  pub read-small : (r : Reading) → Found x s r → placeRead r < 2 ^ 62
+  read-small R.NotFinite k = lit< tt
+  read-small R.Outside k = lit< tt
+  read-small (R.At n) k = omega (arith, k .small)
+
+  -- the time at place n is the one at the count of its moment
+  read-time : (n : ℕ) → At x s n → timeOf s n ≡ timeAt s (countIn (H.Decimal x s))
+  read-time n k =
+      let p : n / dayMicros ≤ 100000 = omega (arith, k .small) in
+      ap (λ (a : ℕ). timeAt s (a * bound s + n % dayMicros)) (sym (place-day (n / dayMicros) p))
+      ∙ ap (λ (m : Moment). timeAt s (countOf s (m .day) (m .micro))) (sym (k .moment))
+
+  module _ (d : T (fits binary64 x)) where
+    pub read-took : (r : Reading) → Found x s r → Took (H.Decimal x s) (takenAs s r)
+    read-took R.NotFinite k = took-nothing (H.Decimal x s) k
+    read-took R.Outside k = took-outside (H.Decimal x s) (k .0) (k .1)
+    read-took (R.At n) k =
+        took-at (H.Decimal x s) (timeOf s n)
+        (record { finite = k .ends; inside = k .inside; is = read-time n k; kept = kept-decimal x s d (k .ends) (k .inside) })
+
+    pub read-lays : (n : ℕ) → At x s n → Lays (H.Decimal x s) (L.At (recordOf s (dayAt (n / dayMicros)) (n % dayMicros)))
+    read-lays n k =
+        subst (λ (m : Moment). Lays (H.Decimal x s) (L.At (recordOf s (m .day) (m .micro)))) (k .moment)
+        (lays-at x s (k .ends) (k .inside) (kept-decimal x s d (k .ends) (k .inside)))

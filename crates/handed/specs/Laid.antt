@@ -5,17 +5,15 @@ use Prim.Native.Nat.{_≤_}
 use lib.Dec.{lit≤}
 use lib.Ieee.{Float}
 use lib.IntN.{pos}
-use Rattle.scales.specs.Meaning.{inSpan, recordOf, recordMoment, recordAt, timeScale, timeCount}
+use Rattle.scales.specs.Meaning.{inSpan, recordOf, recordMoment}
 use Rattle.scales.specs.declared.Scale.{Scale}
 use Rattle.scales.specs.declared.Scale.the-variants as S
 use Rattle.scales.specs.declared.Record.{Record}
-use Rattle.scales.specs.declared.Time.{Time}
 use Rattle.handed.specs.declared.Handed.{Handed}
 use Rattle.handed.specs.declared.Handed.the-variants as H
 use Rattle.handed.specs.declared.inner.Laid.{Laid}
 use Rattle.handed.specs.declared.inner.Laid.the-variants as L
 use Rattle.handed.specs.Meaning.{scaleOf, isFinite, isInSpan, dayOf, microOf, momentIn}
-use Rattle.handed.specs.Told.{Told, told-record}
 
 -- one fixed record outside every span
 abbrev pub outsideOf : Scale → Record
@@ -85,7 +83,7 @@ module _ (h : Handed) (t : Laid) (w : Lays h t) where
   pub laid-at : (r : Record) → t ≡ L.At r → LaidAt h r
   laid-at r e = subst (Tells h) e (tells h t w)
 
--- ---- from what was taken of a decimal day back to the contract
+-- ---- from a record, and from what was read of a decimal day, back to the contract
 pub lays-record : (r : Record) → Lays (H.Record r) (L.At r)
 lays-record r = record { is = refl; spans = refl }
 
@@ -99,5 +97,5 @@ module _ (x : Float) (s : Scale) where
   pub lays-outside : isFinite h ≡ true → isInSpan h ≡ false → Lays h (L.At (outsideOf s))
   lays-outside p q = record { is = sym (rw (p, q)); spans = outside-span s ∙ sym q }
 
-  pub lays-at : (t : Time) → Told h t → Lays h (L.At (recordAt (timeScale t) (timeCount t)))
-  lays-at t w = subst (λ (r : Record). Lays h (L.At r)) (sym (told-record h t w)) (record { is = sym (rw (w .finite, w .inside)); spans = w .kept ∙ sym (w .inside) })
+  pub lays-at : isFinite h ≡ true → isInSpan h ≡ true → inSpan s (dayOf h) (microOf h) ≡ true → Lays h (L.At (recordOf s (dayOf h) (microOf h)))
+  lays-at p q k = record { is = sym (rw (p, q)); spans = k ∙ sym q }

@@ -8,6 +8,8 @@ use Rattle.axis.specs.Meaning.{dayMicros, Moment, momentOf}
 use Rattle.scales.specs.Meaning.{first, inSpan, Judged, given, gives, refused, answer, Slip, dated, momentAt, timeScale, timeCount, timeAt}
 use Rattle.scales.specs.Place.{countOf}
 use Rattle.scales.specs.declared.Scale.{Scale}
+use Rattle.scales.specs.declared.Mark.{Mark}
+use Rattle.scales.specs.declared.Mark.the-variants as M
 use Rattle.double.specs.Meaning.{Exact, finite, exactOf, under, signedOver, before, nearest}
 use Rattle.handed.specs.declared.Handed.{Handed}
 use Rattle.handed.specs.declared.Handed.the-variants as H
@@ -29,6 +31,11 @@ nearestMoment x = momentOf (microsOf (exactOf x))
 abbrev pub scaleOf : Handed → Scale
 scaleOf (H.Record r) = r .scale
 scaleOf (H.Decimal x s) = s
+
+-- a decimal day is plain
+abbrev pub markOf : Handed → Mark
+markOf (H.Record r) = r .mark
+markOf (H.Decimal x s) = M.Plain
 
 abbrev pub isFinite : Handed → Bool
 isFinite (H.Record r) = true

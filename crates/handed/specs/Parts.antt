@@ -11,6 +11,8 @@ use Rattle.scales.specs.declared.Time.{Time}
 use Rattle.double.specs.Meaning.{Exact, up, down, over, under}
 use Rattle.handed.specs.declared.Reading.{Reading}
 use Rattle.handed.specs.declared.Reading.the-variants.{NotFinite, Outside, At}
+use Rattle.handed.specs.declared.Taken.{Taken}
+use Rattle.handed.specs.declared.Taken.the-variants as K
 
 -- the days from a day on or before day 0 to day 0
 abbrev pub backTo : ℤ → ℕ
@@ -55,3 +57,14 @@ found back (fin s m e) = valueOf back s (m * up e) (down e)
 -- the time of a scale at place n of the axis of microseconds
 abbrev pub timeOf : Scale → ℕ → Time
 timeOf s n = timeAt s (n / dayMicros * bound s + n % dayMicros)
+
+-- what a reading is taken for; and its place, 0 where it has none
+abbrev pub takenAs : Scale → Reading → Taken
+takenAs s NotFinite = K.NotFinite s
+takenAs s Outside = K.Outside s
+takenAs s (At n) = K.At (timeOf s n)
+
+abbrev pub placeRead : Reading → ℕ
+placeRead NotFinite = 0
+placeRead Outside = 0
+placeRead (At n) = n

@@ -9,9 +9,9 @@ use lib.Dec.{leb, ltb, lit<, lit≤}
 use lib.IntN.{ℤ, pos, negℤ, subℕ, _+ℤ_, _*ℤ_}
 use lib.Signed.{ltZ}
 use borrow.Author.Tests.{lt-ltb, le-ltb, le-leb, lt-leb, ltb-true, leb-true}
-use Rattle.axis.specs.Meaning.{placeOfDay, microsAt, floorZ, modZ, dayMicros}
+use Rattle.axis.specs.Meaning.{placeOfDay, dayAt, microsAt, floorZ, modZ, dayMicros, Moment, momentOf}
 use Rattle.axis.specs.Diff.{is-pos, is-negsuc, neg-pos, sub-eq, sub-mul, sub-add, sub-lt, sub-pos, sub-neg, Way, way, below, above}
-use Rattle.axis.specs.Axis.{place-day, micros-day, micros-left}
+use Rattle.axis.specs.Axis.{place-day, moment-at}
 use Rattle.scales.specs.Meaning.{first}
 use Rattle.scales.specs.Place.{firstAt}
 use Rattle.scales.specs.declared.Scale.{Scale}
@@ -157,10 +157,13 @@ module _ (s : Scale) (v : Exact) (f : spans s v ≡ true) where
   micros-at : microsOf v ≡ microsAt (placeOf v)
   micros-at = micros-is v ∙ sym (at-place (v .minus) (microsIn (v .minus) (over v) (under v)) (stays .2))
 
+  pub moment-place : momentOf (microsOf v) ≡ record { day = dayAt (placeOf v / dayMicros); micro = placeOf v % dayMicros }
+  moment-place = ap momentOf micros-at ∙ moment-at (placeOf v)
+
   pub day-at : placeOfDay (floorZ (microsOf v) dayMicros) ≡ placeOf v / dayMicros
   day-at =
       let u : placeOf v / dayMicros < 76526 = div-lt-iff-lt-mul {k = dayMicros} (lit< tt) .1 (omega (arith, place-to)) in
-      ap (λ (z : ℤ). placeOfDay (floorZ z dayMicros)) micros-at ∙ ap placeOfDay (micros-day (placeOf v)) ∙ place-day (placeOf v / dayMicros) (omega arith)
+      ap (λ (m : Moment). placeOfDay (m .day)) moment-place ∙ place-day (placeOf v / dayMicros) (omega arith)
 
   pub micro-at : modZ (microsOf v) dayMicros ≡ placeOf v % dayMicros
-  micro-at = ap (λ (z : ℤ). modZ z dayMicros) micros-at ∙ micros-left (placeOf v)
+  micro-at = ap (λ (m : Moment). m .micro) moment-place

@@ -4,9 +4,10 @@ ghost use Prim.Native.Nat.{_+_, _*_, _/_, _^_, _<_, _≤_};
 ghost use lib.Dec.{ltb};
 ghost use lib.Ieee.{binary64, ofBits};
 ghost use Rattle.axis.specs.Meaning.{placeOfDay};
-ghost use Rattle.handed.specs.Meaning.{Took};
+ghost use Rattle.handed.specs.Meaning.{Took, markOf};
 ghost use Rattle.handed.specs.Parts.{backTo, firstOf, valueOf, found, timeOf};
 use scales::Gps;
+use scales::Mark;
 use scales::Record;
 use scales::Scale;
 use scales::Tai;
@@ -20,6 +21,18 @@ pub mod inner;
 pub enum Handed {
     Record(Record),
     Decimal(f64, Scale),
+}
+
+impl Handed {
+    // The mark of a record; a decimal day is plain.
+    pub fn mark(self) -> Mark
+        ensures { λ r. ⌜ r ≡ markOf self ⌝ }
+    {
+        match self {
+            Handed::Record(r) => r.mark,
+            Handed::Decimal(_, _) => Mark::Plain,
+        }
+    }
 }
 
 // What a handed time is taken for. One that is not finite is told apart from one outside its span, for
@@ -151,22 +164,12 @@ fn take_record(r: Record) -> Taken
     }
 }
 
-fn take_decimal(day: f64, scale: Scale) -> Taken
-    ensures { λ t. ⌜ Took (Handed.Decimal day scale) t ⌝ }
-{
-    match read_days(first_of(scale), day) {
-        Reading::NotFinite => Taken::NotFinite(scale),
-        Reading::Outside => Taken::Outside(scale),
-        Reading::At(n) => Taken::At(time_of(scale, n)),
-    }
-}
-
 // A handed time, taken apart.
 pub fn take(h: Handed) -> Taken
     ensures { λ t. ⌜ Took h t ⌝ }
 {
     match h {
         Handed::Record(r) => take_record(r),
-        Handed::Decimal(day, scale) => take_decimal(day, scale),
+        Handed::Decimal(day, scale) => inner::take_decimal(day, scale),
     }
 }

@@ -13,6 +13,8 @@ use Rattle.scales.specs.declared.Scale.the-variants as S
 use Rattle.scales.specs.declared.Refusal.{Refusal}
 use Rattle.scales.specs.declared.Refusal.the-variants as R
 use Rattle.scales.specs.declared.Record.{Record}
+use Rattle.scales.specs.declared.Mark.{Mark}
+use Rattle.scales.specs.declared.Mark.the-variants as M
 use Rattle.scales.specs.declared.Dated.{Dated}
 use Rattle.scales.specs.declared.Dated.the-variants as D
 use Rattle.scales.specs.declared.DatedTai.{DatedTai}
@@ -97,17 +99,27 @@ standsIn [] os = true
 standsIn (n ∷ ns) [] = false
 standsIn (n ∷ ns) (o ∷ os) = cond (eqb n o) (standsIn ns (o ∷ os)) (standsIn (n ∷ ns) os)
 
--- ---- what the desk hands back of a time: the number (0 for an answer), the scale, the day and the microsecond
+-- ---- what the desk hands back of a time: the number (0 for an answer), the scale, the day, the microsecond and the mark
 pub record Slip : Type 0 where
   pub number : ℕ
   pub scale : Scale
   pub day : ℤ
   pub micro : ℕ
+  pub mark : Mark
 
--- "Every refusal returns its number, day 0 microsecond 0 of the scale that the answer would have had"; "An answer returns 0"
+-- "Every refusal returns its number, day 0 microsecond 0 of the scale that the answer would have had"; "An answer returns 0";
+-- "A refusal's empty record is marked plain"
+abbrev pub datedAs : Mark → Scale → Outcome Moment → Slip
+datedAs m s (refused n) = record { number = n; scale = s; day = pos 0; micro = 0; mark = M.Plain }
+datedAs m s (answer t) = record { number = 0; scale = s; day = t .day; micro = t .micro; mark = m }
+
+-- "text, decimal and byte readers other than Proteus set plain"
 abbrev pub dated : Scale → Outcome Moment → Slip
-dated s (refused n) = record { number = n; scale = s; day = pos 0; micro = 0 }
-dated s (answer t) = record { number = 0; scale = s; day = t .day; micro = t .micro }
+dated s o = datedAs M.Plain s o
+
+-- an answer with another mark; a refusal stays plain
+abbrev pub remark : Mark → Slip → Slip
+remark m x = record { number = x .number; scale = x .scale; day = x .day; micro = x .micro; mark = cond (eqb (x .number) 0) m M.Plain }
 
 -- ---- what it hands back of any other value, a count, a tick, fields or a date: the number and the value
 pub record Valued (A : Type 0) : Type 0 where
@@ -149,7 +161,7 @@ numberOf R.SeasonBroken = 14
 numberOf R.NoEntry = 15
 
 abbrev pub slip : Dated → Slip
-slip (D.At r) = dated (r .scale) (answer (record { day = r .day; micro = r .micro }))
+slip (D.At r) = datedAs (r .mark) (r .scale) (answer (record { day = r .day; micro = r .micro }))
 slip (D.Refused f s) = dated s (refused (numberOf f))
 
 -- the second argument is the lent slice as the writer leaves it
@@ -231,8 +243,11 @@ slipTimed (TD.At t) = timeSlip (timeScale t) (some (timeCount t))
 slipTimed (TD.Refused f s) = timeSlip s (no f)
 
 -- ---- the functions of this crate
+abbrev pub markedRecord : Mark → Record → Record
+markedRecord m r = record { scale = r .scale; day = r .day; micro = r .micro; mark = m }
+
 abbrev pub recordOf : Scale → ℤ → ℕ → Record
-recordOf s d u = record { scale = s; day = d; micro = u }
+recordOf s d u = record { scale = s; day = d; micro = u; mark = M.Plain }
 
 abbrev pub recordMoment : Record → Moment
 recordMoment r = record { day = r .day; micro = r .micro }
@@ -246,8 +261,11 @@ spanning s d u =
     given (inSpan s d u) 7
     (gives (record { day = d; micro = u }))
 
-unfoldable pub spanned : Scale → ℤ → ℕ → Slip
-spanned s d u = dated s (outcome (spanning s d u))
+unfoldable pub spannedAs : Mark → Scale → ℤ → ℕ → Slip
+spannedAs m s d u = datedAs m s (outcome (spanning s d u))
+
+abbrev pub spanned : Scale → ℤ → ℕ → Slip
+spanned s d u = spannedAs M.Plain s d u
 
 -- a result is held to its span at the end: 11
 abbrev pub resulting : Scale → Moment → Judged Moment

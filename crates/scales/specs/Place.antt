@@ -10,9 +10,11 @@ use lib.Signed.{leZ}
 use borrow.Author.Tests.{le-leb, lt-leb, lt-ltb, le-ltb, leb-true, ltb-true}
 use Rattle.axis.specs.Meaning.{isBetween, placeOfDay, dayAt}
 use Rattle.axis.specs.Axis.{day-from, day-to, day-le, day-place, day-inj}
-use Rattle.scales.specs.Meaning.{first, last, bound, inSpan, refused, answer, dated, momentAt, spanned}
+use Rattle.scales.specs.Meaning.{first, last, bound, inSpan, refused, answer, datedAs, dated, momentAt, spannedAs, spanned}
 use Rattle.scales.specs.declared.Scale.{Scale}
 use Rattle.scales.specs.declared.Scale.the-variants as S
+use Rattle.scales.specs.declared.Mark.{Mark}
+use Rattle.scales.specs.declared.Mark.the-variants as M
 use Rattle.scales.specs.declared.spans.Span.{Span}
 use Rattle.scales.specs.declared.spans.Fit.{Fit}
 use Rattle.scales.specs.declared.spans.Fit.the-variants as C
@@ -114,13 +116,20 @@ module _ (s : Scale) (a u : ℕ) where
   span-in h k l = span-at s a u ∙ rw (le-leb (firstAt s) a h, le-leb a 76524 k, lt-ltb u (bound s) l)
 
 -- ---- what is handed back of a day and a microsecond
+module _ (m : Mark) (s : Scale) (d : ℤ) (u : ℕ) where
+  pub marked-in : inSpan s d u ≡ true → spannedAs m s d u ≡ datedAs m s (answer (record { day = d; micro = u }))
+  unfolding spannedAs
+  marked-in e = rw e
+
+  pub marked-out : inSpan s d u ≡ false → spannedAs m s d u ≡ dated s (refused 7)
+  unfolding spannedAs
+  marked-out e = rw e
+
 pub spanned-in : (s : Scale) (d : ℤ) (u : ℕ) → inSpan s d u ≡ true → spanned s d u ≡ dated s (answer (record { day = d; micro = u }))
-unfolding spanned
-spanned-in s d u e = rw e
+spanned-in = marked-in M.Plain
 
 pub spanned-out : (s : Scale) (d : ℤ) (u : ℕ) → inSpan s d u ≡ false → spanned s d u ≡ dated s (refused 7)
-unfolding spanned
-spanned-out s d u e = rw e
+spanned-out = marked-out M.Plain
 
 -- ---- a count of b microseconds a day: its day and its microsecond
 module _ (b p u : ℕ) (h : u < b) where

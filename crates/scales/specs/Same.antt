@@ -79,7 +79,7 @@ no-zero r e =
     omega arith
 
 pub same : (a b : Dated) → slip a ≡ slip b → a ≡ b
-same (D.At x) (D.At y) e = λ i. D.At (record { scale = e i .scale; day = e i .day; micro = e i .micro })
+same (D.At x) (D.At y) e = λ i. D.At (record { scale = e i .scale; day = e i .day; micro = e i .micro; mark = e i .mark })
 same (D.At x) (D.Refused r s) e = absurd (no-zero r (λ i. sym e i .number))
 same (D.Refused r s) (D.At x) e = absurd (no-zero r (λ i. e i .number))
 same (D.Refused r s) (D.Refused q t) e = ap₂ D.Refused (refusals r q (λ i. e i .number)) (λ i. e i .scale)

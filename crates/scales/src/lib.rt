@@ -1,6 +1,6 @@
 // The paper's words: scales, the counts that are kept apart by them, records as handed in, the refusals and the answers.
 ghost use mathlib.Core.Path.{_≡_};
-ghost use Rattle.scales.specs.Meaning.{codeOf, numberOf, slip, slipTai, slipUtc, slipGps, slipTimed, spanned, recordOf, recordAt, timeScale, timeCount};
+ghost use Rattle.scales.specs.Meaning.{codeOf, numberOf, slip, slipTai, slipUtc, slipGps, slipTimed, spanned, spannedAs, remark, recordOf, markedRecord, recordAt, timeScale, timeCount};
 
 mod spans;
 
@@ -39,11 +39,20 @@ pub struct Utc(pub u64);
 // A tick of the satellite's binary time counter.
 pub struct Tick(pub u32);
 
+// Where a record came from: from nothing that it tells, from Proteus with its H3, or from a correlation with its reference tick
+// or count.
+pub enum Mark {
+    Plain,
+    Proteus(bool),
+    Correlated(u64),
+}
+
 // A time as it is handed in or out: nothing is known of it.
 pub struct Record {
     pub scale: Scale,
     pub day: i64,
     pub micro: u64,
+    pub mark: Mark,
 }
 
 // A time whose scale is known only when the program runs.
@@ -165,11 +174,29 @@ impl Time {
 }
 
 impl Record {
-    // A record as a caller hands it in.
+    // A plain record, as a caller hands it in.
     pub fn new(scale: Scale, day: i64, micro: u64) -> Record
         ensures { λ r. ⌜ r ≡ recordOf scale day micro ⌝ }
     {
-        Record { scale, day, micro }
+        Record {
+            scale,
+            day,
+            micro,
+            mark: Mark::Plain,
+        }
+    }
+
+    // The same time with a mark.
+    pub fn with_mark(self, mark: Mark) -> Record
+        ensures { λ r. ⌜ r ≡ markedRecord mark self ⌝ }
+    {
+        let scale = self.scale;
+        Record {
+            scale,
+            day: self.day,
+            micro: self.micro,
+            mark,
+        }
     }
 
     // The time that a record stands for, or 7 outside its scale's span.
@@ -185,12 +212,24 @@ impl Record {
 
     // The record itself, or 7 outside its scale's span.
     pub fn judged(self) -> Dated
-        ensures { λ r. ⌜ slip r ≡ spanned (self .scale) (self .day) (self .micro) ⌝ }
+        ensures { λ r. ⌜ slip r ≡ spannedAs (self .mark) (self .scale) (self .day) (self .micro) ⌝ }
     {
         let scale = self.scale;
         match count_of(scale, self.day, self.micro) {
             Fit::At(_) => Dated::At(self),
             Fit::Outside => Dated::Refused(Refusal::OutsideSpan, scale),
+        }
+    }
+}
+
+impl Dated {
+    // An answer with a mark; a refusal stays as it is.
+    pub fn with_mark(self, mark: Mark) -> Dated
+        ensures { λ r. ⌜ slip r ≡ remark mark (slip self) ⌝ }
+    {
+        match self {
+            Dated::At(r) => Dated::At(r.with_mark(mark)),
+            Dated::Refused(f, s) => Dated::Refused(f, s),
         }
     }
 }

@@ -3,6 +3,7 @@ ghost use mathlib.Core.Path.{_≡_};
 ghost use Rattle.scales.specs.Meaning.{recordAt, timeAt};
 ghost use Rattle.scales.specs.Place.{spanOf, fitOf};
 use crate::Gps;
+use crate::Mark;
 use crate::Record;
 use crate::Scale;
 use crate::Tai;
@@ -58,7 +59,7 @@ pub fn count_of(scale: Scale, day: i64, micro: u64) -> Fit
     Fit::At(axis::place_of_day(day) * bound + micro)
 }
 
-// The record of a count. This function and `Record::new` are the only ones that build a record.
+// The record of a count, plain. This function, `Record::new` and `Record::with_mark` are the only ones that build a record.
 pub fn record_at(scale: Scale, count: u64) -> Record
     ensures { λ r. ⌜ r ≡ recordAt scale count ⌝ }
 {
@@ -68,6 +69,7 @@ pub fn record_at(scale: Scale, count: u64) -> Record
         scale,
         day,
         micro: count % bound,
+        mark: Mark::Plain,
     }
 }
 

@@ -35,7 +35,7 @@ returns c =
     let b = c .before .before .before in
     let a = b .before .args in
     let g = c .before .s .given in
-    let k = told-nothing (H.Decimal (a .day) (a .scale)) (b .take .result) (b .take .ensures) (g .0 .0) (g .1) in
+    let k = told-nothing (H.Decimal (a .day) (a .scale)) (b .take-decimal .result) (b .take-decimal .ensures) (g .0 .0) (g .1) in
     nothing (a .day) (a .scale) (g .0 .0) (k .0) (k .1)
 
 returns-2 : tie.Need-returns-2
@@ -43,7 +43,7 @@ returns-2 c =
     let b = c .before .before .before in
     let a = b .before .args in
     let g = c .before .s2 .given in
-    let k = told-outside (H.Decimal (a .day) (a .scale)) (b .take .result) (b .take .ensures) (g .0 .0) (g .1) in
+    let k = told-outside (H.Decimal (a .day) (a .scale)) (b .take-decimal .result) (b .take-decimal .ensures) (g .0 .0) (g .1) in
     outside (a .day) (a .scale) (g .0 .0) (k .0) (k .1) (k .2)
 
 returns-3 : tie.Need-returns-3
@@ -53,7 +53,7 @@ returns-3 c =
     let a = b .before .args in
     let g = d .t .given in
     at (a .day) (a .scale) (g .0 .0) (c .to-record .result)
-    (told-at (H.Decimal (a .day) (a .scale)) (b .take .result) (b .take .ensures) (g .0 .0) (g .1))
+    (told-at (H.Decimal (a .day) (a .scale)) (b .take-decimal .result) (b .take-decimal .ensures) (g .0 .0) (g .1))
     (c .to-record .ensures)
 
 pub read-spec : {M : Type 1} → statement M

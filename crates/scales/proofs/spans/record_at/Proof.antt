@@ -11,6 +11,7 @@ use Rattle.axis.specs.Meaning.{dayAt}
 use Rattle.scales.specs.Meaning.{bound}
 use Rattle.scales.specs.Place.{apart}
 use Rattle.scales.specs.declared.Record.{Record}
+use Rattle.scales.specs.declared.Mark.the-variants.{Plain}
 use Rattle.scales.specs.declared.spans.Span.{Span}
 use Rattle.scales.proofs.spans.record_at.Statement.{statement}
 use Rattle.scales.proofs.spans.record_at.Tie as tie
@@ -38,9 +39,9 @@ rem-t6 c = omega (arith, whole (c .before))
 returns : tie.Need-returns
 returns c =
     let a = c .before .before .args in
-    ap {B = Record} (λ (z : ℤ). record { scale = a .scale; day = z; micro = a .count % c .before .span-of .result .bound })
+    ap {B = Record} (λ (z : ℤ). record { scale = a .scale; day = z; micro = a .count % c .before .span-of .result .bound; mark = Plain })
     (toZ-ofZ {w = w64} {z = c .day-at .result} (record { sfits = c .day-at .ok }) ∙ c .day-at .ensures)
-    ∙ ap {B = Record} (λ (b : ℕ). record { scale = a .scale; day = dayAt (a .count / b); micro = a .count % b }) (bound-is (c .before))
+    ∙ ap {B = Record} (λ (b : ℕ). record { scale = a .scale; day = dayAt (a .count / b); micro = a .count % b; mark = Plain }) (bound-is (c .before))
 
 pub record-at-spec : {M : Type 1} → statement M
 record-at-spec =
