@@ -9,7 +9,7 @@ use lib.IntN.{ℤ}
 use borrow.Author.Tests.{ltb-true, lt-ltb, le-ltb}
 use Rattle.axis.specs.Meaning.{placeOfDay, dayAt, Moment}
 use Rattle.axis.specs.Axis.{day-place}
-use Rattle.scales.specs.Meaning.{inSpan, Judged, given, gives, Outcome, refused, answer, outcome, Slip, dated, numberOf, slip, spanned, recordMoment}
+use Rattle.scales.specs.Meaning.{inSpan, Judged, given, gives, Outcome, refused, answer, outcome, Slip, dated, numberOf, slip, slipTimed, spanned, recordMoment}
 use Rattle.scales.specs.Order.{no-answer, numbered}
 use Rattle.scales.specs.Same.{no-zero}
 use Rattle.scales.specs.Place.{and-both, apart, placed, spanned-out}
@@ -19,6 +19,7 @@ use Rattle.scales.specs.declared.Scale.the-variants as S
 use Rattle.scales.specs.declared.Record.{Record}
 use Rattle.scales.specs.declared.Refusal.{Refusal}
 use Rattle.scales.specs.declared.Dated.the-variants as D
+use Rattle.scales.specs.declared.Timed.the-variants as TD
 use Rattle.handed.specs.Meaning.{scaleOf, isFinite, isInSpan, momentIn}
 use Rattle.handed.specs.Laid.{LaidAt}
 use Rattle.handed.specs.declared.Handed.{Handed}
@@ -40,14 +41,6 @@ lacking true true e = absurd (false≢true e)
 lacking true false e = (refl, refl)
 lacking false a e = absurd (false≢true e)
 
--- a record that was judged and not refused lies in its span
-pub spanned-at : (s : Scale) (d : ℤ) (u : ℕ) (x : Record) → slip (D.At x) ≡ spanned s d u → inSpan s d u ≡ true
-spanned-at s d u x q = go (inSpan s d u) refl
-  where
-    go : (b : Bool) → inSpan s d u ≡ b → inSpan s d u ≡ true
-    go true p = p
-    go false p = absurd (let z : _≡_ {A = ℕ} 0 7 = λ i. (q ∙ spanned-out s d u p) i .number in omega arith)
-
 module _ (ds : List ℤ) (os : List ℕ) (e : ℤ) where
   -- ---- the list is judged before
   pub list-passes : (z : Scale) → (isUtc z ≡ true → accepted ds os e ≡ true) → (not (isUtc z) || accepted ds os e) ≡ true
@@ -64,12 +57,12 @@ module _ (ds : List ℤ) (os : List ℕ) (e : ℤ) where
     abbrev Judges : Slip → Type 0
     Judges x = x ≡ dated (r .scale) (outcome (recordAsked r ds os e))
 
-    pub judge-outside : (f : Refusal) (y : Scale) → slip (D.Refused f y) ≡ spanned (r .scale) (r .day) (r .micro) → Judges (slip (D.Refused f y))
+    pub judge-outside : (f : Refusal) (y : Scale) → slipTimed (TD.Refused f y) ≡ spanned (r .scale) (r .day) (r .micro) → Judges (slip (D.Refused f y))
     judge-outside f y q =
         let k = timed-no (r .scale) (r .day) (r .micro) f y q in
         q ∙ spanned-out (r .scale) (r .day) (r .micro) (k .0) ∙ sym (rw (list-passes (r .scale) w, k .0))
 
-    pub judge-plain : inSpan (r .scale) (r .day) (r .micro) ≡ true → isUtc (r .scale) ≡ false → Judges (slip (D.At r))
+    pub judge-plain : inSpan (r .scale) (r .day) (r .micro) ≡ true → isUtc (r .scale) ≡ false → Judges (dated (r .scale) (answer (recordMoment r)))
     judge-plain i u = sym (rw (i, u))
 
     -- of UTC also 9 and 10, by the place of the day
@@ -99,7 +92,7 @@ module _ (ds : List ℤ) (os : List ℕ) (e : ℤ) where
       pub judge-lacking : p ≤ placeOfDay e → hasMicro ds (dayAt p) (r .micro) ≡ false → Judges (dated (r .scale) (refused 10))
       judge-lacking l m = sym (rw (k .utc, w (k .utc), k .inside, after, le-ltb (placeOfDay e) p l, has false m))
 
-      pub judge-stands : p ≤ placeOfDay e → hasMicro ds (dayAt p) (r .micro) ≡ true → Judges (slip (D.At r))
+      pub judge-stands : p ≤ placeOfDay e → hasMicro ds (dayAt p) (r .micro) ≡ true → Judges (dated (r .scale) (answer (recordMoment r)))
       judge-stands l m = sym (rw (k .utc, w (k .utc), k .inside, after, le-ltb (placeOfDay e) p l, has true m))
 
   -- ---- a handed time that was laid out as a record

@@ -5,7 +5,9 @@ use mathlib.Core.List.{List}
 use Prim.Native.Nat.{ℕ}
 use lib.IntN.{ℤ}
 use Rattle.axis.specs.Meaning.{microsAt, Moment}
-use Rattle.scales.specs.Meaning.{sameScale, inSpan, Judged, refused, answer, outcome, Slip, dated, numberOf, momentAt, timeScale, timeCount}
+use Rattle.scales.specs.Meaning.{sameScale, inSpan, Judged, refused, answer, outcome, Slip, datedAs, dated, remark, numberOf, momentAt, timeScale, timeCount}
+use Rattle.scales.specs.Order.{numbered}
+use Rattle.scales.specs.Marks.{remark-is}
 use Rattle.scales.specs.Same.{same-scale}
 use Rattle.scales.specs.declared.Scale.{Scale}
 use Rattle.scales.specs.declared.Scale.the-variants as S
@@ -16,7 +18,7 @@ use Rattle.scales.specs.declared.DatedTai.the-variants as DT
 use Rattle.scales.specs.declared.Time.{Time}
 use Rattle.handed.specs.declared.Handed.{Handed}
 use Rattle.handed.specs.Told.{Told, told-scale, told-moment}
-use Rattle.handed.specs.Meaning.{scaleOf, isFinite, isInSpan, momentIn}
+use Rattle.handed.specs.Meaning.{scaleOf, markOf, isFinite, isInSpan, momentIn}
 use Rattle.leap.specs.Meaning.{accepted}
 use Rattle.leap.specs.Walk.{or-true}
 use Rattle.via_tai.specs.Meaning.{fromScale, toScale, isUtc, ofCount}
@@ -48,6 +50,18 @@ module _ (s : Scale) (n : ℕ) (ds : List ℤ) (os : List ℕ) {z e : ℤ} (q : 
   pub move-out : {f : Refusal} → r ≡ DT.Refused f → dated to (refused (numberOf f)) ≡ moved e
   move-out g = way-out w to next g ∙ ap moved q
 
+-- none of its refusals has the number of an answer
+moving-numbered : (s to : Scale) (ds : List ℤ) (os : List ℕ) (e : ℤ) (n : ℕ) → numbered (ofCount s n (moving s to ds os e)) ≡ true
+moving-numbered S.Tai S.Tai ds os e n = refl
+moving-numbered S.Tai S.Utc ds os e n = refl
+moving-numbered S.Tai S.Gps ds os e n = refl
+moving-numbered S.Utc S.Tai ds os e n = refl
+moving-numbered S.Utc S.Utc ds os e n = refl
+moving-numbered S.Utc S.Gps ds os e n = refl
+moving-numbered S.Gps S.Tai ds os e n = refl
+moving-numbered S.Gps S.Utc ds os e n = refl
+moving-numbered S.Gps S.Gps ds os e n = refl
+
 -- ---- what is judged before
 pub having : (u a : Bool) → (u && not a) ≡ false → (not u || a) ≡ true
 having true true e = refl
@@ -74,12 +88,13 @@ module _ (h : Handed) (to : Scale) (ds : List ℤ) (os : List ℕ) (e : ℤ) whe
   pub change-outside : isFinite h ≡ true → lacks ≡ false → isInSpan h ≡ false → dated to (refused 7) ≡ changeOf h to ds os e
   unfolding changeOf
   change-outside f l i =
-      sym (rw (f, having (changeUsesList (scaleOf h) to) (accepted ds os e) l, i) (ap (dated to) (seven (scaleOf h) (momentIn h))))
+      sym (rw (f, having (changeUsesList (scaleOf h) to) (accepted ds os e) l, i) (ap (datedAs (markOf h) to) (seven (scaleOf h) (momentIn h))))
 
   pub change-at : (t : Time) → Told h t → lacks ≡ false
-      → dated to (outcome (ofCount (timeScale t) (timeCount t) (moving (timeScale t) to ds os e))) ≡ changeOf h to ds os e
+      → remark (markOf h) (dated to (outcome (ofCount (timeScale t) (timeCount t) (moving (timeScale t) to ds os e)))) ≡ changeOf h to ds os e
   unfolding changeOf
   change-at t w l =
-      ap₂ (λ (s : Scale) (m : Moment). dated to (outcome (moving s to ds os e (inSpan s (m .day) (m .micro)) m))) (told-scale h t w) (told-moment h t w)
-      ∙ ap (λ (b : Bool). dated to (outcome (moving (scaleOf h) to ds os e b (momentIn h)))) (w .kept ∙ sym (w .inside))
+      remark-is (markOf h) to (ofCount (timeScale t) (timeCount t) (moving (timeScale t) to ds os e)) (moving-numbered (timeScale t) to ds os e (timeCount t))
+      ∙ ap₂ (λ (s : Scale) (m : Moment). datedAs (markOf h) to (outcome (moving s to ds os e (inSpan s (m .day) (m .micro)) m))) (told-scale h t w) (told-moment h t w)
+      ∙ ap (λ (b : Bool). datedAs (markOf h) to (outcome (moving (scaleOf h) to ds os e b (momentIn h)))) (w .kept ∙ sym (w .inside))
       ∙ sym (rw (w .finite, having (changeUsesList (scaleOf h) to) (accepted ds os e) l))

@@ -5,11 +5,11 @@ use mathlib.Core.List.{List}
 use Prim.Native.Nat.{ℕ}
 use lib.IntN.{ℤ}
 use Rattle.axis.specs.Meaning.{Moment}
-use Rattle.scales.specs.Meaning.{andThen, sameScale, Judged, given, gives, outcome, Slip, dated}
+use Rattle.scales.specs.Meaning.{andThen, sameScale, Judged, given, gives, outcome, Slip, datedAs, dated}
 use Rattle.scales.specs.declared.Scale.{Scale}
 use Rattle.scales.specs.declared.Scale.the-variants as S
 use Rattle.handed.specs.declared.Handed.{Handed}
-use Rattle.handed.specs.Meaning.{scaleOf, isFinite, isInSpan, momentIn}
+use Rattle.handed.specs.Meaning.{scaleOf, markOf, isFinite, isInSpan, momentIn}
 use Rattle.leap.specs.Meaning.{accepted, hasMicro, isExpiredDay}
 use Rattle.via_tai.specs.Meaning.{fromTai, fromGps, fromUtc, toTai, toGps, toUtc, ofCount, fromScale, toScale, isUtc}
 
@@ -72,8 +72,9 @@ changing h to ds os e =
     (given (not (changeUsesList (scaleOf h) to) || accepted ds os e) 5
     (moving (scaleOf h) to ds os e (isInSpan h) (momentIn h)))
 
+-- "Scale changes keep the mark"
 unfoldable pub changeOf : Handed → Scale → List ℤ → List ℕ → ℤ → Slip
-changeOf h to ds os e = dated to (outcome (changing h to ds os e))
+changeOf h to ds os e = datedAs (markOf h) to (outcome (changing h to ds os e))
 
 -- ---- "Reading and writing UTC text both apply the leap list": what a list is asked for a time that stays in its scale z; `inside` says
 -- whether the time lies in its span

@@ -17,6 +17,7 @@ use scales::Refusal;
 use scales::Scale;
 use scales::Tai;
 use scales::Time;
+use scales::Timed;
 
 // ---- a time and a scale that are known only when the program runs
 
@@ -104,17 +105,18 @@ pub fn lacks_list(used: bool, days: &[i64], offsets: &[u64], last: i64) -> bool
     !leap::is_accepted(days, offsets, last)
 }
 
-// A record in its own scale, after the refusals that this scale brings; a list that is used was accepted before.
+// A record in its own scale, plain, after the refusals that this scale brings; a list that is used was accepted before.
 pub fn judge(r: Record, days: &[i64], offsets: &[u64], last: i64) -> Dated
     requires { ⌜ (isUtc (r .scale) ≡ true → accepted (now days) (now offsets) last ≡ true) ⌝ }
     ensures { λ d. ⌜ slip d ≡ dated (r .scale) (outcome (recordAsked r (now (days .entry)) (now (offsets .entry)) last)) ⌝ }
 {
     let scale = r.scale;
-    match r.judged() {
-        Dated::Refused(f, z) => Dated::Refused(f, z),
-        Dated::At(_) => {
+    match r.to_time() {
+        Timed::Refused(f, z) => Dated::Refused(f, z),
+        Timed::At(_) => {
+            let t = Record::new(scale, r.day, r.micro);
             if !is_utc(scale) {
-                return Dated::At(r);
+                return Dated::At(t);
             }
             let day = axis::place_of_day(r.day);
             if axis::place_of_day(last) < day {
@@ -123,7 +125,7 @@ pub fn judge(r: Record, days: &[i64], offsets: &[u64], last: i64) -> Dated
             if !via_tai::inner::has_micro(days, day, r.micro) {
                 return Dated::Refused(Refusal::SecondLacking, scale);
             }
-            Dated::At(r)
+            Dated::At(t)
         }
     }
 }

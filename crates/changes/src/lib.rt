@@ -98,7 +98,7 @@ pub fn change(h: Handed, to: Scale, days: &[i64], offsets: &[u64], last: i64) ->
             if inner::lacks_list(inner::change_uses_list(t.scale(), to), days, offsets, last) {
                 return Dated::Refused(Refusal::ListNotAccepted, to);
             }
-            inner::change(t, to, days, offsets, last)
+            inner::change(t, to, days, offsets, last).with_mark(h.mark())
         }
     }
 }

@@ -4,20 +4,20 @@ use mathlib.Core.Path.{_≡_, refl, sym, ap, _∙_}
 use mathlib.Core.Bool.{Bool, true, false, not, _||_}
 use mathlib.Core.List.{List}
 use Prim.Native.Nat.{ℕ}
-use native.Mathlib.Omega.{arith}
 use lib.IntN.{ℤ, pos}
 use Rattle.axis.specs.Meaning.{Moment}
-use Rattle.scales.specs.Meaning.{inSpan, Judged, given, gives, Outcome, refused, answer, outcome, dated, recordOf}
+use Rattle.scales.specs.Meaning.{inSpan, Judged, given, gives, refused, answer, outcome, datedAs, recordOf}
 use Rattle.scales.specs.Order.{onward, then-is, no-answer}
 use Rattle.scales.specs.declared.Scale.{Scale}
 use Rattle.scales.specs.declared.Scale.the-variants as S
-use Rattle.handed.specs.Meaning.{scaleOf, isFinite, isInSpan, momentIn}
+use Rattle.handed.specs.Meaning.{scaleOf, markOf, isFinite, isInSpan, momentIn}
 use Rattle.handed.specs.declared.Handed.{Handed}
 use Rattle.handed.specs.declared.Handed.the-variants as H
 use Rattle.leap.specs.Meaning.{accepted, isStep, publishedDays, publishedOffsets, publishedLast}
 use Rattle.leap.specs.Published.{published}
 use Rattle.changes.specs.Meaning.{changeUsesList, moving, changing, changeOf, asked}
 use Rattle.changes.specs.Asked.{handedAsked, list-passes, sound}
+use Rattle.leap_laws.proofs.Slips.{by-nine, same}
 use Rattle.leap_laws.proofs.Promises.{Fresh, fresh}
 use Rattle.leap_laws.proofs.Computed.{published-6209, extended}
 
@@ -28,16 +28,6 @@ own S.Tai ds os e finite inside m = refl
 own S.Utc ds os e finite inside m = refl
 own S.Gps ds os e finite inside m = refl
 
-nine : (z : Scale) (o : Outcome Moment) → dated z o .number ≡ 9 → o ≡ refused 9
-nine z (refused n) q = ap refused q
-nine z (answer m) q = absurd (omega arith)
-
-same : (z : Scale) (o p : Outcome Moment) → (o ≡ refused 0 → ⊥) → (p ≡ refused 0 → ⊥) → dated z o ≡ dated z p → o ≡ p
-same z (refused n) (refused m) a b q = ap refused (λ i. q i .number)
-same z (refused n) (answer m) a b q = absurd (a (ap refused (λ i. q i .number)))
-same z (answer m) (refused n) a b q = absurd (b (ap refused (λ i. sym q i .number)))
-same z (answer m) (answer n) a b q = λ i. answer (record { day = q i .day; micro = q i .micro })
-
 module _ (ds : List ℤ) (os : List ℕ) (e : ℤ) (cs : List ℤ) (ps : List ℕ) (f : ℤ) (a : accepted ds os e ≡ true) (b : accepted cs ps f ≡ true) (w : Fresh ds os e cs ps f) where
   -- of any time that is handed in
   pub handed-again : (h : Handed) → (outcome (handedAsked ds os e h) ≡ refused 9 → ⊥) → outcome (handedAsked cs ps f h) ≡ outcome (handedAsked ds os e h)
@@ -46,9 +36,9 @@ module _ (ds : List ℤ) (os : List ℕ) (e : ℤ) (cs : List ℤ) (ps : List �
       let z = scaleOf h in
       let o : outcome (changing h z ds os e) ≡ outcome (handedAsked ds os e h) = own z ds os e (isFinite h) (isInSpan h) (momentIn h) in
       let p : outcome (changing h z cs ps f) ≡ outcome (handedAsked cs ps f h) = own z cs ps f (isFinite h) (isInSpan h) (momentIn h) in
-      let k = w .change h z (λ q. n (sym o ∙ nine z (outcome (changing h z ds os e)) q)) in
-      same z (outcome (handedAsked cs ps f h)) (outcome (handedAsked ds os e h)) (sound (handedAsked cs ps f h) refl) (sound (handedAsked ds os e h) refl)
-      (ap (dated z) (sym p) ∙ k ∙ ap (dated z) o)
+      let k = w .change h z (λ q. n (sym o ∙ by-nine (markOf h) z (outcome (changing h z ds os e)) q)) in
+      same (markOf h) z (outcome (handedAsked cs ps f h)) (outcome (handedAsked ds os e h)) (sound (handedAsked cs ps f h) refl) (sound (handedAsked ds os e h) refl)
+      (ap (datedAs (markOf h) z) (sym p) ∙ k ∙ ap (datedAs (markOf h) z) o)
 
   -- of a moment of scale z, which is outside its span or was found to lie in it, whatever is judged after
   module _ (z : Scale) (inside : Bool) (m : Moment) (i : inside ≡ true → inSpan z (m .day) (m .micro) ≡ true) where

@@ -3,6 +3,7 @@ use mathlib.Core.Path.{_≡_}
 use Prim.Native.Nat.{ℕ, _<_}
 use lib.Dec.{lit<, lit≤}
 use Rattle.scales.specs.declared.Scale.the-variants as S
+use Rattle.scales.specs.declared.Mark.the-variants as M
 use Rattle.leap.specs.Meaning.{through, isStep, publishedDays, publishedOffsets, publishedLast}
 use Rattle.leap.specs.Published.{published}
 use Rattle.changes.specs.Meaning.{utcToTai}
@@ -21,16 +22,16 @@ sixtyTai = 3992544036000000
 abbrev midnightTai : ℕ
 midnightTai = 3992544037000000
 
-sixty-changes : function named utcTai publishedDays publishedOffsets publishedLast sixty ≡ answered S.Tai sixtyTai
+sixty-changes : function named utcTai publishedDays publishedOffsets publishedLast sixty ≡ answered named S.Tai sixtyTai
 unfolding utcToTai through isStep
 sixty-changes = rw published
 
-midnight-changes : function named utcTai publishedDays publishedOffsets publishedLast midnight ≡ answered S.Tai midnightTai
+midnight-changes : function named utcTai publishedDays publishedOffsets publishedLast midnight ≡ answered named S.Tai midnightTai
 unfolding utcToTai through isStep
 midnight-changes = rw published
 
 -- there and back
-pub sixty-back : function named taiUtc publishedDays publishedOffsets publishedLast sixtyTai ≡ answered S.Utc sixty
+pub sixty-back : function named taiUtc publishedDays publishedOffsets publishedLast sixtyTai ≡ answered named S.Utc sixty
 sixty-back = undoes publishedDays publishedOffsets publishedLast published named utcTai sixty sixtyTai sixty-changes
 
 -- later stays later, from second 60 to the next day
@@ -39,9 +40,9 @@ sixty-first =
     later publishedDays publishedOffsets publishedLast published named utcTai sixty midnight sixtyTai midnightTai sixty-changes midnight-changes (lit< tt)
 
 -- there is one UTC time with that TAI
-pub sixty-one : UtcOf publishedDays publishedOffsets publishedLast published handed sixtyTai
+pub sixty-one : UtcOf publishedDays publishedOffsets publishedLast published (handed (M.Correlated 9)) sixtyTai
 unfolding through
-sixty-one = the-one publishedDays publishedOffsets publishedLast published handed sixtyTai (lit≤ tt) (lit≤ tt) (lit< tt)
+sixty-one = the-one publishedDays publishedOffsets publishedLast published (handed (M.Correlated 9)) sixtyTai (lit≤ tt) (lit≤ tt) (lit< tt)
 
-pub sixty-only : (n : ℕ) → function named utcTai publishedDays publishedOffsets publishedLast n ≡ answered S.Tai sixtyTai → n ≡ sixty
+pub sixty-only : (n : ℕ) → function named utcTai publishedDays publishedOffsets publishedLast n ≡ answered named S.Tai sixtyTai → n ≡ sixty
 sixty-only n h = only publishedDays publishedOffsets publishedLast published named utcTai n sixty sixtyTai h sixty-changes

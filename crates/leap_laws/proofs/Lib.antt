@@ -1,10 +1,12 @@
 pub mod Computed
 pub mod Lists
+pub mod Slips
 pub mod Order
 pub mod Stands
 pub mod Arrives
 pub mod Changes
 pub mod Functions
+pub mod Marks
 pub mod Never
 pub mod Fresh
 pub mod Kept

@@ -71,7 +71,7 @@ last-offset = (same, changed)
 
 -- ---- TAI to GPS that gives day 0 for everything: laws of counts say nothing of it
 abbrev lostGps : ℕ → Slip
-lostGps n = F.answered S.Gps 3456000000000000
+lostGps n = F.answered F.named S.Gps 3456000000000000
 
 day-zero-back : gpsToTai 3456000000000000 ≡ answered S.Tai (pos 0) 19000000
 unfolding gpsToTai
@@ -79,7 +79,7 @@ day-zero-back = refl
 
 pub functions-unsaid :
     Outgrown ((n k : ℕ) → C.changed S.Tai S.Gps publishedDays publishedOffsets publishedLast n ≡ answer (momentAt S.Gps k) → C.changed S.Gps S.Tai publishedDays publishedOffsets publishedLast k ≡ answer (momentAt S.Tai n))
-    ((n k : ℕ) → lostGps n ≡ F.answered S.Gps k → F.function F.named F.gpsTai publishedDays publishedOffsets publishedLast k ≡ F.answered S.Tai n)
+    ((n k : ℕ) → lostGps n ≡ F.answered F.named S.Gps k → F.function F.named F.gpsTai publishedDays publishedOffsets publishedLast k ≡ F.answered F.named S.Tai n)
 functions-unsaid = (
   C.round publishedDays publishedOffsets publishedLast published S.Tai S.Gps,
   λ w. byMicro (λ z. omega arith) (sym day-zero-back ∙ w 3456000000000000 3456000000000000 refl),

@@ -9,17 +9,19 @@ use lib.IntN.{ℤ, pos, _+ℤ_}
 use lib.Signed.{leZ}
 use Rattle.axis.specs.Meaning.{placeOfDay, Moment}
 use Rattle.axis.specs.Axis.{day-place}
-use Rattle.scales.specs.Meaning.{bound, inSpan, given, Outcome, refused, outcome, Slip, dated, momentAt}
+use Rattle.scales.specs.Meaning.{bound, inSpan, given, refused, outcome, Slip, datedAs, dated, momentAt}
 use Rattle.scales.specs.Place.{apart}
 use Rattle.scales.specs.declared.Scale.{Scale}
 use Rattle.scales.specs.declared.Scale.the-variants as S
+use Rattle.scales.specs.declared.Mark.the-variants as M
 use Rattle.handed.specs.declared.Handed.{Handed}
 use Rattle.handed.specs.Told.{loose}
-use Rattle.handed.specs.Meaning.{scaleOf, isFinite, isInSpan, dayOf, microOf, momentIn}
+use Rattle.handed.specs.Meaning.{scaleOf, markOf, isFinite, isInSpan, dayOf, microOf, momentIn}
 use Rattle.leap.specs.Meaning.{accepted, Extends, allLater, publishedDays, publishedOffsets, publishedLast}
 use Rattle.changes.specs.Meaning.{withList, changeUsesList, moving, utcToTai, utcToGps, taiToUtc, gpsToUtc, changeOf}
 use Rattle.changes.specs.Ways.{list-in}
 use Rattle.changes.specs.General.{seven}
+use Rattle.leap_laws.proofs.Slips.{nine}
 use Rattle.leap_laws.proofs.Stands.{moment}
 use Rattle.leap_laws.proofs.Fresh.{kept}
 use Rattle.leap.specs.Published.{published}
@@ -32,9 +34,6 @@ pub record Fresh (ds : List ℤ) (os : List ℕ) (e : ℤ) (cs : List ℤ) (ps :
   pub utc-gps : (n : ℕ) → (utcToGps n ds os e .number ≡ 9 → ⊥) → utcToGps n cs ps f ≡ utcToGps n ds os e
   pub tai-utc : (n : ℕ) → (taiToUtc n ds os e .number ≡ 9 → ⊥) → taiToUtc n cs ps f ≡ taiToUtc n ds os e
   pub gps-utc : (n : ℕ) → (gpsToUtc n ds os e .number ≡ 9 → ⊥) → gpsToUtc n cs ps f ≡ gpsToUtc n ds os e
-
-nine : (s : Scale) (o : Outcome Moment) → o ≡ refused 9 → dated s o .number ≡ 9
-nine s o q = ap (λ (x : Outcome Moment). dated s x .number) q
 
 module _ (ds : List ℤ) (os : List ℕ) (e : ℤ) (w : accepted ds os e ≡ true) (cs : List ℤ) (ps : List ℕ) (f : ℤ)
     (v : accepted (ds ++ cs) (os ++ ps) f ≡ true) (far : allLater cs (e +ℤ pos 1) ≡ true) (ends : leZ e f ≡ true) where
@@ -49,7 +48,7 @@ module _ (ds : List ℤ) (os : List ℕ) (e : ℤ) (w : accepted ds os e ≡ tru
       let B = moving s to (ds ++ cs) (os ++ ps) f j (momentAt s n) in
       let p = list-in to ds os e A w in
       sym (list-in to (ds ++ cs) (os ++ ps) f B v)
-      ∙ ap (dated to) (kept ds os e w cs ps f v far ends s to j (n / bound s) (n % bound s) (λ q. h (ap (λ (y : Slip). y .number) (sym p) ∙ nine to (outcome A) q)))
+      ∙ ap (dated to) (kept ds os e w cs ps f v far ends s to j (n / bound s) (n % bound s) (λ q. h (ap (λ (y : Slip). y .number) (sym p) ∙ nine M.Plain to (outcome A) q)))
       ∙ p
 
   -- what is handed in
@@ -65,24 +64,24 @@ module _ (ds : List ℤ) (os : List ℕ) (e : ℤ) (w : accepted ds os e ≡ tru
       m = momentIn h
 
       slipA : Bool → Bool → Slip
-      slipA p q = dated to (outcome (given p 4 (given (not (changeUsesList (scaleOf h) to) || accepted ds os e) 5 (moving (scaleOf h) to ds os e q m))))
+      slipA p q = datedAs (markOf h) to (outcome (given p 4 (given (not (changeUsesList (scaleOf h) to) || accepted ds os e) 5 (moving (scaleOf h) to ds os e q m))))
 
       slipB : Bool → Bool → Slip
       slipB p q =
-          dated to
+          datedAs (markOf h) to
           (outcome
           (given p 4 (given (not (changeUsesList (scaleOf h) to) || accepted (ds ++ cs) (os ++ ps) f) 5 (moving (scaleOf h) to (ds ++ cs) (os ++ ps) f q m))))
 
-      A : (q : Bool) → slipA true q ≡ dated to (outcome (moving (scaleOf h) to ds os e q m))
+      A : (q : Bool) → slipA true q ≡ datedAs (markOf h) to (outcome (moving (scaleOf h) to ds os e q m))
       A q = rw (used (not (changeUsesList (scaleOf h) to)) (accepted ds os e) w)
 
-      B : (q : Bool) → slipB true q ≡ dated to (outcome (moving (scaleOf h) to (ds ++ cs) (os ++ ps) f q m))
+      B : (q : Bool) → slipB true q ≡ datedAs (markOf h) to (outcome (moving (scaleOf h) to (ds ++ cs) (os ++ ps) f q m))
       B q = rw (used (not (changeUsesList (scaleOf h) to)) (accepted (ds ++ cs) (os ++ ps) f) v)
 
       go : (p : Bool) → isFinite h ≡ p → (q : Bool) → isInSpan h ≡ q → (slipA p q .number ≡ 9 → ⊥) → slipB p q ≡ slipA p q
       go false x q y k = refl
       go true x false y k =
-          B false ∙ ap (dated to) (seven h to (ds ++ cs) (os ++ ps) f (scaleOf h) m ∙ sym (seven h to ds os e (scaleOf h) m)) ∙ sym (A false)
+          B false ∙ ap (datedAs (markOf h) to) (seven h to (ds ++ cs) (os ++ ps) f (scaleOf h) m ∙ sym (seven h to ds os e (scaleOf h) m)) ∙ sym (A false)
       go true x true y k =
           let l = loose h x y in
           let a = placeOfDay (dayOf h) in
@@ -93,7 +92,7 @@ module _ (ds : List ℤ) (os : List ℕ) (e : ℤ) (w : accepted ds os e ≡ tru
           → outcome (moving (scaleOf h) to (ds ++ cs) (os ++ ps) f true n) ≡ outcome (moving (scaleOf h) to ds os e true n)) (sym d)
           (kept ds os e w cs ps f v far ends (scaleOf h) to true a (microOf h)) in
           B true
-          ∙ ap (dated to) (z (λ r. k (ap (λ (s : Slip). s .number) (A true) ∙ nine to (outcome (moving (scaleOf h) to ds os e true m)) r)))
+          ∙ ap (datedAs (markOf h) to) (z (λ r. k (ap (λ (s : Slip). s .number) (A true) ∙ nine (markOf h) to (outcome (moving (scaleOf h) to ds os e true m)) r)))
           ∙ sym (A true)
 
   core : Fresh ds os e (ds ++ cs) (os ++ ps) f

@@ -9,15 +9,17 @@ use lib.IntN.{ℤ, pos, negsuc, _+ℤ_, _-ℤ_}
 use lib.ListN.{getD, take}
 use Rattle.evidence.specs.ShutOut.{ShutOut, differ}
 use Rattle.axis.specs.Meaning.{placeOfDay, Moment, since, momentOf}
-use Rattle.scales.specs.Meaning.{andThen, Judged, given, gives, outcome, Slip, dated, recordOf, resulting}
+use Rattle.scales.specs.Meaning.{andThen, Judged, given, gives, outcome, Slip, dated, recordOf, markedRecord, resulting}
 use Rattle.scales.specs.declared.Scale.{Scale}
 use Rattle.scales.specs.declared.Scale.the-variants as S
+use Rattle.scales.specs.declared.Record.{Record}
+use Rattle.scales.specs.declared.Mark.the-variants as M
 use Rattle.handed.specs.declared.Handed.the-variants as H
 use Rattle.calendar.specs.Meaning.{leap, monthLength, lengthOf, firstDay, dayAfter, daysTo, walk, isFirst, allFirsts}
 use Rattle.leap.specs.Meaning.{seconds, areSteps, begins, risesFrom, rises, countsFrom, countsUp, endsIn, noneLater, accepted, through, offsetOn, taiOf, isStep, hasMicro, isExpiredDay, publishedDays, publishedOffsets, publishedLast}
 use Rattle.via_tai.specs.Meaning.{fromTai, fromUtc, toTai, toGps, toUtc, ofCount}
 use Rattle.changes.specs.Meaning.{moving, taiToGps, gpsToTai, utcToTai, utcToGps, taiToUtc, gpsToUtc, changeOf}
-use Rattle.ground_laws.proofs.Desks.{answered, empty, byNumber, byMicro, refusesAll, dayZero}
+use Rattle.ground_laws.proofs.Desks.{answered, empty, markedAs, byNumber, byMark, byMicro, alwaysMarked, refusesAll, dayZero}
 
 -- ---- is_accepted
 -- a step on E+1 dropped as expired: none may be later than E
@@ -176,6 +178,9 @@ plusGps c = resulting S.Gps (momentOf (c +ℤ seconds 19))
 abbrev eighteen : ℤ → Judged Moment
 eighteen c = resulting S.Gps (momentOf (c -ℤ seconds 18))
 
+abbrev correlated : Record
+correlated = markedRecord (M.Correlated 9) (recordOf S.Gps (pos 5) 7)
+
 pub record WrongRest : Type 0 where
   pub tai-day :
       ShutOut (taiToUtc (counted S.Tai (pos 6210) 36500000) publishedDays publishedOffsets publishedLast) (answered S.Utc (pos 6209) 86400500000)
@@ -210,6 +215,16 @@ pub record WrongRest : Type 0 where
   pub list-always :
       ShutOut (changeOf (H.Record (recordOf S.Tai (pos 0) 0)) S.Tai [] [] (pos 0)) (answered S.Tai (pos 0) 0)
       (made S.Tai (given (accepted [] [] (pos 0)) 5 (moving S.Tai S.Tai [] [] (pos 0) true (record { day = pos 0; micro = 0 })))) (empty 5 S.Tai)
+  -- a change that loses the mark, to another scale and to its own; a refusal that keeps it
+  pub mark-lost :
+      ShutOut (changeOf (H.Record correlated) S.Tai [] [] (pos 0)) (markedAs (M.Correlated 9) S.Tai (pos 5) 19000007)
+      (changeOf (H.Record (recordOf S.Gps (pos 5) 7)) S.Tai [] [] (pos 0)) (answered S.Tai (pos 5) 19000007)
+  pub own-mark-lost :
+      ShutOut (changeOf (H.Record correlated) S.Gps [] [] (pos 0)) (markedAs (M.Correlated 9) S.Gps (pos 5) 7)
+      (changeOf (H.Record (recordOf S.Gps (pos 5) 7)) S.Gps [] [] (pos 0)) (answered S.Gps (pos 5) 7)
+  pub refusal-marked :
+      ShutOut (changeOf (H.Record correlated) S.Utc [] [] (pos 0)) (empty 5 S.Utc) (alwaysMarked (M.Correlated 9) (changeOf (H.Record correlated) S.Utc [] [] (pos 0)))
+      (record { number = 5; scale = S.Utc; day = pos 0; micro = 0; mark = M.Correlated 9 })
   -- the desk that refuses all, and the one that answers day 0 for everything
   pub all-refused : ShutOut (changeOf (H.Record (recordOf S.Gps (pos 5) 7)) S.Tai [] [] (pos 0)) (answered S.Tai (pos 5) 19000007) (refusesAll S.Tai) (empty 7 S.Tai)
   pub all-day-zero : ShutOut (changeOf (H.Record (recordOf S.Gps (pos 5) 7)) S.Tai [] [] (pos 0)) (answered S.Tai (pos 5) 19000007) (dayZero S.Tai) (answered S.Tai (pos 0) 0)
@@ -228,6 +243,9 @@ wrong-rest =
       gps-eighteen = (refl, refl, byMicro (λ e. omega arith));
       unjudged = (refl, refl, byNumber (λ e. omega arith));
       list-always = (refl, refl, byNumber (λ e. omega arith));
+      mark-lost = (refl, refl, byMark (λ e. omega arith));
+      own-mark-lost = (refl, refl, byMark (λ e. omega arith));
+      refusal-marked = (refl, refl, byMark (λ e. omega arith));
       all-refused = (refl, refl, byNumber (λ e. omega arith));
       all-day-zero = (refl, refl, byMicro (λ e. omega arith));
     }

@@ -1,9 +1,10 @@
 -- `changes::change` meets its contract: one law for each way out. Assumes nothing.
-use mathlib.Core.Path.{_≡_, sym, ap, _∙_}
+use mathlib.Core.Path.{_≡_, sym, ap, ap₂, _∙_}
 use mathlib.Core.Bool.{not, _&&_}
 use mir.Syntax.{w64}
 use mir.Val.{toZ, ofZ}
 use mir.Facts.{toZ-ofZ}
+use Rattle.scales.specs.Meaning.{remark}
 use Rattle.scales.specs.declared.Scale.{Scale}
 use Rattle.scales.specs.Place.{not-lacking}
 use Rattle.handed.specs.Told.{told-nothing, told-outside, told-at, told-scale}
@@ -79,14 +80,16 @@ returns-4 c =
 
 returns-5 : tie.Need-returns-5
 returns-5 c =
-    let l = c .before .before in
+    let g = c .before .before in
+    let l = g .before .before in
     let k = l .before .before .before .before in
     let b = k .before .before in
     let s = b .before .before in
     let a = s .args in
     let t = k .t .given .0 .0 in
-    (rw (toZ-ofZ (s .fits .last)) at (c .change .ensures))
-    ∙ change-at (a .h) (a .to) (a .days .now) (a .offsets .now) (a .last) t (told-at (a .h) (b .take .result) (b .take .ensures) t (k .t .given .1)) (sym (lacking-2 l) ∙ c .before .if2 .left)
+    c .with-mark .ensures
+    ∙ ap₂ remark (c .before .mark .ensures) (rw (toZ-ofZ (s .fits .last)) at (g .change .ensures))
+    ∙ change-at (a .h) (a .to) (a .days .now) (a .offsets .now) (a .last) t (told-at (a .h) (b .take .result) (b .take .ensures) t (k .t .given .1)) (sym (lacking-2 l) ∙ g .before .if2 .left)
 
 pub change-spec : {M : Type 1} → statement M
 change-spec =
@@ -104,6 +107,8 @@ change-spec =
     (λ c κs. search needs)
     returns-2
     change-requires
+    (λ c κs. search needs)
+    (λ c κs. search needs)
     returns-3
     returns-4
     returns-5)
