@@ -9,6 +9,8 @@ use lib.Signed.{leZ}
 use Rattle.axis.specs.Meaning.{floorZ, modZ, Moment, since, momentOf}
 use Rattle.scales.specs.Meaning.{inSpan, Judged, given, gives, sameScale, resulting}
 use Rattle.scales.specs.declared.Scale.{Scale}
+use Rattle.scales.specs.declared.Mark.{Mark}
+use Rattle.scales.specs.declared.Mark.the-variants as M
 use Rattle.handed.specs.declared.Handed.{Handed}
 use Rattle.handed.specs.Meaning.{scaleOf, isFinite, isInSpan, dayOf, microOf}
 use Rattle.leap.specs.Meaning as Leap
@@ -104,6 +106,10 @@ dating accepted c t d u ds os e =
     (given (isCurrent (c .scale) e (c .day) && (isCurrent (c .scale) e d && isCurrentAt (c .scale) ds os e (time c (elapsed c t)))) 9
     (given (hasSecond (c .scale) ds d u) 10
     (resulting (c .scale) (momentAfter (c .scale) ds os (time c (elapsed c t)))))))))
+
+-- "correlated with the reference tick, for GOCE the reference count"
+abbrev pub markOf : Clock → Mark
+markOf c = M.Correlated (c .reference)
 
 -- ---- back again: "the last tick of the window whose time is not later"
 -- the last of lo, lo + 1, .., lo + n whose f is not later than z; lo, where no other's is

@@ -1,21 +1,24 @@
 -- Wrong desks over any correlated counter: a chain with a part to choose and the wrong parts, and a chain with a test more. What shuts each
 -- out is computed where a counter is given. Assumes nothing.
 use mathlib.Core.Path.{_≡_, ap}
-use mathlib.Core.Bool.{Bool, true, cond, not, _&&_, _||_}
+use mathlib.Core.Bool.{Bool, true, false, cond, not, _&&_, _||_}
 use mathlib.Core.List.{List}
 use Prim.Native.Nat.{ℕ, suc, _-_, _*_, _/_}
 use lib.Dec.{ltb}
 use lib.IntN.{ℤ, pos, negsuc, subℕ, _+ℤ_, _-ℤ_}
 use Rattle.axis.specs.Meaning.{floorZ, modZ, Moment, dayMicros, since}
-use Rattle.scales.specs.Meaning.{inSpan, Slip, dated, Judged, given, gives, Outcome, outcome, recordOf, Valued, resulting}
+use Rattle.scales.specs.Meaning.{inSpan, Slip, datedAs, Judged, given, gives, Outcome, outcome, recordOf, Valued, resulting}
 use Rattle.scales.specs.declared.Scale.{Scale}
+use Rattle.scales.specs.declared.Mark.{Mark}
+use Rattle.scales.specs.declared.Mark.the-variants as M
 use Rattle.handed.specs.declared.Handed.{Handed}
 use Rattle.handed.specs.declared.Handed.the-variants as H
-use Rattle.handed.specs.Meaning.{isFinite, isInSpan, dayOf, microOf}
+use Rattle.handed.specs.Meaning.{markOf as markIn, isFinite, isInSpan, dayOf, microOf}
 use Rattle.leap.specs.Meaning as Leap
 use Rattle.leap_laws.proofs.Lists.{withEven}
-use Rattle.clock.specs.Meaning.{Clock, instant, momentAfter, listServes, isCurrent, isCurrentAt, hasSecond, elapsed, time, inWindow, cover, covers, coversTime, inForce, dating, lastCount, countAt, instantOf, hasImage, turning}
+use Rattle.clock.specs.Meaning.{Clock, instant, momentAfter, listServes, isCurrent, isCurrentAt, hasSecond, elapsed, time, inWindow, cover, covers, coversTime, inForce, dating, markOf, lastCount, countAt, instantOf, hasImage, turning}
 use Rattle.clock_laws.proofs.Window.{widened}
+use Rattle.clock_laws.proofs.Marks.{handBack}
 
 -- a rule of force, and a desk either way
 abbrev pub Force : Type 0
@@ -32,14 +35,14 @@ abbrev pub dateBy : Force → (Clock → ℕ → ℤ) → (Clock → ℤ → ℤ
 dateBy force count timing moment accepted c t d u ds os e =
     let s = c .scale in
     let z = timing c (count c t) in
-    dated s (outcome
+    handBack c
     (given (listServes s ds os e) 5
     (given accepted 6
     (given (inSpan s d u) 7
     (given (force c (count c t) d u ds os e) 8
     (given (isCurrent s e (c .day) && (isCurrent s e d && isCurrentAt s ds os e z)) 9
     (given (hasSecond s ds d u) 10
-    (resulting s (moment c ds os z)))))))))
+    (resulting s (moment c ds os z))))))))
 
 -- the moment of an instant, as it should be
 abbrev pub atInstant : Clock → List ℤ → List ℕ → ℤ → Moment
@@ -99,12 +102,12 @@ referenceOffset c ds os z = Leap.plain (Leap.offsetOn ds os (c .day)) z
 -- ---- dates: a desk with one test more, judged behind 7
 abbrev pub dateAlso : (Clock → ℕ → ℤ → ℕ → List ℤ → List ℕ → ℤ → Bool) → ℕ → Dating
 dateAlso test n accepted c t d u ds os e =
-    dated (c .scale) (outcome
+    handBack c
     (given (listServes (c .scale) ds os e) 5
     (given accepted 6
     (given (inSpan (c .scale) d u) 7
     (given (test c t d u ds os e) n
-    (dating accepted c t d u ds os e))))))
+    (dating accepted c t d u ds os e)))))
 
 -- 9 judged before 8
 abbrev pub expiredFirst : Dating
@@ -128,7 +131,25 @@ abbrev pub listed : {A : Type 0} → List ℤ → List ℕ → ℤ → Judged A 
 listed ds os e j = given (Leap.accepted ds os e) 5 j
 
 abbrev pub dateListed : Dating
-dateListed accepted c t d u ds os e = dated (c .scale) (outcome (listed ds os e (dating accepted c t d u ds os e)))
+dateListed accepted c t d u ds os e = handBack c (listed ds os e (dating accepted c t d u ds os e))
+
+-- ---- dates: a desk with another mark
+abbrev pub markedBy : (Clock → ℕ → Mark) → Dating
+markedBy mark accepted c t d u ds os e = datedAs (mark c t) (c .scale) (outcome (dating accepted c t d u ds os e))
+
+-- the packet's own count taken for the reference
+abbrev pub ownCount : Clock → ℕ → Mark
+ownCount c t = M.Correlated t
+
+-- no mark
+abbrev pub unmarked : Clock → ℕ → Mark
+unmarked c t = M.Plain
+
+-- the mark on a refusal too
+abbrev pub refusalMarked : Dating
+refusalMarked accepted c t d u ds os e =
+    let x = handBack c (dating accepted c t d u ds os e) in
+    record { number = x .number; scale = x .scale; day = x .day; micro = x .micro; mark = markOf c }
 
 -- ---- the way back: a desk with another test of what has an image, or another count of a time
 abbrev pub countBy : (Scale → Handed → Bool) → (Clock → ℤ → ℤ) → Turning
@@ -153,6 +174,15 @@ scaleIgnored s h = true
 -- second 60 taken for what has no image
 abbrev pub secondIgnored : Scale → Handed → Bool
 secondIgnored s h = hasImage s h && ltb (microOf h) dayMicros
+
+-- a time that is marked taken for what has no image
+abbrev isPlain : Mark → Bool
+isPlain M.Plain = true
+isPlain (M.Proteus b) = false
+isPlain (M.Correlated n) = false
+
+abbrev pub plainAlone : Scale → Handed → Bool
+plainAlone s h = hasImage s h && isPlain (markIn h)
 
 -- second 60 taken for the next day's first
 abbrev pub carried : Handed → Handed

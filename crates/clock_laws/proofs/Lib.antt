@@ -6,4 +6,5 @@ pub mod Wider
 pub mod Stays
 pub mod Night
 pub mod Cases
+pub mod Marks
 pub mod Desks

@@ -11,8 +11,9 @@ use lib.IntN.{ℤ, pos, _+ℤ_}
 use lib.Signed.{leZ}
 use borrow.Author.Tests.{eq-eqb}
 use Rattle.axis.specs.Meaning.{Moment}
-use Rattle.scales.specs.Meaning.{codeOf, answer, outcome, recordOf}
+use Rattle.scales.specs.Meaning.{codeOf, answer, outcome, recordOf, markedRecord}
 use Rattle.scales.specs.declared.Scale.{Scale}
+use Rattle.scales.specs.declared.Mark.{Mark}
 use Rattle.handed.specs.declared.Handed.{Handed}
 use Rattle.handed.specs.declared.Handed.the-variants as H
 use Rattle.handed.specs.Meaning.{scaleOf, isFinite, isInSpan, dayOf, microOf}
@@ -75,10 +76,11 @@ module _ (accepted : Bool) (c : Clock) (r : ℕ) (based : accepted ≡ true → 
       pub same-count : t < 2 * c .half → (n : ℕ) → outcome (turning accepted c h ds os e) ≡ answer n → n ≡ t
       same-count l n f = let w = turns accepted c h ds os e n f in let g = comes-back l (w .finite) (w .inside) in cc
 
-    -- the record of a date is answered always
-    pub record-back : t < 2 * c .half → outcome (turning accepted c (H.Record (recordOf (c .scale) (m .day) (m .micro))) ds os e) ≡ answer t
-    record-back l =
-        comes-back (H.Record (recordOf (c .scale) (m .day) (m .micro))) (record { scale = refl; day = refl; micro = refl }) l refl (q .span)
+    -- the record of a date is answered always, with the date's own mark or any other
+    pub record-back : (n : Mark) → t < 2 * c .half →
+        outcome (turning accepted c (H.Record (markedRecord n (recordOf (c .scale) (m .day) (m .micro)))) ds os e) ≡ answer t
+    record-back n l =
+        comes-back (H.Record (markedRecord n (recordOf (c .scale) (m .day) (m .micro)))) (record { scale = refl; day = refl; micro = refl }) l refl (q .span)
 
   module _ (h : Handed) (n : ℕ) (g : outcome (turning accepted c h ds os e) ≡ answer n) where
     abbrev z : ℤ

@@ -1,16 +1,17 @@
 -- What the code finds, and the meanings by it: one law for each way out of `date` and of `count_of`. Assumes nothing.
-use mathlib.Core.Path.{_≡_, sym, ap, ap₂, _∙_}
-use mathlib.Core.Bool.{Bool, true, false}
+use mathlib.Core.Path.{_≡_, refl, sym, ap, ap₂, _∙_}
+use mathlib.Core.Bool.{Bool, true, false, cond}
 use mathlib.Core.List.{List}
 use Prim.Native.Nat.{ℕ, _+_, _*_, _/_, _≤_, _<_}
 use native.Mathlib.Omega.{arith}
 use native.Mathlib.Nat.{mul-le-mul}
-use lib.Dec.{lit<}
+use lib.Dec.{lit<, lit≤}
 use lib.IntN.{ℤ}
 use borrow.Author.Tests.{lt-ltb, le-ltb}
 use Rattle.axis.specs.Meaning.{dayAt, microsAt, floorZ, Moment}
 use Rattle.axis.specs.Diff.{sub-floor}
-use Rattle.scales.specs.Meaning.{dated, refused, answer, Outcome, outcome, valued}
+use Rattle.scales.specs.Meaning.{dated, remark, refused, answer, Outcome, outcome, valued}
+use Rattle.scales.specs.Marks.{remark-is}
 use Rattle.scales.specs.declared.Scale.the-variants as S
 use Rattle.handed.specs.declared.Handed.{Handed}
 use Rattle.leap.specs.Meaning as Leap
@@ -18,12 +19,12 @@ use Rattle.leap.specs.Meaning.{offsetOn}
 use Rattle.leap.specs.Whole.{offset-small}
 use Rattle.clock.specs.Meaning as K
 use Rattle.clock.specs.Places as C
-use Rattle.clock.specs.Stage.{covering, unacceptedBy, found, none, based-at, based-none}
+use Rattle.clock.specs.Stage.{covering, unacceptedBy, based-at, based-none}
 use Rattle.clock.specs.Turning as T
 use Rattle.clock.specs.declared.inner.Base.the-variants as B
 use Rattle.clock.specs.declared.inner.Place.the-variants as P
 use Rattle.goce.specs.Meaning.{dayCounts, dayOn, accepted, clockOf, dateOf, obtOf}
-use Rattle.goce.specs.Places.{spot, placeOf, shifted, baseOf, endsAt, lastAt, obtFrom, Windowed, Near}
+use Rattle.goce.specs.Places.{spot, placeOf, shifted, baseOf, baseAt, Few, endsAt, lastAt, obtFrom, Windowed, Near}
 use Rattle.goce.specs.Accepted.{Sound, sound, reference-place, based}
 use Rattle.goce.specs.declared.Correlation.{Correlation}
 
@@ -33,30 +34,21 @@ day-at c s =
     sym (ap (λ (z : ℤ). floorZ z dayCounts) (reference-place c (s .offset)) ∙ sub-floor (spot c) 40000 dayCounts (lit< tt))
 
 -- ---- the reference in TAI, from its place in UTC
-module _ (c : Correlation) (ds : List ℤ) (os : List ℕ) (e : ℤ) where
-  pub base-none : placeOf c ≡ P.Outside → B.Outside ≡ baseOf c ds os e
-  base-none q = rw (none (accepted c) (spot c) q)
+module _ (c : Correlation) where
+  pub place-few : Few (placeOf c)
+  place-few = go (accepted c) refl
+    where
+      go : (b : Bool) → accepted c ≡ b → Few (cond b (P.At (spot c)) P.Outside)
+      go true p = sound c p .late
+      go false p = lit≤ tt
 
-  module _ (p : ℕ) (q : placeOf c ≡ P.At p) where
-    sounds : Sound c
-    sounds = sound c (found (accepted c) (spot c) p q .0)
-
-    place-is : spot c ≡ p
-    place-is = found (accepted c) (spot c) p q .1
-
-    pub place-few : p < 433308303360000
-    place-few = omega (arith, place-is, sounds .late)
-
-    day-is : dayAt (p / 5662310400) ≡ dayOn c
-    day-is = ap (λ (x : ℕ). dayAt (x / 5662310400)) (sym place-is) ∙ day-at c sounds
-
-    pub base-is : (j : ℕ) → j ≡ offsetOn ds os (dayAt (p / 5662310400)) → (n : Bool) → n ≡ K.isCurrent S.Utc e (dayAt (p / 5662310400)) →
-        B.At (p + j * 65536) n ≡ baseOf c ds os e
-    base-is j f n g =
-        ap₂ (λ (x : ℕ) (y : Bool). B.At (p + x * 65536) y)
-        (f ∙ ap (offsetOn ds os) day-is) (g ∙ ap (K.isCurrent S.Utc e) day-is)
-        ∙ ap (λ (x : ℕ). B.At (x + offsetOn ds os (dayOn c) * 65536) (K.isCurrent S.Utc e (dayOn c))) (sym place-is)
-        ∙ rw (found (accepted c) (spot c) p q .0)
+  pub base-is : (ds : List ℤ) (os : List ℕ) (e : ℤ) → baseAt (placeOf c) ds os e ≡ baseOf c ds os e
+  base-is ds os e = go (accepted c) refl
+    where
+      go : (b : Bool) → accepted c ≡ b →
+          baseAt (cond b (P.At (spot c)) P.Outside) ds os e ≡ cond b (B.At (shifted c ds os) (K.isCurrent S.Utc e (dayOn c))) B.Outside
+      go true p = ap (λ (d : ℤ). B.At (spot c + offsetOn ds os d * 65536) (K.isCurrent S.Utc e d)) (day-at c (sound c p))
+      go false p = refl
 
 -- ---- a count too wide, and a list that is not accepted
 module _ (c : Correlation) (ds : List ℤ) (os : List ℕ) (e : ℤ) (t : ℕ) (d : ℤ) (u : ℕ) where
@@ -65,9 +57,13 @@ module _ (c : Correlation) (ds : List ℤ) (os : List ℕ) (e : ℤ) (t : ℕ) (
   date-3 l = rw (le-ltb t 281474976710656 l)
 
   pub date-at : t < 281474976710656 → (o : Outcome Moment) → o ≡ outcome (K.dating (accepted c) (clockOf c ds os) t d u ds os e) →
-      dated S.Utc o ≡ dateOf c t d u ds os e
+      remark (K.markOf (clockOf c ds os)) (dated S.Utc o) ≡ dateOf c t d u ds os e
   unfolding dateOf
-  date-at l o q = ap (dated S.Utc) q ∙ rw (lt-ltb t 281474976710656 l)
+  date-at l o q =
+      let k = clockOf c ds os in
+      ap (λ (x : Outcome Moment). remark (K.markOf k) (dated S.Utc x)) q
+      ∙ remark-is (K.markOf k) S.Utc (K.dating (accepted c) k t d u ds os e) refl
+      ∙ rw (lt-ltb t 281474976710656 l)
 
   pub date-5 : t < 281474976710656 → Leap.accepted ds os e ≡ false → dated S.Utc (refused 5) ≡ dateOf c t d u ds os e
   unfolding dateOf

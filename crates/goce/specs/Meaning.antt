@@ -8,7 +8,7 @@ use lib.Dec.{leb, ltb}
 use lib.IntN.{ℤ, pos, negℤ, _+ℤ_, _*ℤ_}
 use lib.Signed.{leZ, ltZ}
 use Rattle.axis.specs.Meaning.{floorZ, Moment}
-use Rattle.scales.specs.Meaning.{first, last, Judged, given, outcome, Slip, dated, Valued, valued}
+use Rattle.scales.specs.Meaning.{first, last, Judged, given, outcome, Slip, datedAs, Valued, valued}
 use Rattle.scales.specs.declared.Scale.the-variants as S
 use Rattle.handed.specs.declared.Handed.{Handed}
 use Rattle.leap.specs.Meaning.{offsetOn}
@@ -76,7 +76,7 @@ dating c t d u ds os e =
     (C.dating (accepted c) (clockOf c ds os) t d u ds os e)
 
 unfoldable pub dateOf : Correlation → ℕ → ℤ → ℕ → List ℤ → List ℕ → ℤ → Slip
-dateOf c t d u ds os e = dated S.Utc (outcome (dating c t d u ds os e))
+dateOf c t d u ds os e = datedAs (C.markOf (clockOf c ds os)) S.Utc (outcome (dating c t d u ds os e))
 
 -- ---- the count of a time: 4, 5, 6, 7, 8, 9, 10, 12
 abbrev pub turning : Correlation → Handed → List ℤ → List ℕ → ℤ → Judged ℕ

@@ -2,9 +2,9 @@
 -- the gradient g. Assumes nothing.
 use mathlib.Core.Bool.{cond}
 use mathlib.Core.List.{List}
-use Prim.Native.Nat.{ℕ, _+_, _*_, _≤_, _<_}
+use Prim.Native.Nat.{ℕ, _+_, _*_, _/_, _≤_, _<_}
 use lib.IntN.{ℤ}
-use Rattle.axis.specs.Meaning.{placeOfCounts}
+use Rattle.axis.specs.Meaning.{dayAt, placeOfCounts}
 use Rattle.scales.specs.declared.Scale.the-variants as S
 use Rattle.leap.specs.Meaning.{offsetOn}
 use Rattle.clock.specs.Meaning.{isCurrent}
@@ -32,6 +32,11 @@ shifted c ds os = spot c + offsetOn ds os (dayOn c) * 65536
 abbrev pub baseOf : Correlation → List ℤ → List ℕ → ℤ → Base
 baseOf c ds os e = cond (accepted c) (B.At (shifted c ds os) (isCurrent S.Utc e (dayOn c))) B.Outside
 
+-- the same from the reference's place in UTC
+abbrev pub baseAt : Place → List ℤ → List ℕ → ℤ → Base
+baseAt (P.At p) ds os e = B.At (p + offsetOn ds os (dayAt (p / 5662310400)) * 65536) (isCurrent S.Utc e (dayAt (p / 5662310400)))
+baseAt P.Outside ds os e = B.Outside
+
 abbrev pub timeAt : ℕ → ℕ → ℕ → ℕ
 timeAt s g k = C.timeAt (s * 1000000000) g 65536000 140737488355328 k
 
@@ -50,7 +55,12 @@ lastAt s g w = C.lastAt (s * 1000000000) g 65536000 140737488355328 w
 abbrev pub obtFrom : ℕ → ℕ → ℕ
 obtFrom r k = C.shownAt 140737488355328 r k
 
--- ---- what they require: a reference from day -1 to the end of the span, up to 73 s later in TAI, and a gradient, as accepted
+-- ---- what they require: a place before the end of the span
+abbrev pub Few : Place → Type 0
+Few (P.At p) = p < 433308303360000
+Few P.Outside = 0 ≤ 0
+
+-- a reference from day -1 to the end of the span, up to 73 s later in TAI, and a gradient, as accepted
 pub record Based (s g : ℕ) : Type 0 where
   pub early : 226486753689600 ≤ s
   pub late : s < 433308308144128

@@ -6,7 +6,7 @@ ghost use Prim.Native.Nat.{_<_};
 ghost use Rattle.scales.specs.Meaning.{slip, countSlip};
 ghost use Rattle.leap.specs.Meaning as Leap;
 ghost use Rattle.goce.specs.Meaning.{inLimits, dateOf, obtOf};
-ghost use Rattle.goce.specs.Places.{placeOf, baseOf, reckonedAt, timeAt, endsAt, countFrom, lastAt, obtFrom, Based, Windowed, Near};
+ghost use Rattle.goce.specs.Places.{placeOf, baseAt, Few, reckonedAt, timeAt, endsAt, countFrom, lastAt, obtFrom, Based, Windowed, Near};
 use clock::inner::Base;
 use clock::inner::Ends;
 use clock::inner::Place;
@@ -15,6 +15,7 @@ use clock::inner::Reckoned;
 use handed::Handed;
 use scales::Counted;
 use scales::Dated;
+use scales::Mark;
 use scales::Refusal;
 use scales::Scale;
 
@@ -71,12 +72,13 @@ fn reference_of(c: Correlation) -> Place
     Place::At(s)
 }
 
-// The reference in TAI, where the correlation is accepted: a second is 65,536 counts, and a day 5,662,310,400.
-fn base_of(c: Correlation, days: &[i64], offsets: &[u64], last: i64) -> Base
+// The reference in TAI, where there is one: a second is 65,536 counts, and a day 5,662,310,400.
+fn base_at(reference: Place, days: &[i64], offsets: &[u64], last: i64) -> Base
     requires { ⌜ Leap.accepted (now days) (now offsets) last ≡ true ⌝ }
-    ensures { λ r. ⌜ r ≡ baseOf c (now (days .entry)) (now (offsets .entry)) last ⌝ }
+    requires { ⌜ Few reference ⌝ }
+    ensures { λ r. ⌜ r ≡ baseAt reference (now (days .entry)) (now (offsets .entry)) last ⌝ }
 {
-    let Place::At(p) = reference_of(c) else {
+    let Place::At(p) = reference else {
         return Base::Outside;
     };
     let day = p / 5_662_310_400;
@@ -144,14 +146,17 @@ pub fn date(
     if 281_474_976_710_656 <= obt {
         return Dated::Refused(Refusal::FieldOver, Scale::Utc);
     }
+    // Reckoned before the list's test, so that less is kept over it.
+    let place = reference_of(c);
     if !leap::is_accepted(days, offsets, last) {
         return Dated::Refused(Refusal::ListNotAccepted, Scale::Utc);
     }
-    let Base::At(s, current) = base_of(c, days, offsets, last) else {
+    let Base::At(s, current) = base_at(place, days, offsets, last) else {
         return Dated::Refused(Refusal::CorrelationNotAccepted, Scale::Utc);
     };
     let k = reckon(c, obt, s);
-    clock::inner::date_by_list(k, current, receipt_day, receipt_micro, days, offsets, last)
+    let d = clock::inner::date_by_list(k, current, receipt_day, receipt_micro, days, offsets, last);
+    d.with_mark(Mark::Correlated(c.obt0))
 }
 
 // ---- the count of a time
@@ -183,7 +188,7 @@ pub fn count_of(c: Correlation, h: Handed, days: &[i64], offsets: &[u64], last: 
     if !leap::is_accepted(days, offsets, last) {
         return Counted::Refused(clock::inner::unaccepted(h, Refusal::ListNotAccepted));
     }
-    let Base::At(s, current) = base_of(c, days, offsets, last) else {
+    let Base::At(s, current) = base_at(reference_of(c), days, offsets, last) else {
         return Counted::Refused(clock::inner::unaccepted(h, Refusal::CorrelationNotAccepted));
     };
     let v = ends_of(s, c.gradient, c.back, c.ahead);

@@ -1,6 +1,6 @@
 -- GOCE's dates and counts under the published list, computed: one rounding, rounded towards the past, the ends of each number; and each
 -- theorem at an input that meets its hypotheses. `NewYear.antt` has the leap second. Assumes nothing.
-use mathlib.Core.Path.{_≡_, refl}
+use mathlib.Core.Path.{_≡_, refl, _∙_}
 use mathlib.Core.Bool.{true}
 use Prim.Native.Nat.{ℕ, _<_}
 use lib.Dec.{lit<}
@@ -8,8 +8,10 @@ use lib.IntN.{ℤ, pos, negsuc, _+ℤ_, _*ℤ_}
 use lib.Signed.{leZ}
 use lib.Ieee.{fin}
 use Rattle.axis.specs.Meaning.{floorZ, Moment}
-use Rattle.scales.specs.Meaning.{inSpan, Outcome, answer, refused, outcome, recordOf}
+use Rattle.scales.specs.Meaning.{inSpan, Outcome, answer, refused, outcome, datedAs, recordOf, markedRecord, valued}
 use Rattle.scales.specs.declared.Scale.the-variants as S
+use Rattle.scales.specs.declared.Mark.{Mark}
+use Rattle.scales.specs.declared.Mark.the-variants as M
 use Rattle.handed.specs.declared.Handed.{Handed}
 use Rattle.handed.specs.declared.Handed.the-variants as H
 use Rattle.leap.specs.Meaning.{through, isStep, taiOf, publishedDays, publishedOffsets, publishedLast}
@@ -17,12 +19,13 @@ use Rattle.leap.specs.Published.{published}
 use Rattle.leap_laws.proofs.Computed.{even}
 use Rattle.leap_laws.proofs.Lists.{withPublished, withEven}
 use Rattle.clock.specs.Meaning.{Clock, clock, time, inWindow, within, covers, elapsed, latest}
-use Rattle.goce.specs.Meaning.{accepted, clockOf, dating, turning}
+use Rattle.goce.specs.Meaning.{accepted, clockOf, dating, dateOf, turning, obtOf}
 use Rattle.goce.specs.declared.Correlation.{Correlation}
 use Rattle.goce_laws.proofs.Counts.{elapsed-one}
 use Rattle.goce_laws.proofs.Answers.{dates, exact, turns}
 use Rattle.goce_laws.proofs.Trips.{comes-back, same-count, record-back, never-later, little-earlier}
 use Rattle.goce_laws.proofs.Night.{outside-window, received-before, received-after, no-wrap}
+use Rattle.goce_laws.proofs.Marks.{correlated, marked-date, mark-ignored}
 
 -- ---- a true clock from the beginning of day 0 on, the same window either way; its reference may be moved
 abbrev pub moved : ℕ → ℕ → ℤ → ℕ → Correlation
@@ -36,6 +39,9 @@ at d u = record { day = d; micro = u }
 
 abbrev pub utc : ℤ → ℕ → Handed
 utc d u = H.Record (recordOf S.Utc d u)
+
+abbrev pub utcMarked : Mark → ℤ → ℕ → Handed
+utcMarked m d u = H.Record (markedRecord m (recordOf S.Utc d u))
 
 abbrev pub date : Correlation → ℕ → ℤ → ℕ → Outcome Moment
 date c t d u = outcome (withPublished (dating c t d u))
@@ -91,9 +97,9 @@ receipt-covered = dates (zero 10) 281474976710655 (pos 0) 0 publishedDays publis
 pub time-covered : covers (clockAt 10) (taiAt (negsuc 0) 86399999984) ≡ true
 time-covered = turns (zero 10) (utc (negsuc 0) 86399999984) publishedDays publishedOffsets publishedLast 281474976710655 (either-side .3) .cover
 
--- a count to a time and back, by the record and by a time that stands for it
-pub trip : turn (zero 10) (utc (negsuc 0) 86399999984) ≡ answer 281474976710655
-trip = record-back (zero 10) publishedDays publishedOffsets publishedLast 281474976710655 (pos 0) 0 before (either-side .1)
+-- a count to a time and back, by the record that was answered, its mark included, and by a time that stands for it
+pub trip : turn (zero 10) (utcMarked (M.Correlated 0) (negsuc 0) 86399999984) ≡ answer 281474976710655
+trip = record-back (zero 10) publishedDays publishedOffsets publishedLast 281474976710655 (pos 0) 0 before (either-side .1) (M.Correlated 0)
 
 pub trip-same : (n : ℕ) → turn (zero 10) (utc (negsuc 0) 86399999984) ≡ answer n → n ≡ 281474976710655
 trip-same =
@@ -110,8 +116,8 @@ trip-decimal =
     comes-back (zero 2831155200) publishedDays publishedOffsets publishedLast 281472145555456 (pos 0) 0 (at (negsuc 0) 43200000000) half-day
     (H.Decimal (fin true 1 (negsuc 0)) S.Utc) (record { scale = refl; day = refl; micro = refl }) refl refl
 
--- a time to a count and back: 14 microseconds after the reference, the reference
-turned : turn (zero 10) (utc (pos 0) 14) ≡ answer 0
+-- a time to a count and back: 14 microseconds after the reference, marked by another one, the reference
+turned : turn (zero 10) (utcMarked (M.Correlated 7) (pos 0) 14) ≡ answer 0
 unfolding accepted clock inWindow within latest through isStep
 turned = rw published
 
@@ -119,11 +125,30 @@ dated-again : date (zero 10) 0 (pos 0) 0 ≡ answer (at (pos 0) 0)
 unfolding accepted clock inWindow within through isStep
 dated-again = rw published
 
-pub time-trip : (leZ (taiAt (pos 0) 0) (taiAt (pos 0) 14) ≡ true) × (leZ (taiAt (pos 0) 14) (taiAt (pos 0) 0 +ℤ pos 15) ≡ true)
-time-trip = (
-  never-later (zero 10) publishedDays publishedOffsets publishedLast (utc (pos 0) 14) 0 turned (pos 0) 0 (at (pos 0) 0) dated-again,
-  little-earlier (zero 10) publishedDays publishedOffsets publishedLast (utc (pos 0) 14) 0 turned (pos 0) 0 (at (pos 0) 0) dated-again,
+pub time-trip :
+    (leZ (taiAt (pos 0) 0) (taiAt (pos 0) 14) ≡ true)
+    × (leZ (taiAt (pos 0) 14) (taiAt (pos 0) 0 +ℤ pos 15) ≡ true)
+    × (withPublished (dateOf (zero 10) 0 (pos 0) 0) ≡ datedAs (M.Correlated 0) S.Utc (answer (at (pos 0) 0)))
+time-trip =
+    let h = utcMarked (M.Correlated 7) (pos 0) 14 in (
+      never-later (zero 10) publishedDays publishedOffsets publishedLast h 0 turned (pos 0) 0 (at (pos 0) 0) dated-again,
+      little-earlier (zero 10) publishedDays publishedOffsets publishedLast h 0 turned (pos 0) 0 (at (pos 0) 0) dated-again,
+      marked-date (zero 10) publishedDays publishedOffsets publishedLast 0 (pos 0) 0 (at (pos 0) 0) dated-again,
+    )
+
+-- a date is marked with OBT0, which is not its own count, and a refusal is plain; a mark of Proteus has no part in the count
+pub date-marked :
+    (withPublished (dateOf (zero 10) 281474976710655 (pos 0) 0) .mark ≡ M.Correlated 0)
+    × (withPublished (dateOf (zero 10) 281474976710656 (pos 0) 0) .mark ≡ M.Plain)
+unfolding dateOf accepted clock inWindow within through isStep
+date-marked = (
+  correlated (zero 10) publishedDays publishedOffsets publishedLast 281474976710655 (pos 0) 0 ∙ rw published,
+  correlated (zero 10) publishedDays publishedOffsets publishedLast 281474976710656 (pos 0) 0,
 )
+
+pub mark-unseen : withPublished (obtOf (zero 10) (utcMarked (M.Proteus true) (pos 0) 14)) ≡ valued 0 (answer 0)
+unfolding obtOf accepted clock within latest through isStep
+mark-unseen = mark-ignored (zero 10) publishedDays publishedOffsets publishedLast (M.Proteus true) (recordOf S.Utc (pos 0) 14) ∙ rw published
 
 -- received before the cover, and after it: 8 for every count; and a count outside the window
 pub too-early : (t : ℕ) → t < 281474976710656 → date (zero 10) t (negsuc 1) 0 ≡ refused 8

@@ -6,6 +6,7 @@ pub mod Wider
 pub mod Stays
 pub mod Fresh
 pub mod Night
+pub mod Marks
 pub mod Cases
 pub mod NewYear
 pub mod Wrong

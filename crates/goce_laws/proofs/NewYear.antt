@@ -8,22 +8,24 @@ use lib.IntN.{ℤ, pos, _+ℤ_}
 use lib.Signed.{leZ}
 use lib.Ieee.{fin, nan}
 use Rattle.axis.specs.Meaning.{Moment}
-use Rattle.scales.specs.Meaning.{answer, refused, outcome, recordOf}
+use Rattle.scales.specs.Meaning.{answer, refused, outcome, datedAs, recordOf}
 use Rattle.scales.specs.declared.Scale.the-variants as S
+use Rattle.scales.specs.declared.Mark.the-variants as M
 use Rattle.handed.specs.declared.Handed.{Handed}
 use Rattle.handed.specs.declared.Handed.the-variants as H
 use Rattle.leap.specs.Meaning.{through, isStep, taiOf, publishedDays, publishedOffsets, publishedLast}
 use Rattle.leap.specs.Published.{published}
 use Rattle.leap_laws.proofs.Computed.{published-6209, earlier, earlier-6209, even}
-use Rattle.leap_laws.proofs.Lists.{publishedTo, earlierTo, withEven, withNone, none}
+use Rattle.leap_laws.proofs.Lists.{withPublished, publishedTo, earlierTo, withEven, withNone, none}
 use Rattle.clock.specs.Meaning.{Clock, clock, time, inWindow, within, covers, latest}
-use Rattle.goce.specs.Meaning.{accepted, clockOf, dating, turning}
+use Rattle.goce.specs.Meaning.{accepted, clockOf, dating, dateOf, turning}
 use Rattle.goce.specs.declared.Correlation.{Correlation}
 use Rattle.goce_laws.proofs.Answers.{dates, turns}
 use Rattle.goce_laws.proofs.Trips.{comes-back, same-count, record-back, never-later, little-earlier}
 use Rattle.goce_laws.proofs.Window.{widened}
 use Rattle.goce_laws.proofs.Night.{outside-window, received-before, received-after, no-wrap}
-use Rattle.goce_laws.proofs.Cases.{moved, far, at, utc, date, turn}
+use Rattle.goce_laws.proofs.Marks.{marked-date}
+use Rattle.goce_laws.proofs.Cases.{moved, far, at, utc, utcMarked, date, turn}
 
 -- ---- OBT0 = 7 at 23:59:59 of 31 December 2016, 512,000 counts (7.8125 s) either way: 65,536 counts later second 60 begins, and 131,072
 -- counts later the next day
@@ -135,9 +137,10 @@ receipt-covered = dates newYear 65543 (pos 6209) 86400000000 publishedDays publi
 pub time-covered : covers (clockOf morning publishedDays publishedOffsets) (taiNow (pos 6209) 86400999984) ≡ true
 time-covered = turns morning (utc (pos 6209) 86400999984) publishedDays publishedOffsets publishedLast 99 (back-across .2) .cover
 
--- second 60 to its count and back, by the record and by a time that stands for it; and the next day by its decimal day
-pub trip : turn newYear (utc (pos 6209) 86400000000) ≡ answer 65543
-trip = record-back newYear publishedDays publishedOffsets publishedLast 65543 (pos 6209) 86400000000 sixty (across .0)
+-- second 60 to its count and back, by the record that was answered, its mark included, and by a time that stands for it; and the next day by
+-- its decimal day
+pub trip : turn newYear (utcMarked (M.Correlated 7) (pos 6209) 86400000000) ≡ answer 65543
+trip = record-back newYear publishedDays publishedOffsets publishedLast 65543 (pos 6209) 86400000000 sixty (across .0) (M.Correlated 7)
 
 pub trip-same : (n : ℕ) → turn newYear (utc (pos 6209) 86400000000) ≡ answer n → n ≡ 65543
 trip-same =
@@ -153,9 +156,11 @@ trip-decimal =
 pub time-trip :
     (leZ (taiNow (pos 6209) 86400000000) (taiNow (pos 6209) 86400000014) ≡ true)
     × (leZ (taiNow (pos 6209) 86400000014) (taiNow (pos 6209) 86400000000 +ℤ pos 15) ≡ true)
+    × (withPublished (dateOf eve 105 (pos 6209) 86400000000) ≡ datedAs (M.Correlated 100) S.Utc (answer sixty))
 time-trip = (
   never-later eve publishedDays publishedOffsets publishedLast (utc (pos 6209) 86400000014) 105 (back-across .1) (pos 6209) 86400000000 sixty (across .3),
   little-earlier eve publishedDays publishedOffsets publishedLast (utc (pos 6209) 86400000014) 105 (back-across .1) (pos 6209) 86400000000 sixty (across .3),
+  marked-date eve publishedDays publishedOffsets publishedLast 105 (pos 6209) 86400000000 sixty (across .3),
 )
 
 -- received 8 s before the reference, and 8 s after it, though it be 7 s of UTC days: 8 for every count. A count outside the window is 8 though

@@ -1,5 +1,6 @@
 -- The round trips. Where both ways are answered, a count turned into a time and back is the same count, second 60 included; a time turned
--- into a count and back is never later, and at most 15 microseconds earlier, in TAI. Assumes nothing.
+-- into a count and back is never later, and at most 15 microseconds earlier, in TAI. They speak of the time, whatever its mark;
+-- `Marks.antt` has a date's. Assumes nothing.
 use mathlib.Core.Path.{_≡_}
 use mathlib.Core.Bool.{true}
 use mathlib.Core.List.{List}
@@ -8,8 +9,9 @@ use native.Mathlib.Omega.{arith}
 use lib.IntN.{ℤ, pos, _+ℤ_}
 use lib.Signed.{leZ}
 use Rattle.axis.specs.Meaning.{Moment}
-use Rattle.scales.specs.Meaning.{answer, outcome, recordOf}
+use Rattle.scales.specs.Meaning.{answer, outcome, recordOf, markedRecord}
 use Rattle.scales.specs.declared.Scale.the-variants as S
+use Rattle.scales.specs.declared.Mark.{Mark}
 use Rattle.handed.specs.declared.Handed.{Handed}
 use Rattle.handed.specs.declared.Handed.the-variants as H
 use Rattle.handed.specs.Meaning.{isFinite, isInSpan, dayOf, microOf}
@@ -40,10 +42,10 @@ module _ (c : Correlation) (ds : List ℤ) (os : List ℕ) (e : ℤ) where
         G.same-count (accepted c) (clockOf c ds os) (shifted c ds os * 1000000000) stands ds os e t d u m (clocked c t d u ds os e m g) h s
         (few c t d u ds os e m g)
 
-    -- the record of a date is answered always
-    pub record-back : outcome (turning c (H.Record (recordOf S.Utc (m .day) (m .micro))) ds os e) ≡ answer t
-    record-back =
-        G.record-back (accepted c) (clockOf c ds os) (shifted c ds os * 1000000000) stands ds os e t d u m (clocked c t d u ds os e m g)
+    -- the record of a date is answered always, with the date's own mark or any other
+    pub record-back : (k : Mark) → outcome (turning c (H.Record (markedRecord k (recordOf S.Utc (m .day) (m .micro)))) ds os e) ≡ answer t
+    record-back k =
+        G.record-back (accepted c) (clockOf c ds os) (shifted c ds os * 1000000000) stands ds os e t d u m (clocked c t d u ds os e m g) k
         (few c t d u ds os e m g)
 
   module _ (h : Handed) (n : ℕ) (g : outcome (turning c h ds os e) ≡ answer n)

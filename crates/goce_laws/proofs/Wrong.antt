@@ -10,6 +10,7 @@ use Rattle.evidence.specs.ShutOut.{ShutOut, Outgrown, differ, shut}
 use Rattle.axis.specs.Meaning.{placeOfMicros, floorZ, since}
 use Rattle.scales.specs.Meaning.{Slip, answer, refused, recordOf, Valued, valued}
 use Rattle.scales.specs.declared.Scale.the-variants as S
+use Rattle.scales.specs.declared.Mark.the-variants as M
 use Rattle.handed.specs.declared.Handed.{Handed}
 use Rattle.handed.specs.declared.Handed.the-variants as H
 use Rattle.leap.specs.Meaning.{through, isStep, taiOf, publishedDays, publishedOffsets, publishedLast}
@@ -18,13 +19,13 @@ use Rattle.leap_laws.proofs.Computed.{published-6209, earlier, earlier-6209, ev
 use Rattle.leap_laws.proofs.Lists.{withPublished, publishedTo, earlierTo, withEven}
 use Rattle.clock.specs.Meaning.{Clock, elapsed, clock, time, inWindow, within, inForce, latest, lastCount, hasImage}
 use Rattle.clock_laws.proofs.Answers.{Dates}
-use Rattle.clock_laws.proofs.Desks.{Dating, Turning, dateBy, forcedBy, timedBy, atInstant, windowIgnored, receiptIgnored, WithoutReceipt, receiptInUtc, unknownCompared, unsigned, towardsZero, referenceOffset, expiredFirst, secondFirst, dateEnding, countBy, scaleIgnored, secondIgnored, carried, oneLate, forceFirst, scaleFirst, countEnding, evenly, byRefusal, byCount}
+use Rattle.clock_laws.proofs.Desks.{Dating, Turning, dateBy, forcedBy, timedBy, atInstant, windowIgnored, receiptIgnored, WithoutReceipt, receiptInUtc, unknownCompared, unsigned, towardsZero, referenceOffset, expiredFirst, secondFirst, dateEnding, markedBy, ownCount, unmarked, refusalMarked, countBy, scaleIgnored, secondIgnored, plainAlone, carried, oneLate, forceFirst, scaleFirst, countEnding, evenly, byRefusal, byCount}
 use Rattle.goce.specs.Meaning.{inLimits, isOffset, reference, taiReference, accepted, clockOf, dateOf, obtOf}
 use Rattle.goce.specs.declared.Correlation.{Correlation}
 use Rattle.goce_laws.proofs.Trips.{record-back}
-use Rattle.goce_laws.proofs.Cases.{moved, zero, at, utc}
+use Rattle.goce_laws.proofs.Cases.{moved, zero, at, utc, utcMarked}
 use Rattle.goce_laws.proofs.NewYear.{newYear, eve, morning, tai, across}
-use Rattle.ground_laws.proofs.Desks.{answered, empty, byNumber, byMicro}
+use Rattle.ground_laws.proofs.Desks.{answered, empty, byNumber, markedAs, byMark, byMicro}
 
 -- ---- date: a wrong desk at a correlation
 abbrev dateOn : Dating → Correlation → ℕ → ℤ → ℕ → List ℤ → List ℕ → ℤ → Slip
@@ -35,21 +36,21 @@ abbrev termByTerm : Clock → ℤ → ℤ
 termByTerm c k = floorZ (c .start) (c .per) +ℤ floorZ (k *ℤ pos (c .gain)) (c .per)
 
 pub rounded-twice :
-    ShutOut (withPublished (dateOf (moved 0 3 (pos 0) 10) 3 (pos 0) 91)) (answered S.Utc (pos 0) 91)
-    (withPublished (dateOn (timedBy termByTerm) (moved 0 3 (pos 0) 10) 3 (pos 0) 91)) (answered S.Utc (pos 0) 90)
+    ShutOut (withPublished (dateOf (moved 0 3 (pos 0) 10) 3 (pos 0) 91)) (markedAs (M.Correlated 0) S.Utc (pos 0) 91)
+    (withPublished (dateOn (timedBy termByTerm) (moved 0 3 (pos 0) 10) 3 (pos 0) 91)) (markedAs (M.Correlated 0) S.Utc (pos 0) 90)
 unfolding dateOf accepted clock inWindow within through isStep
 rounded-twice = shut (rw published) (rw published) (byMicro (λ e. omega arith))
 
 -- a negative elapsed time rounded towards zero: the count before OBT0 takes away 15 microseconds and not 16
 pub rounded-towards-zero :
-    ShutOut (withPublished (dateOf (zero 10) 281474976710655 (pos 0) 0)) (answered S.Utc (negsuc 0) 86399999984)
-    (withPublished (dateOn (timedBy towardsZero) (zero 10) 281474976710655 (pos 0) 0)) (answered S.Utc (negsuc 0) 86399999985)
+    ShutOut (withPublished (dateOf (zero 10) 281474976710655 (pos 0) 0)) (markedAs (M.Correlated 0) S.Utc (negsuc 0) 86399999984)
+    (withPublished (dateOn (timedBy towardsZero) (zero 10) 281474976710655 (pos 0) 0)) (markedAs (M.Correlated 0) S.Utc (negsuc 0) 86399999985)
 unfolding dateOf accepted clock inWindow within through isStep
 rounded-towards-zero = shut (rw published) (rw published) (byMicro (λ e. omega arith))
 
 -- the elapsed count from 0 to 2^48 - 1: the count before OBT0 is refused
 pub count-unsigned :
-    ShutOut (withPublished (dateOf (zero 10) 281474976710655 (pos 0) 0)) (answered S.Utc (negsuc 0) 86399999984)
+    ShutOut (withPublished (dateOf (zero 10) 281474976710655 (pos 0) 0)) (markedAs (M.Correlated 0) S.Utc (negsuc 0) 86399999984)
     (withPublished (dateOn (dateBy inForce unsigned time atInstant) (zero 10) 281474976710655 (pos 0) 0)) (empty 8 S.Utc)
 unfolding dateOf accepted clock inWindow within through isStep
 count-unsigned = shut (rw published) (rw published) (byNumber (λ e. omega arith))
@@ -60,8 +61,8 @@ cut c (pos k) = floorZ (c .start +ℤ pos (k * c .gain % 2 ^ 64)) (c .per)
 cut c (negsuc k) = floorZ (c .start -ℤ pos (suc k * c .gain % 2 ^ 64)) (c .per)
 
 pub product-cut :
-    ShutOut (withPublished (dateOf (zero 68719476736) 68719476736 (pos 0) 0)) (answered S.Utc (pos 12) 11776000000)
-    (withPublished (dateOn (timedBy cut) (zero 68719476736) 68719476736 (pos 0) 0)) (answered S.Utc (pos 2) 31351069868)
+    ShutOut (withPublished (dateOf (zero 68719476736) 68719476736 (pos 0) 0)) (markedAs (M.Correlated 0) S.Utc (pos 12) 11776000000)
+    (withPublished (dateOn (timedBy cut) (zero 68719476736) 68719476736 (pos 0) 0)) (markedAs (M.Correlated 0) S.Utc (pos 2) 31351069868)
 unfolding dateOf accepted clock inWindow within through isStep
 product-cut = shut (rw published) (rw published) (byMicro (λ e. omega arith))
 
@@ -74,8 +75,8 @@ abbrev offsetUnsigned : Correlation → ℕ → ℤ → ℕ → List ℤ → Lis
 offsetUnsigned c t d u ds os e = dateBy inForce elapsed time atInstant (accepted c) (clockOf (signLost c) ds os) t d u ds os e
 
 pub offset-unsigned :
-    ShutOut (withPublished (dateOf (moved 0 0 (negsuc 65535) 131072) 0 (pos 0) 0)) (answered S.Utc (negsuc 0) 86399000000)
-    (withPublished (offsetUnsigned (moved 0 0 (negsuc 65535) 131072) 0 (pos 0) 0)) (answered S.Utc (pos 0) 1000000)
+    ShutOut (withPublished (dateOf (moved 0 0 (negsuc 65535) 131072) 0 (pos 0) 0)) (markedAs (M.Correlated 0) S.Utc (negsuc 0) 86399000000)
+    (withPublished (offsetUnsigned (moved 0 0 (negsuc 65535) 131072) 0 (pos 0) 0)) (markedAs (M.Correlated 0) S.Utc (pos 0) 1000000)
 unfolding dateOf accepted clock inWindow within through isStep
 offset-unsigned = shut (rw published) (rw published) (byMicro (λ e. omega arith))
 
@@ -88,22 +89,22 @@ abbrev fast : Correlation
 fast = record { obt0 = 65536; utc0 = 0; offset = pos 0; gradient = 1001000000; back = 0; ahead = 0 }
 
 pub gradient-on-whole :
-    ShutOut (withPublished (dateOf fast 65536 (pos 0) 0)) (answered S.Utc (pos 0) 0)
-    (withPublished (dateOn (timedBy onWhole) fast 65536 (pos 0) 0)) (answered S.Utc (pos 0) 1000)
+    ShutOut (withPublished (dateOf fast 65536 (pos 0) 0)) (markedAs (M.Correlated 65536) S.Utc (pos 0) 0)
+    (withPublished (dateOn (timedBy onWhole) fast 65536 (pos 0) 0)) (markedAs (M.Correlated 65536) S.Utc (pos 0) 1000)
 unfolding dateOf accepted clock inWindow within through isStep
 gradient-on-whole = shut (rw published) (rw published) (byMicro (λ e. omega arith))
 
 -- the window ignored: the count after the only one of the window is dated
 pub window-ignored :
     ShutOut (withPublished (dateOf (zero 0) 1 (pos 0) 0)) (empty 8 S.Utc)
-    (withPublished (dateOn (forcedBy windowIgnored) (zero 0) 1 (pos 0) 0)) (answered S.Utc (pos 0) 15)
+    (withPublished (dateOn (forcedBy windowIgnored) (zero 0) 1 (pos 0) 0)) (markedAs (M.Correlated 0) S.Utc (pos 0) 15)
 unfolding dateOf accepted clock inWindow within through isStep
 window-ignored = shut (rw published) (rw published) (byNumber (λ e. omega arith))
 
 -- the receipt ignored: a record that was dead for a day dates a packet
 pub receipt-ignored :
     ShutOut (withPublished (dateOf (zero 10) 5 (pos 1) 0)) (empty 8 S.Utc)
-    (withPublished (dateOn (forcedBy receiptIgnored) (zero 10) 5 (pos 1) 0)) (answered S.Utc (pos 0) 76)
+    (withPublished (dateOn (forcedBy receiptIgnored) (zero 10) 5 (pos 1) 0)) (markedAs (M.Correlated 0) S.Utc (pos 0) 76)
 unfolding dateOf accepted clock inWindow within through isStep
 receipt-ignored = shut (rw published) (rw published) (byNumber (λ e. omega arith))
 
@@ -133,15 +134,37 @@ obtCut c t d u ds os e = dateOf c (t % 2 ^ 48) d u ds os e
 
 pub obt-cut :
     ShutOut (withPublished (dateOf (zero 10) 281474976710656 (pos 0) 0)) (empty 3 S.Utc)
-    (withPublished (obtCut (zero 10) 281474976710656 (pos 0) 0)) (answered S.Utc (pos 0) 0)
+    (withPublished (obtCut (zero 10) 281474976710656 (pos 0) 0)) (markedAs (M.Correlated 0) S.Utc (pos 0) 0)
 unfolding dateOf accepted clock inWindow within through isStep
 obt-cut = shut refl (rw published) (byNumber (λ e. omega arith))
+
+-- ---- date: the mark
+-- the packet's own count taken for the reference
+pub own-count :
+    ShutOut (withPublished (dateOf newYear 65543 (pos 6209) 86400000000)) (markedAs (M.Correlated 7) S.Utc (pos 6209) 86400000000)
+    (withPublished (dateOn (markedBy ownCount) newYear 65543 (pos 6209) 86400000000)) (markedAs (M.Correlated 65543) S.Utc (pos 6209) 86400000000)
+unfolding dateOf accepted clock inWindow within through isStep
+own-count = shut (rw published) (rw published) (byMark (λ e. omega arith))
+
+-- a plain date
+pub date-unmarked :
+    ShutOut (withPublished (dateOf newYear 65543 (pos 6209) 86400000000)) (markedAs (M.Correlated 7) S.Utc (pos 6209) 86400000000)
+    (withPublished (dateOn (markedBy unmarked) newYear 65543 (pos 6209) 86400000000)) (answered S.Utc (pos 6209) 86400000000)
+unfolding dateOf accepted clock inWindow within through isStep
+date-unmarked = shut (rw published) (rw published) (byMark (λ e. omega arith))
+
+-- a refusal that keeps the mark
+pub refusal-marked :
+    ShutOut (withPublished (dateOf (zero 0) 1 (pos 0) 0)) (empty 8 S.Utc)
+    (withPublished (dateOn refusalMarked (zero 0) 1 (pos 0) 0)) (record { number = 8; scale = S.Utc; day = pos 0; micro = 0; mark = M.Correlated 0 })
+unfolding dateOf accepted clock inWindow within through isStep
+refusal-marked = shut (rw published) (rw published) (byMark (λ e. omega arith))
 
 -- ---- date, across the leap second
 -- days of 86,400 s: the first second of 2017 comes out a second late
 pub even-days :
-    ShutOut (withPublished (dateOf newYear 131079 (pos 6210) 0)) (answered S.Utc (pos 6210) 0)
-    (withPublished (evenly (dateOf newYear 131079 (pos 6210) 0))) (answered S.Utc (pos 6210) 1000000)
+    ShutOut (withPublished (dateOf newYear 131079 (pos 6210) 0)) (markedAs (M.Correlated 7) S.Utc (pos 6210) 0)
+    (withPublished (evenly (dateOf newYear 131079 (pos 6210) 0))) (markedAs (M.Correlated 7) S.Utc (pos 6210) 1000000)
 unfolding dateOf accepted clock inWindow within through isStep
 even-days = shut (rw published) (rw even) (byMicro (λ e. omega arith))
 
@@ -155,15 +178,15 @@ even-outgrown = (refl, differ placeOfMicros (λ e. omega arith))
 
 -- the reference's offset used for the result: second 60 comes out as the next day's first
 pub reference-offset :
-    ShutOut (withPublished (dateOf newYear 65543 (pos 6209) 86400000000)) (answered S.Utc (pos 6209) 86400000000)
-    (withPublished (dateOn (dateBy inForce elapsed time referenceOffset) newYear 65543 (pos 6209) 86400000000)) (answered S.Utc (pos 6210) 0)
+    ShutOut (withPublished (dateOf newYear 65543 (pos 6209) 86400000000)) (markedAs (M.Correlated 7) S.Utc (pos 6209) 86400000000)
+    (withPublished (dateOn (dateBy inForce elapsed time referenceOffset) newYear 65543 (pos 6209) 86400000000)) (markedAs (M.Correlated 7) S.Utc (pos 6210) 0)
 unfolding dateOf accepted clock inWindow within through isStep
 reference-offset = shut (rw published) (rw published) (byMicro (λ e. omega arith))
 
 -- the receipt compared in UTC days: 8 s after the reference it passes for 7, and the cover is 7.8125 long
 pub receipt-in-utc :
     ShutOut (withPublished (dateOf newYear 7 (pos 6210) 6000000)) (empty 8 S.Utc)
-    (withPublished (dateOn (forcedBy receiptInUtc) newYear 7 (pos 6210) 6000000)) (answered S.Utc (pos 6209) 86399000000)
+    (withPublished (dateOn (forcedBy receiptInUtc) newYear 7 (pos 6210) 6000000)) (markedAs (M.Correlated 7) S.Utc (pos 6209) 86399000000)
 unfolding dateOf accepted clock inWindow within through isStep
 receipt-in-utc = shut (rw published) (rw published) (byNumber (λ e. omega arith))
 
@@ -190,7 +213,7 @@ second-first = shut (rw earlier-6209) (rw earlier-6209) (byNumber (λ e. omega a
 
 -- a window's end past E refused
 pub end-refused :
-    ShutOut (publishedTo (pos 6209) (dateOf newYear 7 (pos 6209) 86399000000)) (answered S.Utc (pos 6209) 86399000000)
+    ShutOut (publishedTo (pos 6209) (dateOf newYear 7 (pos 6209) 86399000000)) (markedAs (M.Correlated 7) S.Utc (pos 6209) 86399000000)
     (publishedTo (pos 6209) (dateOn dateEnding newYear 7 (pos 6209) 86399000000)) (empty 9 S.Utc)
 unfolding dateOf accepted clock inWindow within through isStep
 end-refused = shut (rw published-6209) (rw published-6209) (byNumber (λ e. omega arith))
@@ -212,6 +235,13 @@ pub scale-ignored :
     (withPublished (countOn (countBy scaleIgnored lastCount) (zero 10) (H.Record (recordOf S.Tai (pos 0) 20)))) (valued 0 (answer 1))
 unfolding obtOf accepted clock within latest through isStep
 scale-ignored = shut (rw published) (rw published) (byCount (λ e. omega arith))
+
+-- a time that is marked refused: the date of count 105, second 60, handed in again
+pub mark-judged :
+    ShutOut (withPublished (obtOf eve (utcMarked (M.Correlated 100) (pos 6209) 86400000000))) (valued 0 (answer 105))
+    (withPublished (countOn (countBy plainAlone lastCount) eve (utcMarked (M.Correlated 100) (pos 6209) 86400000000))) (valued 0 (refused 12))
+unfolding obtOf accepted clock within latest through isStep
+mark-judged = shut (rw published) (rw published) (byCount (λ e. omega arith))
 
 -- second 60 turned back as 12
 pub second-ignored :
@@ -247,5 +277,5 @@ pub count-end-refused :
     (publishedTo (pos 6209) (countOn countEnding newYear (utc (pos 6209) 86400000000))) (valued 0 (refused 9))
 unfolding obtOf accepted clock through isStep
 count-end-refused =
-    shut (ap (valued 0) (record-back newYear publishedDays publishedOffsets (pos 6209) 65543 (pos 6209) 86400000000 (at (pos 6209) 86400000000) (across .2)))
+    shut (ap (valued 0) (record-back newYear publishedDays publishedOffsets (pos 6209) 65543 (pos 6209) 86400000000 (at (pos 6209) 86400000000) (across .2) M.Plain))
     (rw published-6209) (byCount (λ e. omega arith))

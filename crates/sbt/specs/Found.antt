@@ -25,8 +25,8 @@ use Rattle.clock.specs.declared.inner.Base.the-variants as B
 use Rattle.clock.specs.declared.inner.Place.the-variants as P
 use Rattle.clock.specs.declared.inner.Placed.{Placed}
 use Rattle.clock.specs.declared.inner.Placed.the-variants as L
-use Rattle.sbt.specs.Meaning.{accepted, clockOf, dateOf, tickOf}
-use Rattle.sbt.specs.Places.{placeOf, shifted, baseOf, endsAt, coveredBy, lastIn, tickedAs, Windowed, Reached, Few}
+use Rattle.sbt.specs.Meaning.{accepted, clockOf, tickOf}
+use Rattle.sbt.specs.Places.{unmarkedOf, placeOf, shifted, baseOf, endsAt, coveredBy, lastIn, tickedAs, Windowed, Reached, Few}
 use Rattle.sbt.specs.Accepted.{sound, based}
 use Rattle.sbt.specs.declared.Correlation.{Correlation}
 use Rattle.sbt.specs.declared.inner.Covered.the-variants as CV
@@ -105,8 +105,8 @@ module _ (c : Correlation) (ds : List ℤ) (os : List ℕ) (e : ℤ) where
 
   -- ---- not accepted, and a list that serves
   module _ (l : listServes (c .scale) ds os e ≡ true) (a : accepted c ≡ false) where
-    pub date-6 : (t : ℕ) (d : ℤ) (u : ℕ) → dated (c .scale) (refused 6) ≡ dateOf c t d u ds os e
-    unfolding dateOf
+    pub date-6 : (t : ℕ) (d : ℤ) (u : ℕ) → dated (c .scale) (refused 6) ≡ unmarkedOf c t d u ds os e
+    unfolding unmarkedOf
     date-6 t d u = rw (l, a)
 
     pub tick-unaccepted : (h : Handed) → valued 0 (refused (unacceptedBy h 6)) ≡ tickOf c h ds os e
@@ -140,8 +140,8 @@ module _ (c : Correlation) (ds : List ℤ) (os : List ℕ) (e : ℤ) where
       not-serves : listServes (c .scale) ds os e ≡ false
       not-serves = rw (i, l)
 
-      pub date-5 : (t : ℕ) (d : ℤ) (u : ℕ) → dated (c .scale) (refused 5) ≡ dateOf c t d u ds os e
-      unfolding dateOf
+      pub date-5 : (t : ℕ) (d : ℤ) (u : ℕ) → dated (c .scale) (refused 5) ≡ unmarkedOf c t d u ds os e
+      unfolding unmarkedOf
       date-5 t d u = rw not-serves
 
       pub tick-listless : (h : Handed) → valued 0 (refused (unacceptedBy h 5)) ≡ tickOf c h ds os e

@@ -6,7 +6,7 @@ use Prim.Native.Nat.{ℕ}
 use lib.Dec.{leb, ltb}
 use lib.IntN.{ℤ, pos, _*ℤ_}
 use Rattle.axis.specs.Meaning.{Moment, dayMicros}
-use Rattle.scales.specs.Meaning.{inSpan, Judged, outcome, Slip, dated, Valued, valued}
+use Rattle.scales.specs.Meaning.{inSpan, Judged, outcome, Slip, datedAs, Valued, valued}
 use Rattle.handed.specs.declared.Handed.{Handed}
 use Rattle.clock.specs.Meaning as C
 use Rattle.sbt.specs.declared.Correlation.{Correlation}
@@ -42,7 +42,7 @@ abbrev pub dating : Correlation → ℕ → ℤ → ℕ → List ℤ → List �
 dating c t d u ds os e = C.dating (accepted c) (clockOf c ds os) t d u ds os e
 
 unfoldable pub dateOf : Correlation → ℕ → ℤ → ℕ → List ℤ → List ℕ → ℤ → Slip
-dateOf c t d u ds os e = dated (c .scale) (outcome (dating c t d u ds os e))
+dateOf c t d u ds os e = datedAs (C.markOf (clockOf c ds os)) (c .scale) (outcome (dating c t d u ds os e))
 
 -- ---- the tick of a time: 4, 5, 6, 7, 8, 9, 10, 12
 abbrev pub turning : Correlation → Handed → List ℤ → List ℕ → ℤ → Judged ℕ

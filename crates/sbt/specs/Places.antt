@@ -4,7 +4,7 @@ use mathlib.Core.Bool.{cond}
 use mathlib.Core.List.{List}
 use Prim.Native.Nat.{ℕ, _+_, _*_, _≤_, _<_}
 use lib.IntN.{ℤ}
-use Rattle.scales.specs.Meaning.{refused, answer, Valued, valued, numberOf}
+use Rattle.scales.specs.Meaning.{refused, answer, outcome, Slip, dated, Valued, valued, numberOf}
 use Rattle.clock.specs.Meaning.{isCurrent}
 use Rattle.clock.specs.Places as C
 use Rattle.clock.specs.Stage.{spot, secondsIn}
@@ -16,12 +16,16 @@ use Rattle.clock.specs.declared.inner.Place.the-variants as P
 use Rattle.clock.specs.declared.inner.Placed.{Placed}
 use Rattle.clock.specs.declared.inner.Placed.the-variants as T
 use Rattle.clock.specs.declared.inner.Reckoned.{Reckoned}
-use Rattle.sbt.specs.Meaning.{accepted}
+use Rattle.sbt.specs.Meaning.{accepted, dating}
 use Rattle.sbt.specs.declared.Correlation.{Correlation}
 use Rattle.sbt.specs.declared.inner.Covered.{Covered}
 use Rattle.sbt.specs.declared.inner.Covered.the-variants as CV
 
 -- ---- what the private functions answer
+-- the date before it is marked
+unfoldable pub unmarkedOf : Correlation → ℕ → ℤ → ℕ → List ℤ → List ℕ → ℤ → Slip
+unmarkedOf c t d u ds os e = dated (c .scale) (outcome (dating c t d u ds os e))
+
 abbrev pub placeOf : Correlation → Place
 placeOf c = cond (accepted c) (P.At (spot (c .day) (c .micro))) P.Outside
 

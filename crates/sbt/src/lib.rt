@@ -8,7 +8,7 @@ ghost use Rattle.scales.specs.Meaning.{slip, tickSlip};
 ghost use Rattle.leap.specs.Meaning as Leap;
 ghost use Rattle.via_tai.specs.Meaning.{isUtc};
 ghost use Rattle.sbt.specs.Meaning.{dateOf, tickOf};
-ghost use Rattle.sbt.specs.Places.{placeOf, baseOf, reckonedAt, timeAt, endsAt, countFrom, lastAt, tickFrom, lastIn, Based, Windowed, Near, Reached};
+ghost use Rattle.sbt.specs.Places.{unmarkedOf, placeOf, baseOf, reckonedAt, timeAt, endsAt, countFrom, lastAt, tickFrom, lastIn, Based, Windowed, Near, Reached};
 ghost use Rattle.sbt.specs.Found.{Lasts};
 
 pub mod inner;
@@ -20,6 +20,7 @@ use clock::inner::Placed;
 use clock::inner::Reckoned;
 use handed::Handed;
 use scales::Dated;
+use scales::Mark;
 use scales::Refusal;
 use scales::Scale;
 use scales::Tick;
@@ -126,7 +127,7 @@ fn date_by_list(
     last: i64,
 ) -> Dated
     requires { ⌜ isUtc (c .scale) ≡ true ⌝ }
-    ensures { λ r. ⌜ slip r ≡ dateOf c (tick .0) «receipt_day» «receipt_micro» (now (days .entry)) (now (offsets .entry)) last ⌝ }
+    ensures { λ r. ⌜ slip r ≡ unmarkedOf c (tick .0) «receipt_day» «receipt_micro» (now (days .entry)) (now (offsets .entry)) last ⌝ }
 {
     if !leap::is_accepted(days, offsets, last) {
         return Dated::Refused(Refusal::ListNotAccepted, Scale::Utc);
@@ -138,7 +139,30 @@ fn date_by_list(
     clock::inner::date_by_list(k, current, receipt_day, receipt_micro, days, offsets, last)
 }
 
-// The date of a tick, received on a day at a microsecond of the correlation's scale. A list is used under a UTC correlation alone.
+// The date of a tick before it is marked. A list is used under a UTC correlation alone.
+fn unmarked(
+    c: Correlation,
+    tick: Tick,
+    receipt_day: i64,
+    receipt_micro: u64,
+    days: &[i64],
+    offsets: &[u64],
+    last: i64,
+) -> Dated
+    ensures { λ r. ⌜ slip r ≡ unmarkedOf c (tick .0) «receipt_day» «receipt_micro» (now (days .entry)) (now (offsets .entry)) last ⌝ }
+{
+    let scale = c.scale;
+    if changes::inner::is_utc(scale) {
+        return date_by_list(c, tick, receipt_day, receipt_micro, days, offsets, last);
+    }
+    let Place::At(r) = reference_of(c) else {
+        return Dated::Refused(Refusal::CorrelationNotAccepted, scale);
+    };
+    let k = reckon(c, tick.0, r);
+    clock::inner::date(scale, k, receipt_day, receipt_micro)
+}
+
+// The date of a tick, received on a day at a microsecond of the correlation's scale, marked with the reference tick.
 pub fn date(
     c: Correlation,
     tick: Tick,
@@ -150,15 +174,8 @@ pub fn date(
 ) -> Dated
     ensures { λ r. ⌜ slip r ≡ dateOf c (tick .0) «receipt_day» «receipt_micro» (now (days .entry)) (now (offsets .entry)) last ⌝ }
 {
-    let scale = c.scale;
-    if changes::inner::is_utc(scale) {
-        return date_by_list(c, tick, receipt_day, receipt_micro, days, offsets, last);
-    }
-    let Place::At(r) = reference_of(c) else {
-        return Dated::Refused(Refusal::CorrelationNotAccepted, scale);
-    };
-    let k = reckon(c, tick.0, r);
-    clock::inner::date(scale, k, receipt_day, receipt_micro)
+    let d = unmarked(c, tick, receipt_day, receipt_micro, days, offsets, last);
+    d.with_mark(Mark::Correlated(c.tick.0 as u64))
 }
 
 // ---- the tick of a time

@@ -9,18 +9,21 @@ use lib.IntN.{ℤ, pos, negsuc, _+ℤ_}
 use lib.Signed.{leZ}
 use lib.Ieee.{fin, nan}
 use Rattle.axis.specs.Meaning.{Moment, since}
-use Rattle.scales.specs.Meaning.{inSpan, Outcome, answer, refused, outcome, recordOf}
+use Rattle.scales.specs.Meaning.{inSpan, Outcome, answer, refused, outcome, datedAs, recordOf, markedRecord, valued}
 use Rattle.scales.specs.declared.Scale.the-variants as S
+use Rattle.scales.specs.declared.Mark.{Mark}
+use Rattle.scales.specs.declared.Mark.the-variants as M
 use Rattle.handed.specs.declared.Handed.{Handed}
 use Rattle.handed.specs.declared.Handed.the-variants as H
 use Rattle.leap_laws.proofs.Lists.{withNone}
 use Rattle.clock.specs.Meaning.{Clock, clock, time, inWindow, within, covers, elapsed, latest}
-use Rattle.sbt.specs.Meaning.{accepted, clockOf, dating, turning}
+use Rattle.sbt.specs.Meaning.{accepted, clockOf, dating, dateOf, turning, tickOf}
 use Rattle.sbt.specs.declared.Correlation.{Correlation}
 use Rattle.sbt_laws.proofs.Counts.{elapsed-one}
 use Rattle.sbt_laws.proofs.Answers.{dates, exact, turns}
 use Rattle.sbt_laws.proofs.Trips.{comes-back, same-tick, record-back, never-later, little-earlier}
 use Rattle.sbt_laws.proofs.Night.{outside-window, received-before, received-after, no-wrap}
+use Rattle.sbt_laws.proofs.Marks.{correlated, marked-date, mark-ignored}
 
 -- ---- reference tick FFFFFFFF at the beginning of TAI day 0, P = 3,906,250,000, the same window either way
 abbrev pub marked : ℕ → Correlation
@@ -31,6 +34,9 @@ at d u = record { day = d; micro = u }
 
 abbrev pub tai : ℤ → ℕ → Handed
 tai d u = H.Record (recordOf S.Tai d u)
+
+abbrev pub taiMarked : Mark → ℤ → ℕ → Handed
+taiMarked m d u = H.Record (markedRecord m (recordOf S.Tai d u))
 
 -- no list is one, and a TAI correlation does not ask
 abbrev pub date : Correlation → ℕ → ℤ → ℕ → Outcome Moment
@@ -100,9 +106,10 @@ receipt-covered = dates (marked 10) 4294967294 (pos 0) 0 [] [] (pos 0) (at (negs
 pub time-covered : covers (clockAt 10) (since (negsuc 0) 86399996093) ≡ true
 time-covered = turns (marked 10) (tai (negsuc 0) 86399996093) [] [] (pos 0) 4294967294 (either-side .3) .cover
 
--- a tick to a time and back, by the record and by a time that stands for it
-pub trip : turn (marked 10) (tai (negsuc 0) 86399996093) ≡ answer 4294967294
-trip = record-back (marked 10) [] [] (pos 0) 4294967294 (pos 0) 0 (at (negsuc 0) 86399996093) (either-side .1) (lit< tt)
+-- a tick to a time and back, by the record that was answered, its mark included, and by a time that stands for it
+pub trip : turn (marked 10) (taiMarked (M.Correlated 4294967295) (negsuc 0) 86399996093) ≡ answer 4294967294
+trip =
+    record-back (marked 10) [] [] (pos 0) 4294967294 (pos 0) 0 (at (negsuc 0) 86399996093) (either-side .1) (M.Correlated 4294967295) (lit< tt)
 
 pub trip-same : (n : ℕ) → turn (marked 10) (tai (negsuc 0) 86399996093) ≡ answer n → n ≡ 4294967294
 trip-same =
@@ -119,8 +126,8 @@ trip-decimal =
     comes-back (marked 11059200) [] [] (pos 0) 4283908095 (pos 0) 0 (at (negsuc 0) 43200000000) half-day (H.Decimal (fin true 1 (negsuc 0)) S.Tai)
     (record { scale = refl; day = refl; micro = refl }) (lit< tt) refl refl
 
--- a time to a tick and back: 3,905 microseconds after the reference, the reference
-turned : turn (marked 10) (tai (pos 0) 3905) ≡ answer 4294967295
+-- a time to a tick and back: 3,905 microseconds after the reference, marked by another one, the reference
+turned : turn (marked 10) (taiMarked (M.Correlated 7) (pos 0) 3905) ≡ answer 4294967295
 unfolding accepted clock inWindow within latest
 turned = refl
 
@@ -128,11 +135,27 @@ dated-again : date (marked 10) 4294967295 (pos 0) 0 ≡ answer (at (pos 0) 0)
 unfolding accepted clock inWindow within
 dated-again = refl
 
-pub time-trip : (leZ (since (pos 0) 0) (since (pos 0) 3905) ≡ true) × (leZ (since (pos 0) 3905) (since (pos 0) 0 +ℤ pos 3906) ≡ true)
-time-trip = (
-  never-later (marked 10) [] [] (pos 0) (tai (pos 0) 3905) 4294967295 turned (pos 0) 0 (at (pos 0) 0) dated-again,
-  little-earlier (marked 10) [] [] (pos 0) (tai (pos 0) 3905) 4294967295 turned (pos 0) 0 (at (pos 0) 0) dated-again,
-)
+pub time-trip :
+    (leZ (since (pos 0) 0) (since (pos 0) 3905) ≡ true)
+    × (leZ (since (pos 0) 3905) (since (pos 0) 0 +ℤ pos 3906) ≡ true)
+    × (withNone (dateOf (marked 10) 4294967295 (pos 0) 0) ≡ datedAs (M.Correlated 4294967295) S.Tai (answer (at (pos 0) 0)))
+time-trip =
+    let h = taiMarked (M.Correlated 7) (pos 0) 3905 in (
+      never-later (marked 10) [] [] (pos 0) h 4294967295 turned (pos 0) 0 (at (pos 0) 0) dated-again,
+      little-earlier (marked 10) [] [] (pos 0) h 4294967295 turned (pos 0) 0 (at (pos 0) 0) dated-again,
+      marked-date (marked 10) [] [] (pos 0) 4294967295 (pos 0) 0 (at (pos 0) 0) dated-again,
+    )
+
+-- a date is marked with the reference tick, which is not its own, and a refusal is plain; a mark of Proteus has no part in the tick
+pub date-marked :
+    (withNone (dateOf (marked 10) 0 (pos 0) 3906) .mark ≡ M.Correlated 4294967295)
+    × (withNone (dateOf (marked 0) 0 (pos 0) 3906) .mark ≡ M.Plain)
+unfolding dateOf accepted clock inWindow within
+date-marked = (correlated (marked 10) [] [] (pos 0) 0 (pos 0) 3906, correlated (marked 0) [] [] (pos 0) 0 (pos 0) 3906)
+
+pub mark-unseen : withNone (tickOf (marked 10) (taiMarked (M.Proteus true) (pos 0) 3906)) ≡ valued 0 (answer 0)
+unfolding tickOf accepted clock within latest
+mark-unseen = mark-ignored (marked 10) [] [] (pos 0) (M.Proteus true) (recordOf S.Tai (pos 0) 3906)
 
 -- received before the cover, and after it: 8 for every tick; and a tick outside the window
 pub too-early : (t : ℕ) → date autumn t (pos 3000) 0 ≡ refused 8

@@ -8,8 +8,9 @@ use lib.IntN.{ℤ, pos, negsuc, _+ℤ_}
 use lib.Signed.{leZ}
 use lib.Ieee.{fin, nan}
 use Rattle.axis.specs.Meaning.{Moment}
-use Rattle.scales.specs.Meaning.{inSpan, answer, refused, outcome, recordOf}
+use Rattle.scales.specs.Meaning.{inSpan, answer, refused, outcome, datedAs, recordOf, markedRecord}
 use Rattle.scales.specs.declared.Scale.the-variants as S
+use Rattle.scales.specs.declared.Mark.the-variants as M
 use Rattle.handed.specs.declared.Handed.{Handed}
 use Rattle.handed.specs.declared.Handed.the-variants as H
 use Rattle.leap.specs.Meaning.{through, isStep, taiOf, publishedDays, publishedOffsets, publishedLast}
@@ -17,13 +18,14 @@ use Rattle.leap.specs.Published.{published}
 use Rattle.leap_laws.proofs.Computed.{published-6209, earlier, earlier-6209, even}
 use Rattle.leap_laws.proofs.Lists.{withPublished, publishedTo, earlierTo, withEven, withNone, none}
 use Rattle.clock.specs.Meaning.{Clock, clock, time, inWindow, within, covers, elapsed, latest}
-use Rattle.sbt.specs.Meaning.{accepted, clockOf, dating, turning}
+use Rattle.sbt.specs.Meaning.{accepted, clockOf, dating, dateOf, turning}
 use Rattle.sbt.specs.declared.Correlation.{Correlation}
 use Rattle.sbt_laws.proofs.Counts.{elapsed-one}
 use Rattle.sbt_laws.proofs.Answers.{dates, exact, turns}
 use Rattle.sbt_laws.proofs.Trips.{comes-back, same-tick, record-back, never-later, little-earlier}
 use Rattle.sbt_laws.proofs.Window.{widened}
 use Rattle.sbt_laws.proofs.Night.{outside-window, received-before, received-after, no-wrap}
+use Rattle.sbt_laws.proofs.Marks.{marked-date}
 use Rattle.sbt_laws.proofs.Cases.{at, tai}
 
 -- ---- tick 7 at a day and a microsecond of UTC, P as given, the same window either way
@@ -143,9 +145,10 @@ receipt-covered = dates newYear 263 (pos 6209) 86400000000 publishedDays publish
 pub time-covered : covers clockNow (taiNow (pos 6210) 0) ≡ true
 time-covered = turns newYear (utc (pos 6210) 0) publishedDays publishedOffsets publishedLast 519 (back-across .1) .cover
 
--- second 60 to its tick and back, by the record and by a time that stands for it; and the next day by its decimal day
-pub trip : outcome (withPublished (turning newYear (utc (pos 6209) 86400000000))) ≡ answer 263
-trip = record-back newYear publishedDays publishedOffsets publishedLast 263 (pos 6209) 86400000000 sixty (across .0) (lit< tt)
+-- second 60 to its tick and back, by the record that was answered, its mark included, and by a time that stands for it; and the next day by
+-- its decimal day
+pub trip : outcome (withPublished (turning newYear (H.Record (markedRecord (M.Correlated 7) (recordOf S.Utc (pos 6209) 86400000000))))) ≡ answer 263
+trip = record-back newYear publishedDays publishedOffsets publishedLast 263 (pos 6209) 86400000000 sixty (across .0) (M.Correlated 7) (lit< tt)
 
 pub trip-same : (n : ℕ) → outcome (withPublished (turning newYear (utc (pos 6209) 86400000000))) ≡ answer n → n ≡ 263
 trip-same =
@@ -161,9 +164,11 @@ trip-decimal =
 pub time-trip :
     (leZ (taiNow (pos 6209) 86400000000) (taiNow (pos 6209) 86400003905) ≡ true)
     × (leZ (taiNow (pos 6209) 86400003905) (taiNow (pos 6209) 86400000000 +ℤ pos 3906) ≡ true)
+    × (withPublished (dateOf newYear 263 (pos 6209) 86400000000) ≡ datedAs (M.Correlated 7) S.Utc (answer sixty))
 time-trip = (
   never-later newYear publishedDays publishedOffsets publishedLast (utc (pos 6209) 86400003905) 263 (back-across .2) (pos 6209) 86400000000 sixty (across .0),
   little-earlier newYear publishedDays publishedOffsets publishedLast (utc (pos 6209) 86400003905) 263 (back-across .2) (pos 6209) 86400000000 sixty (across .0),
+  marked-date newYear publishedDays publishedOffsets publishedLast 263 (pos 6209) 86400000000 sixty (across .0),
 )
 
 -- received 8 s before the reference, and 8 s after it, though it be 7 s of UTC days: 8 for every tick. A tick outside the window is 8 though

@@ -1,5 +1,6 @@
 -- The round trips. Where both ways are answered, a tick turned into a time and back is the same tick, second 60 included; a time turned
--- into a tick and back is never later, and at most 3,906 microseconds earlier, in TAI under a UTC correlation. Assumes nothing.
+-- into a tick and back is never later, and at most 3,906 microseconds earlier, in TAI under a UTC correlation. They speak of the time,
+-- whatever its mark; `Marks.antt` has a date's. Assumes nothing.
 use mathlib.Core.Path.{_≡_}
 use mathlib.Core.Bool.{true}
 use mathlib.Core.List.{List}
@@ -8,7 +9,8 @@ use native.Mathlib.Omega.{arith}
 use lib.IntN.{ℤ, pos, _+ℤ_}
 use lib.Signed.{leZ}
 use Rattle.axis.specs.Meaning.{Moment}
-use Rattle.scales.specs.Meaning.{answer, outcome, recordOf}
+use Rattle.scales.specs.Meaning.{answer, outcome, recordOf, markedRecord}
+use Rattle.scales.specs.declared.Mark.{Mark}
 use Rattle.handed.specs.declared.Handed.{Handed}
 use Rattle.handed.specs.declared.Handed.the-variants as H
 use Rattle.handed.specs.Meaning.{isFinite, isInSpan}
@@ -35,8 +37,9 @@ module _ (c : Correlation) (ds : List ℤ) (os : List ℕ) (e : ℤ) where
     pub same-tick : (h : Handed) → Stands h (c .scale) m → t < 4294967296 → (n : ℕ) → outcome (turning c h ds os e) ≡ answer n → n ≡ t
     same-tick = G.same-count (accepted c) (clockOf c ds os) (shifted c ds os * 1000000) stands ds os e t d u m g
 
-    -- the record of a date is answered always
-    pub record-back : t < 4294967296 → outcome (turning c (H.Record (recordOf (c .scale) (m .day) (m .micro))) ds os e) ≡ answer t
+    -- the record of a date is answered always, with the date's own mark or any other
+    pub record-back : (k : Mark) → t < 4294967296 →
+        outcome (turning c (H.Record (markedRecord k (recordOf (c .scale) (m .day) (m .micro)))) ds os e) ≡ answer t
     record-back = G.record-back (accepted c) (clockOf c ds os) (shifted c ds os * 1000000) stands ds os e t d u m g
 
   module _ (h : Handed) (n : ℕ) (g : outcome (turning c h ds os e) ≡ answer n)

@@ -9,6 +9,7 @@ use Rattle.evidence.specs.ShutOut.{ShutOut, Outgrown, differ, shut}
 use Rattle.axis.specs.Meaning.{placeOfMicros, since}
 use Rattle.scales.specs.Meaning.{Slip, answer, refused, recordOf, Valued, valued}
 use Rattle.scales.specs.declared.Scale.the-variants as S
+use Rattle.scales.specs.declared.Mark.the-variants as M
 use Rattle.handed.specs.declared.Handed.{Handed}
 use Rattle.handed.specs.declared.Handed.the-variants as H
 use Rattle.leap.specs.Meaning.{through, isStep, publishedDays, publishedOffsets}
@@ -17,12 +18,12 @@ use Rattle.leap_laws.proofs.Computed.{published-6209, earlier, earlier-6209, ev
 use Rattle.leap_laws.proofs.Lists.{withPublished, publishedTo, earlierTo, withNone, none}
 use Rattle.clock.specs.Meaning.{instant, elapsed, clock, time, inWindow, within, inForce, latest, lastCount}
 use Rattle.clock_laws.proofs.Answers.{Dates}
-use Rattle.clock_laws.proofs.Desks.{Dating, Turning, dateBy, forcedBy, timedBy, atInstant, windowIgnored, receiptIgnored, WithoutReceipt, swapped, receiptInUtc, unknownCompared, unsigned, towardsZero, referenceOffset, expiredFirst, secondFirst, dateEnding, dateListed, countBy, scaleIgnored, secondIgnored, carried, forceFirst, scaleFirst, countEnding, countListed, evenly, byRefusal, byCount}
+use Rattle.clock_laws.proofs.Desks.{Dating, Turning, dateBy, forcedBy, timedBy, atInstant, windowIgnored, receiptIgnored, WithoutReceipt, swapped, receiptInUtc, unknownCompared, unsigned, towardsZero, referenceOffset, expiredFirst, secondFirst, dateEnding, dateListed, markedBy, ownCount, unmarked, refusalMarked, countBy, scaleIgnored, secondIgnored, plainAlone, carried, forceFirst, scaleFirst, countEnding, countListed, evenly, byRefusal, byCount}
 use Rattle.sbt.specs.Meaning.{accepted, clockOf, dateOf, tickOf}
 use Rattle.sbt.specs.declared.Correlation.{Correlation}
-use Rattle.sbt_laws.proofs.Cases.{marked, at, autumn, tai}
+use Rattle.sbt_laws.proofs.Cases.{marked, at, autumn, tai, taiMarked}
 use Rattle.sbt_laws.proofs.NewYear.{newYear, utc}
-use Rattle.ground_laws.proofs.Desks.{answered, empty, byNumber, byMicro}
+use Rattle.ground_laws.proofs.Desks.{answered, empty, byNumber, markedAs, byMark, byMicro}
 
 -- ---- date: a wrong desk at a correlation
 abbrev dateOn : Dating → Correlation → ℕ → ℤ → ℕ → List ℤ → List ℕ → ℤ → Slip
@@ -31,14 +32,14 @@ dateOn desk c t d u ds os e = desk (accepted c) (clockOf c ds os) t d u ds os e
 -- the window ignored: marked case 9's next tick is dated
 pub window-ignored :
     ShutOut (withNone (dateOf (marked 0) 0 (pos 0) 0)) (empty 8 S.Tai)
-    (withNone (dateOn (forcedBy windowIgnored) (marked 0) 0 (pos 0) 0)) (answered S.Tai (pos 0) 3906)
+    (withNone (dateOn (forcedBy windowIgnored) (marked 0) 0 (pos 0) 0)) (markedAs (M.Correlated 4294967295) S.Tai (pos 0) 3906)
 unfolding dateOf accepted clock inWindow within
 window-ignored = (refl, refl, byNumber (λ e. omega arith))
 
 -- the receipt ignored: the packet of March comes out one full wrap early, 194 d 4 h 20 min 16 s
 pub receipt-ignored :
     ShutOut (withNone (dateOf autumn 4078800897 (pos 3356) 9600000000)) (empty 8 S.Tai)
-    (withNone (dateOn (forcedBy receiptIgnored) autumn 4078800897 (pos 3356) 9600000000)) (answered S.Tai (pos 3161) 80384000000)
+    (withNone (dateOn (forcedBy receiptIgnored) autumn 4078800897 (pos 3356) 9600000000)) (markedAs (M.Correlated 537399297) S.Tai (pos 3161) 80384000000)
 unfolding dateOf accepted clock inWindow within
 receipt-ignored = (refl, refl, byNumber (λ e. omega arith))
 
@@ -54,15 +55,15 @@ receipt-untold = (
 
 -- the elapsed count from 0 to 2^32 - 1: the tick before the reference is refused
 pub count-unsigned :
-    ShutOut (withNone (dateOf (marked 10) 4294967294 (pos 0) 0)) (answered S.Tai (negsuc 0) 86399996093)
+    ShutOut (withNone (dateOf (marked 10) 4294967294 (pos 0) 0)) (markedAs (M.Correlated 4294967295) S.Tai (negsuc 0) 86399996093)
     (withNone (dateOn (dateBy inForce unsigned time atInstant) (marked 10) 4294967294 (pos 0) 0)) (empty 8 S.Tai)
 unfolding dateOf accepted clock inWindow within
 count-unsigned = (refl, refl, byNumber (λ e. omega arith))
 
 -- a negative elapsed time rounded towards zero: marked case 8's tick before the reference takes away 3,906 and not 3,907
 pub rounded-towards-zero :
-    ShutOut (withNone (dateOf (marked 10) 4294967294 (pos 0) 0)) (answered S.Tai (negsuc 0) 86399996093)
-    (withNone (dateOn (timedBy towardsZero) (marked 10) 4294967294 (pos 0) 0)) (answered S.Tai (negsuc 0) 86399996094)
+    ShutOut (withNone (dateOf (marked 10) 4294967294 (pos 0) 0)) (markedAs (M.Correlated 4294967295) S.Tai (negsuc 0) 86399996093)
+    (withNone (dateOn (timedBy towardsZero) (marked 10) 4294967294 (pos 0) 0)) (markedAs (M.Correlated 4294967295) S.Tai (negsuc 0) 86399996094)
 unfolding dateOf accepted clock inWindow within
 rounded-towards-zero = (refl, refl, byMicro (λ e. omega arith))
 
@@ -71,23 +72,45 @@ abbrev ahead : Correlation
 ahead = record { tick = record { 0 = 4294967295 }; scale = S.Tai; day = pos 0; micro = 0; period = 3906250000; back = 0; ahead = 10 }
 
 pub ends-swapped :
-    ShutOut (withNone (dateOf ahead 0 (pos 0) 3906)) (answered S.Tai (pos 0) 3906)
+    ShutOut (withNone (dateOf ahead 0 (pos 0) 3906)) (markedAs (M.Correlated 4294967295) S.Tai (pos 0) 3906)
     (withNone (dateOn (forcedBy swapped) ahead 0 (pos 0) 3906)) (empty 8 S.Tai)
 unfolding dateOf accepted clock inWindow within
 ends-swapped = (refl, refl, byNumber (λ e. omega arith))
 
 -- the list judged under TAI
 pub list-judged :
-    ShutOut (withNone (dateOf (marked 10) 0 (pos 0) 3906)) (answered S.Tai (pos 0) 3906)
+    ShutOut (withNone (dateOf (marked 10) 0 (pos 0) 3906)) (markedAs (M.Correlated 4294967295) S.Tai (pos 0) 3906)
     (withNone (dateOn dateListed (marked 10) 0 (pos 0) 3906)) (empty 5 S.Tai)
 unfolding dateOf accepted clock inWindow within
 list-judged = shut refl (rw none) (byNumber (λ e. omega arith))
 
+-- ---- date: the mark
+-- the packet's own tick taken for the reference
+pub own-tick :
+    ShutOut (withNone (dateOf (marked 10) 0 (pos 0) 3906)) (markedAs (M.Correlated 4294967295) S.Tai (pos 0) 3906)
+    (withNone (dateOn (markedBy ownCount) (marked 10) 0 (pos 0) 3906)) (markedAs (M.Correlated 0) S.Tai (pos 0) 3906)
+unfolding dateOf accepted clock inWindow within
+own-tick = (refl, refl, byMark (λ e. omega arith))
+
+-- a plain date
+pub date-unmarked :
+    ShutOut (withNone (dateOf (marked 10) 0 (pos 0) 3906)) (markedAs (M.Correlated 4294967295) S.Tai (pos 0) 3906)
+    (withNone (dateOn (markedBy unmarked) (marked 10) 0 (pos 0) 3906)) (answered S.Tai (pos 0) 3906)
+unfolding dateOf accepted clock inWindow within
+date-unmarked = (refl, refl, byMark (λ e. omega arith))
+
+-- a refusal that keeps the mark
+pub refusal-marked :
+    ShutOut (withNone (dateOf (marked 0) 0 (pos 0) 0)) (empty 8 S.Tai)
+    (withNone (dateOn refusalMarked (marked 0) 0 (pos 0) 0)) (record { number = 8; scale = S.Tai; day = pos 0; micro = 0; mark = M.Correlated 4294967295 })
+unfolding dateOf accepted clock inWindow within
+refusal-marked = (refl, refl, byMark (λ e. omega arith))
+
 -- ---- date, under UTC
 -- days of 86,400 s: the first second of 2017 comes out a second late
 pub even-days :
-    ShutOut (withPublished (dateOf newYear 519 (pos 6210) 0)) (answered S.Utc (pos 6210) 0)
-    (withPublished (evenly (dateOf newYear 519 (pos 6210) 0))) (answered S.Utc (pos 6210) 1000000)
+    ShutOut (withPublished (dateOf newYear 519 (pos 6210) 0)) (markedAs (M.Correlated 7) S.Utc (pos 6210) 0)
+    (withPublished (evenly (dateOf newYear 519 (pos 6210) 0))) (markedAs (M.Correlated 7) S.Utc (pos 6210) 1000000)
 unfolding dateOf accepted clock inWindow within through isStep
 even-days = shut (rw published) (rw even) (byMicro (λ e. omega arith))
 
@@ -101,15 +124,15 @@ even-outgrown = (refl, differ placeOfMicros (λ e. omega arith))
 
 -- the reference's offset used for the result: second 60 comes out as the next day's first
 pub reference-offset :
-    ShutOut (withPublished (dateOf newYear 263 (pos 6209) 86400000000)) (answered S.Utc (pos 6209) 86400000000)
-    (withPublished (dateOn (dateBy inForce elapsed time referenceOffset) newYear 263 (pos 6209) 86400000000)) (answered S.Utc (pos 6210) 0)
+    ShutOut (withPublished (dateOf newYear 263 (pos 6209) 86400000000)) (markedAs (M.Correlated 7) S.Utc (pos 6209) 86400000000)
+    (withPublished (dateOn (dateBy inForce elapsed time referenceOffset) newYear 263 (pos 6209) 86400000000)) (markedAs (M.Correlated 7) S.Utc (pos 6210) 0)
 unfolding dateOf accepted clock inWindow within through isStep
 reference-offset = shut (rw published) (rw published) (byMicro (λ e. omega arith))
 
 -- the receipt compared in UTC days: 8 s after the reference it passes for 7, and the cover is 7.8125 long
 pub receipt-in-utc :
     ShutOut (withPublished (dateOf newYear 7 (pos 6210) 6000000)) (empty 8 S.Utc)
-    (withPublished (dateOn (forcedBy receiptInUtc) newYear 7 (pos 6210) 6000000)) (answered S.Utc (pos 6209) 86399000000)
+    (withPublished (dateOn (forcedBy receiptInUtc) newYear 7 (pos 6210) 6000000)) (markedAs (M.Correlated 7) S.Utc (pos 6209) 86399000000)
 unfolding dateOf accepted clock inWindow within through isStep
 receipt-in-utc = shut (rw published) (rw published) (byNumber (λ e. omega arith))
 
@@ -136,7 +159,7 @@ second-first = shut (rw earlier-6209) (rw earlier-6209) (byNumber (λ e. omega a
 
 -- a window's end past E refused
 pub end-refused :
-    ShutOut (publishedTo (pos 6209) (dateOf newYear 7 (pos 6209) 86399000000)) (answered S.Utc (pos 6209) 86399000000)
+    ShutOut (publishedTo (pos 6209) (dateOf newYear 7 (pos 6209) 86399000000)) (markedAs (M.Correlated 7) S.Utc (pos 6209) 86399000000)
     (publishedTo (pos 6209) (dateOn dateEnding newYear 7 (pos 6209) 86399000000)) (empty 9 S.Utc)
 unfolding dateOf accepted clock inWindow within through isStep
 end-refused = shut (rw published-6209) (rw published-6209) (byNumber (λ e. omega arith))
@@ -165,6 +188,13 @@ pub tick-list-judged :
     (withNone (tickOn countListed (marked 10) (tai (pos 0) 3906))) (valued 0 (refused 5))
 unfolding tickOf accepted clock within latest
 tick-list-judged = shut refl (rw none) (byRefusal (λ e. omega arith))
+
+-- a time that is marked refused: the date of tick 0, handed in again
+pub mark-judged :
+    ShutOut (withNone (tickOf (marked 10) (taiMarked (M.Correlated 4294967295) (pos 0) 3906))) (valued 0 (answer 0))
+    (withNone (tickOn (countBy plainAlone lastCount) (marked 10) (taiMarked (M.Correlated 4294967295) (pos 0) 3906))) (valued 0 (refused 12))
+unfolding tickOf accepted clock within latest
+mark-judged = (refl, refl, byRefusal (λ e. omega arith))
 
 -- ---- tick_of, under UTC
 -- second 60 turned back as 12

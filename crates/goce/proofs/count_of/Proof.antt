@@ -14,8 +14,9 @@ use Rattle.clock.specs.Places.{coverOf}
 use Rattle.clock.specs.Stage.{covering, landed}
 use Rattle.clock.specs.declared.inner.Base.the-variants as B
 use Rattle.clock.specs.declared.inner.Ends.{Ends}
-use Rattle.goce.specs.Places.{baseOf, endsAt, obtFrom}
-use Rattle.goce.specs.Found.{counter, window-of, count-listless, count-unaccepted, count-not, near, few, count-is}
+use Rattle.clock.specs.declared.inner.Place.{Place}
+use Rattle.goce.specs.Places.{baseOf, baseAt, endsAt, obtFrom}
+use Rattle.goce.specs.Found.{place-few, base-is, counter, window-of, count-listless, count-unaccepted, count-not, near, few, count-is}
 use borrow.Author.Needs.{needs}
 use Rattle.goce.proofs.count_of.Statement.{statement}
 use Rattle.goce.proofs.count_of.Tie as tie
@@ -33,7 +34,7 @@ listed : (c : tie.Else1) → let a = entry (c .before) .args in Leap.accepted (a
 listed c = sym (list (c .before)) ∙ not-false _ (c .if1 .left)
 
 abbrev start : tie.After-known-told → tie.Else1
-start c = c .before .before .before .before
+start c = c .before .before .before .before .before
 
 abbrev place : tie.After-known-told → ℕ
 place c = c .before .s .given .0 .0
@@ -42,11 +43,13 @@ abbrev current : tie.After-known-told → Bool
 current c = c .before .s .given .0 .1 .0
 
 -- the reference, and what was found in the cover
-base : (c : tie.After-base-of) → let a = entry (c .before .before) .args in c .base-of .result ≡ baseOf (a .c) (a .days .now) (a .offsets .now) (a .last)
+base : (c : tie.After-base-at) → let a = entry (c .before .before .before) .args in c .base-at .result ≡ baseOf (a .c) (a .days .now) (a .offsets .now) (a .last)
 base c =
-    let s = entry (c .before .before) in
+    let s = entry (c .before .before .before) in
     let a = s .args in
-    c .base-of .ensures ∙ ap (baseOf (a .c) (a .days .now) (a .offsets .now)) (toZ-ofZ (s .fits .last))
+    c .base-at .ensures
+    ∙ ap₂ (λ (p : Place) (e : ℤ). baseAt p (a .days .now) (a .offsets .now) e) (c .before .reference-of .ensures) (toZ-ofZ (s .fits .last))
+    ∙ base-is (a .c) (a .days .now) (a .offsets .now) (a .last)
 
 known-s : (c : tie.After-known-told) → let a = entry (start c .before) .args in
     baseOf (a .c) (a .days .now) (a .offsets .now) (a .last) ≡ B.At (place c) (current c)
@@ -74,15 +77,19 @@ returns c =
     ap (λ (n : ℕ). valued 0 (refused n)) (c .unaccepted .ensures)
     ∙ count-listless (a .c) (a .days .now) (a .offsets .now) (a .last) (sym (list b) ∙ not-true _ (c .before .if1 .taken)) (a .h)
 
-base-of-requires : tie.Need-base-of-requires
-base-of-requires c κs = rw (toZ-ofZ (entry (c .before) .fits .last)) (listed c)
+base-at-requires : tie.Need-base-at-requires
+base-at-requires c κs = let b = c .before in (
+  rw (toZ-ofZ (entry (b .before) .fits .last)) (listed b),
+  rw (c .reference-of .ensures) (place-few (entry (b .before) .args .c)),
+)
 
 returns-2 : tie.Need-returns-2
 returns-2 c =
     let b = c .before .before .before in
-    let a = entry (b .before .before) .args in
+    let e = b .before .before in
+    let a = entry (e .before) .args in
     ap (λ (n : ℕ). valued 0 (refused n)) (c .unaccepted2 .ensures)
-    ∙ count-unaccepted (a .c) (a .days .now) (a .offsets .now) (a .last) (listed (b .before)) (sym (base b) ∙ c .before .enum-told .given .1) (a .h)
+    ∙ count-unaccepted (a .c) (a .days .now) (a .offsets .now) (a .last) (listed e) (sym (base b) ∙ c .before .enum-told .given .1) (a .h)
 
 ends-of-requires : tie.Need-ends-of-requires
 ends-of-requires c κs =
@@ -136,7 +143,8 @@ count-of-spec =
     (λ c κs. search needs)
     (λ c κs. search needs)
     returns
-    base-of-requires
+    (λ c κs. search needs)
+    base-at-requires
     (λ c. search needs)
     (λ c. search needs)
     (λ c κs. search needs)

@@ -14,8 +14,8 @@ use Rattle.clock.specs.Places.{coverOf, time-far}
 use Rattle.clock.specs.Stage.{judging}
 use Rattle.clock.specs.declared.inner.Base.the-variants as B
 use Rattle.clock.specs.declared.inner.Reckoned.{Reckoned}
-use Rattle.sbt.specs.Meaning.{accepted, clockOf, dateOf}
-use Rattle.sbt.specs.Places.{baseOf, countFrom}
+use Rattle.sbt.specs.Meaning.{accepted, clockOf}
+use Rattle.sbt.specs.Places.{unmarkedOf, baseOf, countFrom}
 use Rattle.sbt.specs.Found.{Standing, utc-scale, date-5, date-6, serves-utc, utc-none, current-is, utc-stands}
 use borrow.Author.Needs.{needs}
 use Rattle.sbt.proofs.date_by_list.Statement.{statement}
@@ -97,7 +97,7 @@ date-by-list-requires c κs =
     )
 
 returns-3 : tie.Need-returns-3
-unfolding dateOf
+unfolding unmarkedOf
 returns-3 c =
     let n = c .before in
     let k = n .before in
