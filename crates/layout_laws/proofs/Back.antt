@@ -1,5 +1,5 @@
 -- Bytes that are read as a time and written again are the same bytes; SIRAL's where the extra counter is 0. Assumes nothing.
-use mathlib.Core.Path.{_≡_, refl, sym, ap, ap₂, subst, _∙_}
+use mathlib.Core.Path.{_≡_, refl, sym, ap, subst, _∙_}
 use mathlib.Core.Bool.{Bool, true}
 use mathlib.Core.List.{List}
 use Prim.Native.Nat.{ℕ, _+_, _*_, _/_, _%_, _≤_, _<_}
@@ -12,11 +12,13 @@ use borrow.Author.Tests.{eqb-true, leb-true, ltb-true, le-leb, lt-ltb}
 use Rattle.axis.specs.Meaning.{dayAt, Moment}
 use Rattle.axis.specs.Axis.{day-le}
 use Rattle.octets.specs.Field.{Bytes}
-use Rattle.scales.specs.Meaning.{answer, outcome, Slip, dated, written, inSpan, Judged, given}
+use Rattle.scales.specs.Meaning.{answer, outcome, Slip, datedAs, written, inSpan, Judged, given}
 use Rattle.scales.specs.Order.{Answers, last, next, answers-is}
 use Rattle.scales.specs.Place.{and-both}
 use Rattle.scales.specs.declared.Scale.the-variants as S
 use Rattle.scales.specs.declared.Scale.{Scale}
+use Rattle.scales.specs.declared.Mark.{Mark}
+use Rattle.scales.specs.declared.Mark.the-variants as M
 use Rattle.octets.specs.Meaning.{part}
 use Rattle.layout_fields.specs.Meaning.{placing}
 use Rattle.octets.specs.Parts.{part-lt}
@@ -39,7 +41,7 @@ use Rattle.layout_laws.specs.Meaning.{recordIn}
 use Rattle.layout_laws.proofs.Chains.{both-true}
 use Rattle.layout_laws.proofs.Fields.{cuc-back, proteus-back, cryosat-back, siral-back}
 use Rattle.layout_laws.proofs.Later.{read-as, reads, on-from}
-use Rattle.layout_laws.proofs.Times.{slip-part, h3-part}
+use Rattle.layout_times.proofs.Ways.{proteus-h3}
 
 -- ---- seconds and a fraction of a second, and back
 module _ (x f : ℕ) (h : f < 65536) where
@@ -63,17 +65,17 @@ passed-on : {A : Type 0} {t : Bool} {n : ℕ} {rest : Judged A} {a : A} → Answ
 passed-on (next t r) = r
 
 -- ---- over the layout: the fields that bytes stand for, written again from their time
-module _ {F : Type 0} (s : Scale) (p : ℕ) (microsOf : F → ℕ) (fieldsAt : ℕ → F) (imageOf : F → List ℕ) (bytes out : List ℕ) (f : F) where
+module _ {F : Type 0} (m : Mark) (s : Scale) (p : ℕ) (microsOf : F → ℕ) (fieldsAt : ℕ → F) (imageOf : F → List ℕ) (bytes out : List ℕ) (f : F) where
   abbrev stood : Moment
   stood = momentFrom (dayAt p) (microsOf f)
 
   again : inSpan s (stood .day) (stood .micro) ≡ true → fieldsAt (microsOf f) ≡ f → {has : Bool} → has ≡ true → Answers (placing (imageOf f) out) bytes →
-      outcome (imaging (recordIn (dated s (answer stood))) has (imageOf (fieldsAt (microsFrom (dayAt p) (stood .day) (stood .micro)))) out) ≡ answer bytes
+      outcome (imaging (recordIn (datedAs m s (answer stood))) has (imageOf (fieldsAt (microsFrom (dayAt p) (stood .day) (stood .micro)))) out) ≡ answer bytes
   again i e {has} h a =
       let l = on-from s p microsOf f i in
-      let m : fieldsAt (microsFrom (dayAt p) (stood .day) (stood .micro)) ≡ f = ap fieldsAt (micros-moment p (microsOf f) (omega arith)) ∙ e in
-      answers-is {j = imaging (recordIn (dated s (answer stood))) has (imageOf (fieldsAt (microsFrom (dayAt p) (stood .day) (stood .micro)))) out}
-      (next refl (next i (next h (subst (λ (x : F). Answers (placing (imageOf x) out) bytes) (sym m) a))))
+      let g : fieldsAt (microsFrom (dayAt p) (stood .day) (stood .micro)) ≡ f = ap fieldsAt (micros-moment p (microsOf f) (omega arith)) ∙ e in
+      answers-is {j = imaging (recordIn (datedAs m s (answer stood))) has (imageOf (fieldsAt (microsFrom (dayAt p) (stood .day) (stood .micro)))) out}
+      (next refl (next i (next h (subst (λ (x : F). Answers (placing (imageOf x) out) bytes) (sym g) a))))
 
 -- ---- CUC
 cuc-fit : (s : List ℕ) (f : C.Fields) → Bytes s → Answers (FC.reading s) f → f .fraction < 65536
@@ -82,13 +84,13 @@ cuc-fit s f b (next e last) = let l : length s ≡ 6 = eqb-true (length s) 6 e i
 pub cuc-again : (s out : List ℕ) → Bytes s → Cuc.read s .number ≡ 0 → length s ≤ length out → Cuc.write (recordIn (Cuc.read s)) out ≡ written out (answer s)
 unfolding Cuc.read Cuc.write
 cuc-again s out b e h =
-    let z = read-as S.Gps 32700 Cuc.microsOf (FC.reading s) refl e in
+    let z = read-as S.Gps 32700 Cuc.microsOf M.Plain (FC.reading s) refl e in
     let f = z .fields in
     let k = cuc-fit s f b (z .answers) in
     let g : Cuc.fieldsAt (Cuc.microsOf f) ≡ f =
     λ i. record { seconds = second-back (f .seconds) (f .fraction) k i; fraction = fraction-back (f .seconds) (f .fraction) k i } in
-    ap (λ (t : Slip). written out (outcome (Cuc.writing (recordIn t) out))) (reads S.Gps 32700 Cuc.microsOf (z .answers) (z .inside))
-    ∙ ap (written out) (again S.Gps 32700 Cuc.microsOf Cuc.fieldsAt FC.imageOf s out f (z .inside) g refl (cuc-back s f b (z .answers) out h))
+    ap (λ (t : Slip). written out (outcome (Cuc.writing (recordIn t) out))) (reads S.Gps 32700 Cuc.microsOf M.Plain (z .answers) (z .inside))
+    ∙ ap (written out) (again M.Plain S.Gps 32700 Cuc.microsOf Cuc.fieldsAt FC.imageOf s out f (z .inside) g refl (cuc-back s f b (z .answers) out h))
 
 -- a time from day p on is not before it, and not after day q where it ends by then
 module _ (p n : ℕ) where
@@ -136,22 +138,24 @@ module _ (f : P.Fields) (k : WeekFits f) where
       go : (r : ℕ) → r < 1000000 → 32700 + ((f .week * 604800 + f .second) * 1000000 + r) / 86400000000 ≤ 61371
       go r l = omega (arith, k .week, k .second)
 
-  proteus-has : Proteus.hasImage S.Utc (Proteus.fieldsMoment f .day) (Proteus.fieldsMoment f .micro) ≡ true
+  proteus-has : let t = momentFrom Proteus.epoch (Proteus.microsOf f) in Proteus.hasImage S.Utc (t .day) (t .micro) ≡ true
   proteus-has =
       both-true (not-before 32700 (Proteus.microsOf f))
       (both-true (not-after 32700 (Proteus.microsOf f) 61371 ends) (lt-ltb (Proteus.microsOf f % 86400000000) 86400000000 (omega arith)))
 
-pub proteus-again : (s out : List ℕ) → Bytes s → Proteus.read s .slip .number ≡ 0 → length s ≤ length out →
-    Proteus.write (recordIn (Proteus.read s .slip)) (Proteus.read s .h3) out ≡ written out (answer s)
+-- H3 within
+pub proteus-again : (s out : List ℕ) → Bytes s → Proteus.read s .number ≡ 0 → length s ≤ length out → Proteus.write (recordIn (Proteus.read s)) out ≡ written out (answer s)
 unfolding Proteus.read Proteus.write
 proteus-again s out b e h =
-    let z = read-as S.Utc 32700 Proteus.microsOf (FP.reading s) refl (ap (λ (t : Slip). t .number) (sym (slip-part (FP.reading s))) ∙ e) in
+    let v = FP.fieldsOf s .h3 in
+    let z = read-as S.Utc 32700 Proteus.microsOf (M.Proteus v) (FP.reading s) refl e in
     let f = z .fields in
     let k = proteus-fit s f b (z .answers) in
-    ap₂ (λ (t : Slip) (x : Bool). written out (outcome (Proteus.writing (recordIn t) x out)))
-    (slip-part (FP.reading s) ∙ reads S.Utc 32700 Proteus.microsOf (z .answers) (z .inside)) (h3-part (z .answers) (z .inside))
+    let g : Proteus.fieldsAt v (Proteus.microsOf f) ≡ f =
+    ap (λ (x : Bool). Proteus.fieldsAt x (Proteus.microsOf f)) (proteus-h3 s f (z .answers)) ∙ proteus-same f k in
+    ap (λ (t : Slip). written out (outcome (Proteus.writing (recordIn t) out))) (reads S.Utc 32700 Proteus.microsOf (M.Proteus v) (z .answers) (z .inside))
     ∙ ap (written out)
-    (again S.Utc 32700 Proteus.microsOf (Proteus.fieldsAt (f .h3)) FP.imageOf s out f (z .inside) (proteus-same f k) (proteus-has f k)
+    (again (M.Proteus v) S.Utc 32700 Proteus.microsOf (Proteus.fieldsAt v) FP.imageOf s out f (z .inside) g (proteus-has f k)
     (passed-on (proteus-back s f b (z .answers) out h)))
 
 -- ---- CryoSat
@@ -182,7 +186,7 @@ cryosat-fit s f (next e (next t last)) = limits (part s 2 4) (part s 6 2) t
 pub cryosat-again : (s out : List ℕ) → Bytes s → Cryosat.read s .number ≡ 0 → length s ≤ length out → Cryosat.write (recordIn (Cryosat.read s)) out ≡ written out (answer s)
 unfolding Cryosat.read Cryosat.write
 cryosat-again s out b e h =
-    let z = read-as S.Tai 40000 Cryosat.microsOf (FY.reading s) refl e in
+    let z = read-as S.Tai 40000 Cryosat.microsOf M.Plain (FY.reading s) refl e in
     let f = z .fields in
     let k = cryosat-fit s f (z .answers) in
     let g : Cryosat.fieldsAt (Cryosat.microsOf f) ≡ f = λ i. record {
@@ -190,9 +194,9 @@ cryosat-again s out b e h =
       millisecond = milli-back (f .day) (f .millisecond) (f .microsecond) k i;
       microsecond = micro-back (f .day) (f .millisecond) (f .microsecond) k i;
     } in
-    ap (λ (t : Slip). written out (outcome (Cryosat.writing (recordIn t) out))) (reads S.Tai 40000 Cryosat.microsOf (z .answers) (z .inside))
+    ap (λ (t : Slip). written out (outcome (Cryosat.writing (recordIn t) out))) (reads S.Tai 40000 Cryosat.microsOf M.Plain (z .answers) (z .inside))
     ∙ ap (written out)
-    (again S.Tai 40000 Cryosat.microsOf Cryosat.fieldsAt FY.imageOf s out f (z .inside) g (not-before 40000 (Cryosat.microsOf f)) (passed-on (cryosat-back s f b (z .answers) out h)))
+    (again M.Plain S.Tai 40000 Cryosat.microsOf Cryosat.fieldsAt FY.imageOf s out f (z .inside) g (not-before 40000 (Cryosat.microsOf f)) (passed-on (cryosat-back s f b (z .answers) out h)))
 
 -- ---- SIRAL
 siral-fit : (s : List ℕ) (f : R.Fields) → Answers (FR.reading s) f → Limits (f .millisecond) (f .microsecond) × (f ≡ FR.fieldsOf s)
@@ -202,7 +206,7 @@ pub siral-again : (s out : List ℕ) → Bytes s → FR.fieldsOf s .extra ≡ 0 
     Siral.write (recordIn (Siral.read s)) out ≡ written out (answer s)
 unfolding Siral.read Siral.write
 siral-again s out b v e h =
-    let z = read-as S.Tai 40000 Siral.microsOf (FR.reading s) refl e in
+    let z = read-as S.Tai 40000 Siral.microsOf M.Plain (FR.reading s) refl e in
     let f = z .fields in
     let n = Siral.microsOf f in
     let y = siral-fit s f (z .answers) in
@@ -215,6 +219,6 @@ siral-again s out b v e h =
       microsecond = micro-back (f .day) (f .millisecond) (f .microsecond) k i;
       extra = sym x i;
     }) in
-    ap (λ (t : Slip). written out (outcome (Siral.writing (recordIn t) out))) (reads S.Tai 40000 Siral.microsOf (z .answers) (z .inside))
+    ap (λ (t : Slip). written out (outcome (Siral.writing (recordIn t) out))) (reads S.Tai 40000 Siral.microsOf M.Plain (z .answers) (z .inside))
     ∙ ap (written out)
-    (again S.Tai 40000 Siral.microsOf Siral.fieldsAt FR.imageOf s out f (z .inside) g (not-before 40000 n) (passed-on (siral-back s f b (z .answers) out h)))
+    (again M.Plain S.Tai 40000 Siral.microsOf Siral.fieldsAt FR.imageOf s out f (z .inside) g (not-before 40000 n) (passed-on (siral-back s f b (z .answers) out h)))

@@ -12,10 +12,11 @@ use Rattle.axis.specs.Meaning.{placeOfDay, dayAt, Moment}
 use Rattle.axis.specs.Diff.{Way, way, below, above, sub-pos}
 use Rattle.axis.specs.Axis.{place-day}
 use Rattle.octets.specs.Field.{Bytes}
-use Rattle.scales.specs.Meaning.{andThen, bound, inSpan, Judged, given, gives, answer, outcome, Slip, dated}
+use Rattle.scales.specs.Meaning.{andThen, bound, inSpan, Judged, given, gives, answer, outcome, Slip, datedAs}
 use Rattle.scales.specs.Order.{Answers, last, next, numbered}
 use Rattle.scales.specs.Place.{firstAt, apart, placed, in-span, and-both}
 use Rattle.scales.specs.declared.Scale.{Scale}
+use Rattle.scales.specs.declared.Mark.{Mark}
 use Rattle.handed.specs.declared.Handed.{Handed}
 use Rattle.handed.specs.declared.Handed.the-variants as H
 use Rattle.handed.specs.Told.{countIn}
@@ -73,8 +74,9 @@ module _ {A : Type 0} (s : Scale) (p : ℕ) (microsOf : A → ℕ) where
   abbrev timeOf : A → Moment
   timeOf a = momentFrom (dayAt p) (microsOf a)
 
-  abbrev pub readOf : Judged A → Slip
-  readOf j = dated s (outcome (andThen j (λ (a : A). judged s (timeOf a))))
+  -- with a mark
+  abbrev pub readOf : Mark → Judged A → Slip
+  readOf m j = datedAs m s (outcome (andThen j (λ (a : A). judged s (timeOf a))))
 
   -- ---- what an answer tells, and how it comes about
   pub record ReadAs (j : Judged A) : Type 0 where
@@ -82,20 +84,20 @@ module _ {A : Type 0} (s : Scale) (p : ℕ) (microsOf : A → ℕ) where
     pub answers : Answers j fields
     pub inside : inSpan s (timeOf fields .day) (timeOf fields .micro) ≡ true
 
-  pub read-as : (j : Judged A) → numbered j ≡ true → readOf j .number ≡ 0 → ReadAs j
-  read-as (given true m rest) q e =
-      let r = read-as rest (and-both (ltb 0 m) (numbered rest) q .1) e in
+  pub read-as : (m : Mark) (j : Judged A) → numbered j ≡ true → readOf m j .number ≡ 0 → ReadAs j
+  read-as m (given true n rest) q e =
+      let r = read-as m rest (and-both (ltb 0 n) (numbered rest) q .1) e in
       record { fields = r .fields; answers = next refl (r .answers); inside = r .inside }
-  read-as (given false m rest) q e = absurd (omega (arith, ltb-true 0 m (and-both (ltb 0 m) (numbered rest) q .0)))
-  read-as (gives a) q e = go (inSpan s (timeOf a .day) (timeOf a .micro)) refl e
+  read-as m (given false n rest) q e = absurd (omega (arith, ltb-true 0 n (and-both (ltb 0 n) (numbered rest) q .0)))
+  read-as m (gives a) q e = go (inSpan s (timeOf a .day) (timeOf a .micro)) refl e
     where
-      go : (t : Bool) → inSpan s (timeOf a .day) (timeOf a .micro) ≡ t → dated s (outcome (given t 7 (gives (timeOf a)))) .number ≡ 0 → ReadAs (gives a)
+      go : (t : Bool) → inSpan s (timeOf a .day) (timeOf a .micro) ≡ t → datedAs m s (outcome (given t 7 (gives (timeOf a)))) .number ≡ 0 → ReadAs (gives a)
       go true x e = record { fields = a; answers = last; inside = x }
       go false x e = absurd (omega arith)
 
-  pub reads : {j : Judged A} {a : A} → Answers j a → inSpan s (timeOf a .day) (timeOf a .micro) ≡ true → readOf j ≡ dated s (answer (timeOf a))
-  reads last e = rw e
-  reads (next t r) e = rw t (reads r e)
+  pub reads : (m : Mark) {j : Judged A} {a : A} → Answers j a → inSpan s (timeOf a .day) (timeOf a .micro) ≡ true → readOf m j ≡ datedAs m s (answer (timeOf a))
+  reads m last e = rw e
+  reads m (next t r) e = rw t (reads m r e)
 
   -- ---- the place of an answered time
   pub in-from : (a : A) → firstAt s ≤ p → p + microsOf a / 86400000000 ≤ 76524 → inSpan s (timeOf a .day) (timeOf a .micro) ≡ true
@@ -109,26 +111,29 @@ module _ {A : Type 0} (s : Scale) (p : ℕ) (microsOf : A → ℕ) where
       let d = ap placeOfDay (day-is p (microsOf a)) in
       on-axis (p + microsOf a / 86400000000) (omega (arith, w .to, apart s .to, d))
 
-  pub place-from : {j : Judged A} (a : A) → Answers j a → inSpan s (timeOf a .day) (timeOf a .micro) ≡ true → placeAt (readOf j) ≡ countFrom (bound s) p (microsOf a)
-  place-from a r e =
-      let m = on-from a e in
-      ap placeAt (reads r e) ∙ ap (λ (x : ℕ). x * bound s + microsOf a % 86400000000) (place-is p (microsOf a) (omega arith))
+  pub place-from : (m : Mark) {j : Judged A} (a : A) → Answers j a → inSpan s (timeOf a .day) (timeOf a .micro) ≡ true → placeAt (readOf m j) ≡ countFrom (bound s) p (microsOf a)
+  place-from m a r e =
+      let l = on-from a e in
+      ap placeAt (reads m r e) ∙ ap (λ (x : ℕ). x * bound s + microsOf a % 86400000000) (place-is p (microsOf a) (omega arith))
 
-  -- ---- the last fields that are not later give the last time that is not later
+  -- ---- the last fields that are not later give the last time that is not later, marked as its bytes are
   module _ (h : Handed) (n : ℕ) (k : s ≡ scaleOf h) (c : countIn h ≡ countFrom (bound s) p n) (f : firstAt s ≤ p) (l : p + n / 86400000000 ≤ 76524)
-      (reading : List ℕ → Judged A) (q : (t : List ℕ) → numbered (reading t) ≡ true) where
+      (marks : List ℕ → Mark) (reading : List ℕ → Judged A) (q : (t : List ℕ) → numbered (reading t) ≡ true) where
     pub last-time : (image : List ℕ) (a : A) → Answers (reading image) a → microsOf a ≤ n →
-        ((t : List ℕ) (b : A) → Bytes t → Answers (reading t) b → microsOf b ≤ n → microsOf b ≤ microsOf a) → LastNotLater (λ (t : List ℕ). readOf (reading t)) h image
+        ((t : List ℕ) (b : A) → Bytes t → Answers (reading t) b → microsOf b ≤ n → microsOf b ≤ microsOf a) →
+        LastNotLater (λ (t : List ℕ). readOf (marks t) (reading t)) (marks image) h image
     last-time image a r m best =
         let e = in-from a f (omega arith) in
-        let i = place-from a r e in
+        let i = place-from (marks image) a r e in
+        let w = reads (marks image) r e in
         record {
-          answered = ap (λ (x : Slip). x .number) (reads r e);
-          scale = ap (λ (x : Slip). x .scale) (reads r e) ∙ k;
+          answered = ap (λ (x : Slip). x .number) w;
+          scale = ap (λ (x : Slip). x .scale) w ∙ k;
           not-later = omega (arith, count-le (bound s) p (apart s .whole) (microsOf a) n m);
           last = λ t b x y.
-              let z = read-as (reading t) (q t) x in
-              let j = place-from (z .fields) (z .answers) (z .inside) in
+              let z = read-as (marks t) (reading t) (q t) x in
+              let j = place-from (marks t) (z .fields) (z .answers) (z .inside) in
               let o = best t (z .fields) b (z .answers) (le-count (bound s) p (apart s .whole) (microsOf (z .fields)) n (omega arith)) in
               omega (arith, count-le (bound s) p (apart s .whole) (microsOf (z .fields)) (microsOf a) o);
+          marked = ap (λ (x : Slip). x .mark) w;
         }

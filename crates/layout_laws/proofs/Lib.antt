@@ -3,7 +3,9 @@ pub mod Fields
 pub mod Later
 pub mod Times
 pub mod Back
+pub mod Marks
 pub mod Cases
 pub mod Meets
 pub mod FieldsWrong
 pub mod TimesWrong
+pub mod ProteusWrong

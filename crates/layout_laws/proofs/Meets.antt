@@ -11,9 +11,11 @@ use borrow.Author.Tests.{ltb-true}
 use Rattle.axis.specs.Meaning.{placeOfDay}
 use Rattle.octets.specs.Meaning.{number, field, part}
 use Rattle.octets.specs.Field.{Bytes, none, more}
-use Rattle.scales.specs.Meaning.{answer, recordOf, written, valued}
+use Rattle.scales.specs.Meaning.{answer, recordOf, markedRecord, written, valued}
 use Rattle.scales.specs.Place.{and-both}
 use Rattle.scales.specs.declared.Scale.the-variants as S
+use Rattle.scales.specs.declared.Record.{Record}
+use Rattle.scales.specs.declared.Mark.the-variants as M
 use Rattle.handed.specs.declared.Handed.{Handed}
 use Rattle.handed.specs.declared.Handed.the-variants as H
 use Rattle.octets.specs.Parts.{part-lt, join, join-last, part-first, part-last, field-two}
@@ -31,10 +33,10 @@ use Rattle.layout_times.specs.Cuc as Cuc
 use Rattle.layout_times.specs.Proteus as Proteus
 use Rattle.layout_times.specs.Cryosat as Cryosat
 use Rattle.layout_times.specs.Siral as Siral
-use Rattle.layout_laws.specs.Meaning.{image, recordIn, SameTime, LastNotLater, LastWithH3}
+use Rattle.layout_laws.specs.Meaning.{image, recordIn, SameTime, LastNotLater}
 use Rattle.layout_laws.proofs.Fields.{cuc-exact, goce-exact, obet-exact, proteus-exact, cryosat-exact, siral-exact, sbt-exact}
 use Rattle.layout_laws.proofs.Later.{countFrom, count-lt}
-use Rattle.layout_laws.proofs.Times.{cuc-last, proteus-last, cryosat-same, siral-same, same-is-last}
+use Rattle.layout_laws.proofs.Times.{cuc-last, proteus-last, proteus-kept, cryosat-same, siral-same, same-is-last}
 use Rattle.layout_laws.proofs.Back.{cuc-again, proteus-again, cryosat-again, siral-again}
 
 -- bytes, by a computed test
@@ -124,15 +126,18 @@ fraction-meets = (
   F.nearest-one 16 512 7813 (lit≤ tt) (lit< tt),
 )
 
--- ---- a time to bytes to a time: microsecond 999,984 has no fraction of its own, and is read as 999,969
+-- ---- a time to bytes to a time: microsecond 999,984 has no fraction of its own, and is read as 999,969; whatever mark the time has
 abbrev gps : Handed
-gps = H.Record (recordOf S.Gps (pos 0) 999984)
+gps = H.Record (markedRecord (M.Correlated 7) (recordOf S.Gps (pos 0) 999984))
+
+abbrev smos : Record
+smos = markedRecord (M.Proteus true) (recordOf S.Utc (pos 0) 999984)
 
 abbrev utc : Handed
-utc = H.Record (recordOf S.Utc (pos 0) 999984)
+utc = H.Record (markedRecord (M.Correlated 7) (recordOf S.Utc (pos 0) 999984))
 
 abbrev tai : Handed
-tai = H.Record (recordOf S.Tai (pos 0) 999984)
+tai = H.Record (markedRecord (M.Proteus true) (recordOf S.Tai (pos 0) 999984))
 
 -- half a day, as a double
 abbrev half : Handed
@@ -143,13 +148,18 @@ unfolding Cryosat.write field fits
 decimal-meets = cryosat-same half room tt refl
 
 pub times-meet :
-    LastNotLater Cuc.read gps (image (Cuc.write gps room)) × LastWithH3 utc true (image (Proteus.write utc true room))
+    LastNotLater Cuc.read M.Plain gps (image (Cuc.write gps room))
+    × LastNotLater Proteus.read (M.Proteus true) (H.Record smos) (image (Proteus.write (H.Record smos) room))
+    × LastNotLater Proteus.read (M.Proteus false) utc (image (Proteus.write utc room))
+    × (Proteus.read (image (Proteus.write (H.Record smos) room)) .mark ≡ M.Proteus true)
     × SameTime Cryosat.read tai (image (Cryosat.write tai room)) × SameTime Siral.read tai (image (Siral.write tai room))
-    × LastNotLater Siral.read tai (image (Siral.write tai room))
+    × LastNotLater Siral.read M.Plain tai (image (Siral.write tai room))
 unfolding Cuc.write Proteus.write Cryosat.write Siral.write field lastTo
 times-meet = (
   cuc-last gps room (lit≤ tt) refl,
-  proteus-last utc true room (lit≤ tt) refl,
+  proteus-last (H.Record smos) room (lit≤ tt) refl,
+  proteus-last utc room (lit≤ tt) refl,
+  proteus-kept smos true room refl refl,
   cryosat-same tai room (lit≤ tt) refl,
   siral-same tai room (lit≤ tt) refl,
   same-is-last Siral.read tai (image (Siral.write tai room)) (siral-same tai room (lit≤ tt) refl),
@@ -158,7 +168,7 @@ times-meet = (
 -- ---- bytes to a time to bytes
 pub again-meets :
     (Cuc.write (recordIn (Cuc.read cuc)) room ≡ written room (answer cuc))
-    × (Proteus.write (recordIn (Proteus.read proteus .slip)) (Proteus.read proteus .h3) room ≡ written room (answer proteus))
+    × (Proteus.write (recordIn (Proteus.read proteus)) room ≡ written room (answer proteus))
     × (Cryosat.write (recordIn (Cryosat.read cryosat)) room ≡ written room (answer cryosat))
     × (Siral.write (recordIn (Siral.read siral)) room ≡ written room (answer siral))
 unfolding Cuc.read Proteus.read Cryosat.read Siral.read number

@@ -1,7 +1,7 @@
 -- What is written of a time is read as the time, or as the last that is not later, in each layout that stands for a time.
 -- Assumes nothing.
 use mathlib.Core.Path.{_≡_, refl, sym, ap, ap₂, subst, _∙_}
-use mathlib.Core.Bool.{Bool, true, false}
+use mathlib.Core.Bool.{Bool, true}
 use mathlib.Core.List.{List}
 use Prim.Native.Nat.{ℕ, _+_, _*_, _/_, _%_, _≤_, _<_}
 use native.Mathlib.Omega.{arith}
@@ -14,14 +14,18 @@ use Rattle.axis.specs.Meaning.{placeOfDay, Moment}
 use Rattle.axis.specs.Diff.{Way, way, below, above}
 use Rattle.axis.specs.Axis.{day-from, day-to}
 use Rattle.octets.specs.Field.{Bytes}
-use Rattle.scales.specs.Meaning.{andThen, sameScale, inSpan, Judged, given, gives, answer, outcome, Slip, dated, written}
+use Rattle.scales.specs.Meaning.{sameScale, inSpan, Judged, answer, outcome, Slip, dated, written}
 use Rattle.scales.specs.Order.{Answers, last, next, numbered}
 use Rattle.scales.specs.Place.{Placed, placed, and-both, countOf}
 use Rattle.scales.specs.Same.{same-scale}
 use Rattle.scales.specs.declared.Scale.{Scale}
 use Rattle.scales.specs.declared.Scale.the-variants as S
+use Rattle.scales.specs.declared.Record.{Record}
+use Rattle.scales.specs.declared.Mark.{Mark}
+use Rattle.scales.specs.declared.Mark.the-variants as M
 use Rattle.handed.specs.declared.Handed.{Handed}
-use Rattle.handed.specs.Meaning.{scaleOf, isFinite, isInSpan, dayOf, microOf}
+use Rattle.handed.specs.declared.Handed.the-variants as H
+use Rattle.handed.specs.Meaning.{scaleOf, markOf, isFinite, isInSpan, dayOf, microOf}
 use Rattle.octets.specs.Meaning.{part}
 use Rattle.octets.specs.Parts.{part-lt}
 use Rattle.layout_fields.specs.Cuc as FC
@@ -37,11 +41,11 @@ use Rattle.layout_times.specs.Cuc as Cuc
 use Rattle.layout_times.specs.Proteus as Proteus
 use Rattle.layout_times.specs.Cryosat as Cryosat
 use Rattle.layout_times.specs.Siral as Siral
-use Rattle.layout_laws.specs.Meaning.{image, Real, placeAt, SameTime, LastNotLater, LastWithH3}
+use Rattle.layout_laws.specs.Meaning.{image, Real, placeAt, SameTime, LastNotLater}
 use Rattle.layout_laws.proofs.Chains.{wrought, image-is}
 use Rattle.layout_laws.proofs.Fields.{cuc-forth, proteus-forth, cryosat-forth, siral-forth}
 use Rattle.layout_laws.proofs.Later.{kept, readOf, last-time, reads, in-from}
-use Rattle.layout_times.proofs.Ways.{proteus-limits, cryosat-limits}
+use Rattle.layout_times.proofs.Ways.{proteus-h3, proteus-limits, cryosat-limits}
 
 -- ---- seconds and a fraction
 module _ (n : ℕ) where
@@ -81,36 +85,21 @@ cuc-best n t f b (next e last) m =
     let l : length t ≡ 6 = eqb-true (length t) 6 e in
     seconds-last n (part t 0 4) (part t 4 2) (part-lt t 4 2 (omega arith) b) m
 
-cuc-of : (h : Handed) (out s : List ℕ) → Real h → Answers (Cuc.writing h out) s → LastNotLater Cuc.read h s
+cuc-of : (h : Handed) (out s : List ℕ) → Real h → Answers (Cuc.writing h out) s → LastNotLater Cuc.read M.Plain h s
 unfolding Cuc.read
 cuc-of h out s r (next a (next b (next c (next d last)))) =
     let k = same-scale S.Gps (scaleOf h) c in
     let w = place-of S.Gps h k r a b in
     let n = microsFrom Cuc.epoch (dayOf h) (microOf h) in
     let v = w .from in
-    last-time S.Gps 32700 Cuc.microsOf h n k (ap (λ (x : Scale). countOn x h) (sym k) ∙ omega arith) (lit≤ tt) (omega (arith, w .to, w .under)) FC.reading (λ t. refl)
+    last-time S.Gps 32700 Cuc.microsOf h n k (ap (λ (x : Scale). countOn x h) (sym k) ∙ omega arith) (lit≤ tt) (omega (arith, w .to, w .under)) (λ t. M.Plain) FC.reading (λ t. refl)
     s (Cuc.fieldsAt n) (cuc-forth (Cuc.fieldsAt n) out s (omega (arith, w .to, w .under), fraction-lt n) (next d last)) (seconds-not-later n) (cuc-best n)
 
-pub cuc-last : (h : Handed) (out : List ℕ) → Real h → Cuc.write h out .number ≡ 0 → LastNotLater Cuc.read h (image (Cuc.write h out))
+pub cuc-last : (h : Handed) (out : List ℕ) → Real h → Cuc.write h out .number ≡ 0 → LastNotLater Cuc.read M.Plain h (image (Cuc.write h out))
 unfolding Cuc.write
-cuc-last h out r e = of-image (LastNotLater Cuc.read h) out (Cuc.writing h out) refl (λ s a. cuc-of h out s r a) e
+cuc-last h out r e = of-image (LastNotLater Cuc.read M.Plain h) out (Cuc.writing h out) refl (λ s a. cuc-of h out s r a) e
 
--- ---- Proteus: H3 comes back too
-pub slip-part : (j : Judged P.Fields) → Proteus.stamped (outcome (andThen j Proteus.fieldsDating)) .slip ≡ readOf S.Utc 32700 Proteus.microsOf j
-slip-part (given true m rest) = slip-part rest
-slip-part (given false m rest) = refl
-slip-part (gives f) = go (inSpan S.Utc (Proteus.fieldsMoment f .day) (Proteus.fieldsMoment f .micro))
-  where
-    go : (t : Bool) → Proteus.stamped (outcome (given t 7 (gives (record { moment = Proteus.fieldsMoment f; h3 = f .h3 })))) .slip ≡
-        dated S.Utc (outcome (given t 7 (gives (Proteus.fieldsMoment f))))
-    go true = refl
-    go false = refl
-
-pub h3-part : {j : Judged P.Fields} {f : P.Fields} → Answers j f → inSpan S.Utc (Proteus.fieldsMoment f .day) (Proteus.fieldsMoment f .micro) ≡ true →
-    Proteus.stamped (outcome (andThen j Proteus.fieldsDating)) .h3 ≡ f .h3
-h3-part last e = rw e
-h3-part (next t r) e = rw t (h3-part r e)
-
+-- ---- Proteus: marked with the H3 that was written
 weeks : (n : ℕ) → n / 604800000000 * 604800 + n / 1000000 % 604800 ≡ n / 1000000
 weeks n = omega arith
 
@@ -121,9 +110,12 @@ proteus-best n b t f y (next e (next z (next o last))) m =
     let q = seconds-last n (part t 0 2 / 16 * 604800 + part t 2 4) (part t 6 2) (part-lt t 6 2 (omega arith) y) m in
     rw (weeks n) q
 
-proteus-of : (h : Handed) (b : Bool) (out s : List ℕ) → Real h → Answers (Proteus.writing h b out) s → LastWithH3 h b s
+abbrev h3Mark : Handed → Mark
+h3Mark h = M.Proteus (Proteus.h3Of (markOf h))
+
+proteus-of : (h : Handed) (out s : List ℕ) → Real h → Answers (Proteus.writing h out) s → LastNotLater Proteus.read (h3Mark h) h s
 unfolding Proteus.read
-proteus-of h b out s r (next a (next i (next c (next d last)))) =
+proteus-of h out s r (next a (next i (next c (next d last)))) =
     let x = and-both (sameScale S.Utc (scaleOf h)) _ c in
     let y = and-both (leZ Proteus.epoch (dayOf h)) _ (x .1) in
     let z = and-both (leZ (dayOf h) (pos 21371)) _ (y .1) in
@@ -134,20 +126,24 @@ proteus-of h b out s r (next a (next i (next c (next d last)))) =
     let under : microOf h < 86400000000 = ltb-true (microOf h) 86400000000 (z .1) in
     let n = microsFrom Proteus.epoch (dayOf h) (microOf h) in
     let u : n < 2477260800000000 = omega arith in
+    let b = Proteus.h3Of (markOf h) in
     let f = Proteus.fieldsAt b n in
     let m : Proteus.microsOf f ≤ n = rw (weeks n) (seconds-not-later n) in
     let g : Answers (FP.reading s) f = proteus-forth f out s (omega arith, omega arith, fraction-lt n) (next (proteus-limits b n u) (next d last)) in
     let l : 32700 + n / 86400000000 ≤ 76524 = omega arith in
-    record {
-      time =
-          subst (λ (read : List ℕ → Slip). LastNotLater read h s) (λ i t. sym (slip-part (FP.reading t)) i)
-          (last-time S.Utc 32700 Proteus.microsOf h n k (ap (λ (x : Scale). countOn x h) (sym k) ∙ omega arith) (lit≤ tt) l FP.reading (λ t. refl) s f g m (proteus-best n b));
-      h3 = h3-part g (in-from S.Utc 32700 Proteus.microsOf f (lit≤ tt) (omega arith));
-    }
+    subst (λ (v : Bool). LastNotLater Proteus.read (M.Proteus v) h s) (proteus-h3 s f g)
+    (last-time S.Utc 32700 Proteus.microsOf h n k (ap (λ (x : Scale). countOn x h) (sym k) ∙ omega arith) (lit≤ tt) l (λ t. M.Proteus (FP.fieldsOf t .h3)) FP.reading (λ t. refl)
+    s f g m (proteus-best n b))
 
-pub proteus-last : (h : Handed) (b : Bool) (out : List ℕ) → Real h → Proteus.write h b out .number ≡ 0 → LastWithH3 h b (image (Proteus.write h b out))
+pub proteus-last : (h : Handed) (out : List ℕ) → Real h → Proteus.write h out .number ≡ 0 →
+    LastNotLater Proteus.read (M.Proteus (Proteus.h3Of (markOf h))) h (image (Proteus.write h out))
 unfolding Proteus.write
-proteus-last h b out r e = of-image (LastWithH3 h b) out (Proteus.writing h b out) refl (λ s a. proteus-of h b out s r a) e
+proteus-last h out r e = of-image (LastNotLater Proteus.read (h3Mark h) h) out (Proteus.writing h out) refl (λ s a. proteus-of h out s r a) e
+
+-- a record that is marked so keeps its mark
+pub proteus-kept : (r : Record) (b : Bool) (out : List ℕ) → r .mark ≡ M.Proteus b → Proteus.write (H.Record r) out .number ≡ 0 →
+    Proteus.read (image (Proteus.write (H.Record r) out)) .mark ≡ r .mark
+proteus-kept r b out m e = proteus-last (H.Record r) out (lit≤ tt) e .marked ∙ ap (λ (x : Mark). M.Proteus (Proteus.h3Of x)) m ∙ sym m
 
 -- ---- CryoSat and SIRAL: the time itself
 module _ {A : Type 0} (microsOf : A → ℕ) (h : Handed) (r : Real h) (a : isFinite h ≡ true) (b : isInSpan h ≡ true) (c : Cryosat.hasImage (scaleOf h) (dayOf h) ≡ true) where
@@ -166,12 +162,12 @@ module _ {A : Type 0} (microsOf : A → ℕ) (h : Handed) (r : Real h) (a : isFi
   pub days-below : microsFrom (pos 0) (dayOf h) (microOf h) < 3155760000000000
   days-below = omega (arith, from-zero, place .to, place .under)
 
-  pub whole-time : (j : Judged A) (f : A) → Answers j f → microsOf f ≡ microsFrom (pos 0) (dayOf h) (microOf h) → readOf S.Tai 40000 microsOf j ≡
+  pub whole-time : (j : Judged A) (f : A) → Answers j f → microsOf f ≡ microsFrom (pos 0) (dayOf h) (microOf h) → readOf S.Tai 40000 microsOf M.Plain j ≡
       dated (scaleOf h) (answer (record { day = dayOf h; micro = microOf h }))
   whole-time j f g e =
       let t = days-below in
       let i = in-from S.Tai 40000 microsOf f (lit≤ tt) (omega arith) in
-      reads S.Tai 40000 microsOf g i
+      reads S.Tai 40000 microsOf M.Plain g i
       ∙ ap (λ (x : ℕ). dated S.Tai (answer (momentFrom (pos 0) x))) e
       ∙ ap₂ (λ (x : Scale) (m : Moment). dated x (answer m)) tai
       (moment-micros 40000 (dayOf h) (microOf h) from-zero (omega (arith, from-zero)) (omega (arith, place .to)) (place .under))
@@ -208,7 +204,7 @@ unfolding Siral.write
 siral-same h out r e = of-image (SameTime Siral.read h) out (Siral.writing h out) refl (λ s a. siral-of h out s r a) e
 
 -- the time itself is the last that is not later
-pub same-is-last : (read : List ℕ → Slip) (h : Handed) (s : List ℕ) → SameTime read h s → LastNotLater read h s
+pub same-is-last : (read : List ℕ → Slip) (h : Handed) (s : List ℕ) → SameTime read h s → LastNotLater read M.Plain h s
 same-is-last read h s e =
     let p = ap placeAt e in
     record {
@@ -216,4 +212,5 @@ same-is-last read h s e =
       scale = ap (λ (x : Slip). x .scale) e;
       not-later = omega arith;
       last = λ t b x y. omega arith;
+      marked = ap (λ (x : Slip). x .mark) e;
     }

@@ -1,6 +1,6 @@
 -- Wrong readers and writers of times, each shut out by an input at which its answer is not the meaning's. Assumes nothing.
 use mathlib.Core.Path.{refl}
-use mathlib.Core.Bool.{Bool, true, false, cond}
+use mathlib.Core.Bool.{false, cond}
 use mathlib.Core.List.{List, [], _∷_}
 use Prim.Native.Nat.{ℕ, _+_, _-_, _*_, _/_, _%_}
 use native.Mathlib.Omega.{arith}
@@ -8,30 +8,24 @@ use lib.Dec.{eqb}
 use lib.IntN.{ℤ, pos, negsuc, natAbs}
 use Rattle.evidence.specs.ShutOut.{ShutOut, shut, differ}
 use Rattle.octets.specs.Meaning.{number, field}
-use Rattle.scales.specs.Meaning.{andThen, sameScale, bound, given, gives, refused, answer, outcome, Slip, dated, recordOf, Wrote, written}
+use Rattle.scales.specs.Meaning.{andThen, sameScale, bound, given, gives, refused, outcome, Slip, datedAs, dated, recordOf, Wrote, written}
 use Rattle.scales.specs.Place.{firstAt}
 use Rattle.scales.specs.declared.Scale.the-variants as S
+use Rattle.scales.specs.declared.Mark.the-variants as M
 use Rattle.handed.specs.declared.Handed.{Handed}
 use Rattle.handed.specs.declared.Handed.the-variants as H
 use Rattle.handed.specs.Meaning.{scaleOf, dayOf, microOf}
 use Rattle.layout_fields.specs.Meaning.{placing}
 use Rattle.layout_fields.specs.Cuc as FC
-use Rattle.layout_fields.specs.Proteus as FP
 use Rattle.layout_fields.specs.Siral as FR
 use Rattle.layout_fields.specs.declared.cuc.Fields as C
-use Rattle.layout_fields.specs.declared.proteus.Fields as P
 use Rattle.layout_fields.specs.declared.siral.Fields as R
 use Rattle.layout_times.specs.Meaning.{wholePart, standsFor, lastTo, momentFrom, microsFrom, judged}
 use Rattle.layout_times.specs.Cuc as Cuc
-use Rattle.layout_times.specs.Proteus as Proteus
 use Rattle.layout_times.specs.Cryosat as Cryosat
 use Rattle.layout_times.specs.Siral as Siral
 use Rattle.layout_laws.proofs.Cases.{nearest-written}
-use Rattle.ground_laws.proofs.Desks.{got, keeps, bytesAt, writesNothing, madeUp, clearing, scribbling, answered, empty, byNumber, byMicro, sevens}
-
--- a handed record
-abbrev utc : ℤ → ℕ → Handed
-utc d u = H.Record (recordOf S.Utc d u)
+use Rattle.ground_laws.proofs.Desks.{got, keeps, bytesAt, writesNothing, madeUp, clearing, scribbling, answered, markedAs, empty, byNumber, byMicro, byMark, sevens}
 
 abbrev gps : ℤ → ℕ → Handed
 gps d u = H.Record (recordOf S.Gps d u)
@@ -86,6 +80,15 @@ pub cuc-endless : ShutOut (Cuc.read (225 ∷ 177 ∷ 25 ∷ 128 ∷ 0 ∷ 0 ∷ 
     (cucEndless (225 ∷ 177 ∷ 25 ∷ 128 ∷ 0 ∷ 0 ∷ [])) (answered S.Gps (pos 36525) 0)
 unfolding Cuc.read number
 cuc-endless = (refl, refl, byNumber (λ e. omega arith))
+
+-- an answer with a mark
+abbrev cucMarked : List ℕ → Slip
+cucMarked s = datedAs (M.Proteus false) S.Gps (outcome (Cuc.reading s))
+
+pub cuc-marked : ShutOut (Cuc.read (0 ∷ 0 ∷ 0 ∷ 1 ∷ 0 ∷ 1 ∷ [])) (answered S.Gps (negsuc 7299) 1000015)
+    (cucMarked (0 ∷ 0 ∷ 0 ∷ 1 ∷ 0 ∷ 1 ∷ [])) (markedAs (M.Proteus false) S.Gps (negsuc 7299) 1000015)
+unfolding Cuc.read number
+cuc-marked = (refl, refl, byMark (λ e. omega arith))
 
 -- ---- CUC write
 -- another fraction of a second's microseconds
@@ -148,57 +151,6 @@ pub writes-nothing : ShutOut (Cuc.write (gps (negsuc 7299) 999985) (sevens 8)) (
     (writesNothing (sevens 8) (Cuc.write (gps (negsuc 7299) 999985) (sevens 8))) (got 6 (sevens 8))
 unfolding Cuc.write field lastTo
 writes-nothing = (refl, refl, differ (bytesAt 0) (λ e. omega arith))
-
--- ---- Proteus read
--- through the leap list: the 18 steps from 1981 to 2017 taken off, as if the weeks counted them
-abbrev proteusListed : List ℕ → Proteus.Stamped
-proteusListed s =
-    Proteus.stamped
-    (outcome (andThen (FP.reading s) (λ (f : P.Fields). gives (record { moment = momentFrom Proteus.epoch (Proteus.microsOf f - 18000000); h3 = f .h3 }))))
-
-pub proteus-listed : ShutOut (Proteus.read (125 ∷ 0 ∷ 0 ∷ 0 ∷ 0 ∷ 18 ∷ 0 ∷ 0 ∷ []))
-    (Proteus.stamped (answer (record { moment = record { day = pos 6700; micro = 18000000 }; h3 = false })))
-    (proteusListed (125 ∷ 0 ∷ 0 ∷ 0 ∷ 0 ∷ 18 ∷ 0 ∷ 0 ∷ [])) (Proteus.stamped (answer (record { moment = record { day = pos 6700; micro = 0 }; h3 = false })))
-unfolding Proteus.read number
-proteus-listed = (refl, refl, differ (λ (t : Proteus.Stamped). t .slip .micro) (λ e. omega arith))
-
--- H3 dropped
-abbrev proteusNoH3 : List ℕ → Proteus.Stamped
-proteusNoH3 s = record { slip = Proteus.read s .slip; h3 = false }
-
-bit : Bool → ℕ
-bit true = 1
-bit false = 0
-
-pub proteus-no-h3 : ShutOut (Proteus.read (0 ∷ 1 ∷ 0 ∷ 0 ∷ 0 ∷ 0 ∷ 0 ∷ 0 ∷ []))
-    (Proteus.stamped (answer (record { moment = record { day = negsuc 7299; micro = 0 }; h3 = true })))
-    (proteusNoH3 (0 ∷ 1 ∷ 0 ∷ 0 ∷ 0 ∷ 0 ∷ 0 ∷ 0 ∷ [])) (Proteus.stamped (answer (record { moment = record { day = negsuc 7299; micro = 0 }; h3 = false })))
-unfolding Proteus.read number bit
-proteus-no-h3 = (refl, refl, differ (λ (t : Proteus.Stamped). bit (t .h3)) (λ e. omega arith))
-
--- ---- Proteus write
--- second 60 taken as the first of the next day
-abbrev proteusSixty : Handed → Bool → List ℕ → Wrote ℕ
-proteusSixty h b out = written out (outcome (placing (Proteus.imageAt (dayOf h) (microOf h) b) out))
-
-pub proteus-sixty : ShutOut (Proteus.write (utc (pos 6209) 86400999985) true (sevens 8)) (keeps 12 (sevens 8))
-    (proteusSixty (utc (pos 6209) 86400999985) true (sevens 8)) (got 8 (120 ∷ 161 ∷ 0 ∷ 0 ∷ 0 ∷ 0 ∷ 255 ∷ 255 ∷ []))
-unfolding Proteus.write field lastTo
-proteus-sixty = (refl, refl, differ (bytesAt 0) (λ e. omega arith))
-
--- through the leap list
-abbrev proteusAdded : Handed → Bool → List ℕ → Wrote ℕ
-proteusAdded h b out = written out (outcome (placing (FP.imageOf (Proteus.fieldsAt b (microsFrom Proteus.epoch (dayOf h) (microOf h) + 18000000))) out))
-
-pub proteus-added : ShutOut (Proteus.write (utc (pos 6700) 999985) true (sevens 8)) (got 8 (125 ∷ 1 ∷ 0 ∷ 0 ∷ 0 ∷ 0 ∷ 255 ∷ 255 ∷ []))
-    (proteusAdded (utc (pos 6700) 999985) true (sevens 8)) (got 8 (125 ∷ 1 ∷ 0 ∷ 0 ∷ 0 ∷ 18 ∷ 255 ∷ 255 ∷ []))
-unfolding Proteus.write field lastTo
-proteus-added = (refl, refl, differ (bytesAt 5) (λ e. omega arith))
-
-pub proteus-scribbling : ShutOut (Proteus.write (utc (pos 21372) 999985) true (sevens 8)) (keeps 12 (sevens 8))
-    (scribbling (Proteus.write (utc (pos 21372) 999985) true (sevens 8))) (keeps 12 (0 ∷ 7 ∷ 7 ∷ 7 ∷ 7 ∷ 7 ∷ 7 ∷ 7 ∷ []))
-unfolding Proteus.write field lastTo
-proteus-scribbling = (refl, refl, differ (bytesAt 0) (λ e. omega arith))
 
 -- ---- CryoSat read
 -- read as UTC

@@ -1,6 +1,7 @@
 -- What a count that was taken is in each layout: whether it has an image, and the microseconds of the image. Assumes nothing.
-use mathlib.Core.Path.{_≡_, sym, ap, ap₂, _∙_}
+use mathlib.Core.Path.{_≡_, refl, sym, ap, ap₂, _∙_}
 use mathlib.Core.Bool.{Bool, true, false, _&&_}
+use mathlib.Core.List.{List}
 use Prim.Native.Nat.{ℕ, _+_, _-_, _*_, _/_, _%_, _≤_, _<_}
 use native.Mathlib.Omega.{arith}
 use lib.Dec.{leb, ltb, lit<, lit≤}
@@ -10,6 +11,7 @@ use borrow.Author.Tests.{lt-ltb, le-ltb, le-leb, lt-leb, ltb-true, leb-true}
 use Rattle.axis.specs.Meaning.{placeOfDay}
 use Rattle.axis.specs.Axis.{day-from, day-to}
 use Rattle.scales.specs.Meaning.{sameScale, outcome, some, no, valued, valueSlip}
+use Rattle.scales.specs.Order.{Answers, last, next}
 use Rattle.scales.specs.Place.{apart, day-part, micro-part, and-false, and-both}
 use Rattle.scales.specs.declared.Scale.the-variants as S
 use Rattle.scales.specs.declared.Refusal.{Refusal}
@@ -18,6 +20,7 @@ use Rattle.handed.specs.declared.Handed.{Handed}
 use Rattle.handed.specs.Meaning.{scaleOf, dayOf, microOf}
 use Rattle.layout_fields.specs.Cryosat as FC
 use Rattle.layout_fields.specs.Proteus as FP
+use Rattle.layout_fields.specs.declared.proteus.Fields.{Fields}
 use Rattle.layout_times.specs.Meaning.{microsFrom}
 use Rattle.layout_times.specs.Due.{dueIn, since2000, since1980, held, HeldIn, place-in, still-no, now-no, now-at}
 use Rattle.layout_times.specs.Cuc as Cuc
@@ -81,6 +84,10 @@ module _ (h : Handed) where
       let x = and-both (leZ Proteus.epoch (dayOf h)) (leZ (dayOf h) (pos 21371) && ltb (microOf h) 86400000000) w .1 in
       let y = and-both (leZ (dayOf h) (pos 21371)) (ltb (microOf h) 86400000000) x in
       omega (arith, d .is, ltb-true (microOf h) 86400000000 (y .1), leb-true (placeOfDay (dayOf h)) 61371 (sym (day-to 61371 (dayOf h) (lit< tt)) ∙ y .0))
+
+-- the fields that are read have the H3 of the bytes
+pub proteus-h3 : (s : List ℕ) (f : Fields) → Answers (FP.reading s) f → FP.fieldsOf s .h3 ≡ f .h3
+proteus-h3 s f (next e (next z (next t last))) = refl
 
 pub proteus-limits : (b : Bool) (n : ℕ) → n < 2477260800000000 → FP.inLimits (Proteus.fieldsAt b n) ≡ true
 proteus-limits b n h = rw (lt-ltb (n / 604800000000) 4096 (omega arith), le-leb (n / 1000000 % 604800) 604799 (omega arith))

@@ -9,7 +9,7 @@ use lib.Dec.{ltb}
 use lib.IntN.{ℤ}
 use borrow.Author.Tests.{ltb-true}
 use Rattle.axis.specs.Meaning.{Moment}
-use Rattle.scales.specs.Meaning.{andThen, Judged, given, gives, refused, answer, outcome, dated, slip, spanned, numberOf, Wrote, wrote, written, some, no, valued, valueSlip}
+use Rattle.scales.specs.Meaning.{andThen, Judged, given, gives, refused, answer, outcome, dated, slip, spannedAs, spanned, numberOf, Wrote, wrote, written, some, no, valued, valueSlip}
 use Rattle.scales.specs.Place.{and-both}
 use Rattle.scales.specs.Same.{no-zero}
 use Rattle.scales.specs.declared.Scale.{Scale}
@@ -25,7 +25,7 @@ module _ {A B : Type 0} (f : A → Judged B) where
   pub then-refused : (j : Judged A) (n : ℕ) → outcome j ≡ refused n → outcome (andThen j f) ≡ refused n
   then-refused j n e = then-is j f ∙ ap (onward f) e
 
-  pub then-answer : (j : Judged A) (a : A) → outcome j ≡ answer a → outcome (andThen j f) ≡ outcome (f a)
+  then-answer : (j : Judged A) (a : A) → outcome j ≡ answer a → outcome (andThen j f) ≡ outcome (f a)
   then-answer j a e = then-is j f ∙ ap (onward f) e
 
 -- ---- what a slip tells of its chain
@@ -51,7 +51,7 @@ module _ {A : Type 0} (s : Scale) (epoch : ℤ) (micros : A → ℕ) (z : A) (j 
 
   pub read-at : numbered j ≡ true → (a : A) → valueSlip z (some a) ≡ valued z (outcome j) → (n : ℕ) → n ≡ micros a →
       spanned s (momentFrom epoch n .day) (momentFrom epoch n .micro) ≡ dated s (outcome (andThen j fieldsDating))
-  unfolding spanned
+  unfolding spannedAs
   read-at p a e n q = rw q (ap (dated s) (sym (then-answer fieldsDating j a (told-answer z j p a e))))
 
 -- ---- the ways out of a writer of times, over the chain of what it takes of a handed time and the image of that;

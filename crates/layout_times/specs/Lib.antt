@@ -7,5 +7,3 @@ pub mod Fraction
 pub mod Days
 pub mod Due
 pub mod Chain
-pub mod Stamps
-pub mod Same

@@ -1,41 +1,31 @@
 // Proteus, SMOS: UTC in weeks of 604,800 s from day -7300, with the bit H3. Neither way uses a leap list.
 ghost use mathlib.Core.Path.{_≡_};
 ghost use Prim.Native.Nat.{_<_};
-ghost use Rattle.scales.specs.Meaning.{outcome, wrote, valued, countSlip};
+ghost use Rattle.scales.specs.Meaning.{outcome, slip, wrote, valued, countSlip};
 ghost use Rattle.layout_times.specs.Due.{since1980};
-ghost use Rattle.layout_times.specs.Proteus.{slip, fieldsAt, read, write};
+ghost use Rattle.layout_times.specs.Proteus.{h3Of, fieldsAt, read, write};
 use handed::Handed;
 use layout_fields::proteus::Fields;
 use layout_fields::proteus::ProteusParted;
 use scales::Counted;
 use scales::Dated;
-use scales::Record;
+use scales::Mark;
 use scales::Refusal;
 use scales::Scale;
 use scales::Utc;
 use scales::Written;
 
-// A UTC record and H3, or a refusal.
-pub enum ProteusDated {
-    At(Record, bool),
-    Refused(Refusal),
-}
-
-pub fn read(b: &[u8]) -> ProteusDated
+pub fn read(b: &[u8]) -> Dated
     ensures { λ r. ⌜ slip r ≡ read (now (b .entry)) ⌝ }
 {
     match layout_fields::proteus::read(b) {
         ProteusParted::Fields(f) => {
             let seconds = (f.week as u64) * 604_800 + (f.second as u64);
             let n = seconds * 1_000_000 + crate::fraction_micros(f.fraction);
-            let h3 = f.h3;
             // day -7300
-            match crate::since(Scale::Utc, 32700, n) {
-                Dated::At(r) => ProteusDated::At(r, h3),
-                Dated::Refused(r, _) => ProteusDated::Refused(r),
-            }
+            crate::since(Scale::Utc, 32700, n).with_mark(Mark::Proteus(f.h3))
         }
-        ProteusParted::Refused(r) => ProteusDated::Refused(r),
+        ProteusParted::Refused(r) => Dated::Refused(r, Scale::Utc),
     }
 }
 
@@ -76,11 +66,22 @@ fn fields_at(h3: bool, n: u64) -> Fields
     }
 }
 
-pub fn write(h: Handed, h3: bool, out: &mut [u8]) -> Written
-    ensures { λ r. ⌜ wrote r (now (out .exit)) ≡ write h h3 (now (out .entry)) ⌝ }
+// The H3 that a mark is written with.
+fn h3_of(mark: Mark) -> bool
+    ensures { λ r. ⌜ r ≡ h3Of mark ⌝ }
+{
+    match mark {
+        Mark::Plain => false,
+        Mark::Proteus(h3) => h3,
+        Mark::Correlated(_) => false,
+    }
+}
+
+pub fn write(h: Handed, out: &mut [u8]) -> Written
+    ensures { λ r. ⌜ wrote r (now (out .exit)) ≡ write h (now (out .entry)) ⌝ }
 {
     match since_1980(h) {
-        Counted::Count(n) => layout_fields::proteus::write(fields_at(h3, n), out),
+        Counted::Count(n) => layout_fields::proteus::write(fields_at(h3_of(h.mark()), n), out),
         Counted::Refused(r) => Written::Refused(r),
     }
 }

@@ -72,7 +72,7 @@ cucRow n bytes said = record { case = n; meaning = slipped (Cuc.read bytes); pap
 
 -- 6. Proteus second 604,799 read; 604,800: 3; second byte 02: 2 ("UTC, in weeks of 604,800 s from day -7300")
 abbrev pub proteusRow : List ℕ → List ℤ → Row
-proteusRow bytes said = record { case = 6; meaning = slipped (Proteus.read bytes .slip); paper = said }
+proteusRow bytes said = record { case = 6; meaning = slipped (Proteus.read bytes); paper = said }
 
 -- 7. SIRAL extra 16 adds 33, extra 1 adds 2 ("Read as TAI, MJD2000")
 abbrev pub siralRow : ℕ → ℕ → Row

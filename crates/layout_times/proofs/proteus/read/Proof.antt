@@ -1,49 +1,53 @@
 -- `layout_times::proteus::read` meets its contract. Assumes nothing.
 use denote.Ref.{now}
-use mathlib.Core.Path.{_≡_, sym, ap, _∙_}
+use mathlib.Core.Path.{_≡_, refl, sym, ap, _∙_}
+use mathlib.Core.Bool.{Bool}
+use mathlib.Core.List.{List}
 use Prim.Native.Nat.{ℕ, _+_, _*_}
-use Rattle.scales.specs.Meaning.{outcome, slip, spanned, some, valued, valueSlip}
+use Rattle.scales.specs.Meaning.{outcome, datedAs, dated, remark}
+use Rattle.scales.specs.Marks.{remark-is, remark-refused}
+use Rattle.scales.specs.Order.{is-answers}
 use Rattle.scales.specs.declared.Scale.the-variants as S
-use Rattle.layout_fields.specs.Proteus.{reading, empty, slip as fieldsSlip, read as fieldsRead}
-use Rattle.layout_times.specs.Meaning.{momentFrom}
-use Rattle.layout_times.specs.Proteus.{epoch, fieldsMoment}
-use Rattle.layout_times.specs.Stamps.{stamp-at, stamp-no, stamp-refused}
+use Rattle.scales.specs.declared.Mark.the-variants as M
+use Rattle.layout_fields.specs.Proteus.{reading as fieldsReading, empty, fieldsOf, slip as fieldsSlip, read as fieldsRead}
+use Rattle.layout_times.specs.Chain.{read-no, read-at, told-answer}
+use Rattle.layout_times.specs.Proteus.{epoch, microsOf, reading, read}
+use Rattle.layout_times.proofs.Ways.{proteus-h3}
 use borrow.Author.Needs.{needs}
 use Rattle.layout_times.proofs.proteus.read.Statement.{statement}
 use Rattle.layout_times.proofs.proteus.read.Tie as tie
 
--- the fields that were read, and their time
-known : (c : tie.After-f) → valueSlip empty (some (c .f .given .0 .0)) ≡ valued empty (outcome (reading (now (c .before .before .before .before .args .b))))
-unfolding fieldsRead
-known c = sym (ap fieldsSlip (c .f .given .1)) ∙ c .before .before .read .ensures
-
-dated : (c : tie.After-since) → let f = c .before .before .before .before .before .f .given .0 .0 in
-    slip (c .since .result) ≡ spanned S.Utc (fieldsMoment f .day) (fieldsMoment f .micro)
-dated c =
-    let f = c .before .before .before .before .before .f .given .0 .0 in
-    c .since .ensures
-    ∙ ap (λ (x : ℕ). let m = momentFrom epoch ((f .week * 604800 + f .second) * 1000000 + x) in spanned S.Utc (m .day) (m .micro)) (c .before .fraction-micros .ensures)
+-- the mark laid on what is handed back of the moment alone
+marked : (s : List ℕ) (b : Bool) → fieldsOf s .h3 ≡ b → remark (M.Proteus b) (dated S.Utc (outcome (reading s))) ≡ read s
+unfolding read
+marked s b e = remark-is (M.Proteus b) S.Utc (reading s) refl ∙ ap (λ (x : Bool). datedAs (M.Proteus x) S.Utc (outcome (reading s))) (sym e)
 
 returns : tie.Need-returns
+unfolding fieldsRead
 returns c =
-    let i = c .before .before .before in
+    let i = c .before in
     let k = i .before .before .before .before .before in
-    stamp-at (now (k .before .before .before .before .args .b)) (k .f .given .0 .0) (known k) (c .before .r .given .0 .0)
-    (sym (ap slip (c .before .r .given .1)) ∙ dated i)
+    let f = k .f .given .0 .0 in
+    let b = k .before .before in
+    let s = now (b .before .before .args .b) in
+    let e = sym (ap fieldsSlip (k .f .given .1)) ∙ b .read .ensures in
+    c .with-mark .ensures
+    ∙ ap (remark (M.Proteus (f .h3)))
+    (i .since .ensures
+    ∙ read-at S.Utc epoch microsOf empty (fieldsReading s) refl f e _
+    (ap (λ (x : ℕ). (f .week * 604800 + f .second) * 1000000 + x) (i .before .fraction-micros .ensures)))
+    ∙ marked s (f .h3) (proteus-h3 s f (is-answers (fieldsReading s) f (told-answer empty (fieldsReading s) refl f e)))
 
 returns-2 : tie.Need-returns-2
-returns-2 c =
-    let i = c .before .before .before in
-    let k = i .before .before .before .before .before in
-    stamp-no (now (k .before .before .before .before .args .b)) (k .f .given .0 .0) (known k) (c .before .r2 .given .0 .0) (c .before .r2 .given .0 .1 .0)
-    (sym (ap slip (c .before .r2 .given .1)) ∙ dated i)
-
-returns-3 : tie.Need-returns-3
 unfolding fieldsRead
-returns-3 c =
+returns-2 c =
     let k = c .before in
     let b = k .before .before in
-    stamp-refused (now (b .before .before .args .b)) (k .r3 .given .0 .0) (sym (ap fieldsSlip (k .r3 .given .1)) ∙ b .read .ensures)
+    let s = now (b .before .before .args .b) in
+    let m = M.Proteus (fieldsOf s .h3) in
+    remark-refused m (k .r .given .0 .0) S.Utc
+    ∙ ap (remark m) (read-no S.Utc epoch microsOf empty (fieldsReading s) (k .r .given .0 .0) (sym (ap fieldsSlip (k .r .given .1)) ∙ b .read .ensures))
+    ∙ marked s (fieldsOf s .h3) refl
 
 pub read-spec : {M : Type 1} → statement M
 read-spec =
@@ -59,9 +63,7 @@ read-spec =
     (λ c κs. search needs)
     (λ c. search needs)
     (λ c κs. search needs)
-    (λ c. search needs)
-    (λ c. search needs)
+    (λ c κs. search needs)
     (λ c. search needs)
     returns
-    returns-2
-    returns-3)
+    returns-2)
