@@ -1,14 +1,16 @@
 -- Wrong programs that the contracts shut out: for each an input, the right answer and the wrong one, which differ. Assumes nothing.
 use mathlib.Core.Path.{_≡_, refl, sym, ap, _∙_}
-use mathlib.Core.Bool.{cond, _&&_}
+use mathlib.Core.Bool.{true, cond, _&&_}
 use mathlib.Core.List.{List, [], _∷_}
 use Prim.Native.Nat.{ℕ, _-_}
 use native.Mathlib.Omega.{arith}
 use lib.Dec.{eqb, leb}
 use lib.IntN.{pos, negsuc, natAbs}
 use Rattle.evidence.specs.ShutOut.{ShutOut, differ}
-use Rattle.scales.specs.Meaning.{codeOf, given, outcome, Slip, dated, Wrote, written, recordOf}
+use Rattle.scales.specs.Meaning.{codeOf, given, outcome, Slip, dated, remark, Wrote, written, recordOf}
 use Rattle.scales.specs.declared.Scale.the-variants as S
+use Rattle.scales.specs.declared.Mark.{Mark}
+use Rattle.scales.specs.declared.Mark.the-variants as M
 use Rattle.handed.specs.declared.Handed.{Handed}
 use Rattle.handed.specs.declared.Handed.the-variants as H
 use Rattle.calendar.specs.Meaning.{leap, monthLength, lengthOf, firstDay, isDate, dayAfter, daysTo, walk, dayOfDate, dateOfDay}
@@ -20,7 +22,7 @@ use Rattle.text_read.specs.Meaning.{digitOf, twoOf, fourOf, isNamed, seek, mont
 use Rattle.text_write.specs.Meaning.{textOf, hasImage, writing, writeText}
 use Rattle.text_write.specs.declared.Form.{Form}
 use Rattle.text_write.specs.declared.Form.the-variants as F
-use Rattle.ground_laws.proofs.Desks.{refusesAll, dayZero, got, bytesAt, writesNothing, madeUp, answered, empty}
+use Rattle.ground_laws.proofs.Desks.{refusesAll, dayZero, got, bytesAt, writesNothing, madeUp, answered, empty, markedAs, byMark}
 use Rattle.text_laws.specs.Computed.{reads, blank, writes}
 
 -- ---- reading
@@ -42,7 +44,7 @@ lower-case = (refl, upper, λ q. let z : _≡_ {A = ℕ} 3 0 = (λ i. q i .numbe
 
 -- 3 and 7 swapped: 29-FEB-0000 00:00:00
 abbrev pub swapped : Slip → Slip
-swapped r = record { number = cond (eqb (r .number) 3) 7 (cond (eqb (r .number) 7) 3 (r .number)); scale = r .scale; day = r .day; micro = r .micro }
+swapped r = record { number = cond (eqb (r .number) 3) 7 (cond (eqb (r .number) 7) 3 (r .number)); scale = r .scale; day = r .day; micro = r .micro; mark = r .mark }
 
 abbrev pub leapDay0000 : List ℕ
 leapDay0000 = 50 ∷ 57 ∷ 45 ∷ 70 ∷ 69 ∷ 66 ∷ 45 ∷ 48 ∷ 48 ∷ 48 ∷ 48 ∷ 32 ∷ 48 ∷ 48 ∷ 58 ∷ 48 ∷ 48 ∷ 58 ∷ 48 ∷ 48 ∷ []
@@ -77,6 +79,14 @@ firstTai =
 pub list-for-tai : ShutOut (readText firstTai [] [] (pos 0)) (answered S.Tai (negsuc 10226) 0) (listFirst firstTai) (empty 5 S.Tai)
 unfolding readText isPrefixRight isBody scaleIn bodyIn hasPrefix prefixOf hasMarks stampIn microIn inLimits digitOf twoOf fourOf monthNamed seek isNamed letter names isDate dayOfDate dayAfter firstDay lengthOf monthLength leap accepted
 list-for-tai = (refl, refl, λ q. let z : _≡_ {A = ℕ} 0 5 = λ i. q i .number in omega arith)
+
+-- a text that keeps a mark, that of the record read before it
+abbrev markKept : Mark → List ℕ → Slip
+markKept m s = remark m (readText s [] [] (pos 0))
+
+pub mark-kept : ShutOut (readText firstTai [] [] (pos 0)) (answered S.Tai (negsuc 10226) 0) (markKept (M.Proteus true) firstTai) (markedAs (M.Proteus true) S.Tai (negsuc 10226) 0)
+unfolding readText isPrefixRight isBody scaleIn bodyIn hasPrefix prefixOf hasMarks stampIn microIn inLimits digitOf twoOf fourOf monthNamed seek isNamed letter names isDate dayOfDate dayAfter firstDay lengthOf monthLength leap
+mark-kept = (refl, refl, byMark (λ e. omega arith))
 
 -- the desk that refuses all, and the one that answers day 0 for everything
 pub refuses-all : ShutOut (readText firstTai [] [] (pos 0)) (answered S.Tai (negsuc 10226) 0) (refusesAll S.Tai) (empty 7 S.Tai)
