@@ -1,4 +1,4 @@
-/* Vrikshonem, the dating desk: its interface for C, version 0.4. Before 1.0 names, structs and functions may change with the
+/* Vrikshonem, the dating desk: its interface for C, version 0.5. Before 1.0 names, structs and functions may change with the
  * middle number of the version; CHANGELOG.md says what to change then.
  *
  * Every function takes every input, and returns a value or the number of one refusal. None keeps anything between calls,
@@ -15,11 +15,12 @@
  * day; 10 second 60 on a day that has none; 11 result outside the limits of its scale; 13 `out` shorter than what is to be
  * written.
  *
- * An unknown scale, kind, form or H3 code is refused 3; an unknown scale in a correlation, 6, or 14 where it is for the season's
- * file.
+ * An unknown scale, kind, mark, form or H3 code is refused 3; an unknown scale in a correlation, 6, or 14 where it is for the
+ * season's file.
  *
- * With a refusal the other fields are empty: day, micro, count, length, first, last and every field of a layout are 0, a decimal
- * day is plus zero, and `scale` is the scale that the answer would have had (0, which is TAI, where that code is unknown).
+ * With a refusal the other fields are empty: day, micro, mark, source, count, length, first, last and every field of a layout are
+ * 0, a decimal day is plus zero, and `scale` is the scale that the answer would have had (0, which is TAI, where that code is
+ * unknown).
  *
  * Slices. A slice is a pointer and a number of elements. The pointer is valid for that many; where the number is 0 it may be
  * null. `const` slices are only read. `out` is memory that the caller lends to be written to; it overlaps no other slice of
@@ -40,13 +41,25 @@ extern "C" {
 
 /* ---- times */
 
-/* The codes of a scale, and of a time's kind. */
+/* The codes of a scale, of a time's kind, and of a record's mark. */
 enum { VRK_TAI = 0, VRK_UTC = 1, VRK_GPS = 2 };
 enum { VRK_RECORD = 0, VRK_DECIMAL = 1 };
+enum { VRK_PLAIN = 0, VRK_PROTEUS = 1, VRK_CORRELATED = 2 };
+
+/* A mark says where a record came from, and `source` belongs to it:
+ *
+ *    VRK_PLAIN        nothing is told, source 0: from text, a decimal day, CUC, CryoSat or SIRAL, and every empty record
+ *    VRK_PROTEUS      from Proteus bytes, source is their H3, 0 or 1
+ *    VRK_CORRELATED   dated by a correlation, source is its reference: `tick` of an SBT correlation, `obt0` of a GOCE one
+ *
+ * A change of scale keeps the mark, and writing Proteus takes H3 from it. No other function looks at it, and two times that
+ * differ in it alone are the same time. */
 
 /* A time that is passed in. It is a record (VRK_RECORD: scale, day counted from 1 January 2000, microsecond of that day) or a
  * decimal day (VRK_DECIMAL: scale, decimal), which stands for the record that vrk_decimal_read gives. Of a record `decimal`
- * is ignored; of a decimal day `day` and `micro` are. Each function that takes a time tests it against these limits:
+ * is ignored; of a decimal day `day`, `micro`, `mark` and `source` are. A record whose mark was not set, with fields of 0, is
+ * plain. A mark above VRK_CORRELATED, or VRK_PROTEUS with a source above 1, is unknown and refused 3. The source of VRK_PLAIN is
+ * ignored, and that of VRK_CORRELATED may be any number. Each function that takes a time tests it against these limits:
  *
  *    scale   first day             last day              microsecond of day below
  *    TAI     -10227 (1 Jan 1972)   36524 (31 Dec 2099)   86,400,000,000
@@ -61,14 +74,18 @@ typedef struct {
     int64_t day;
     uint64_t micro;
     double decimal;
+    uint32_t mark;
+    uint64_t source;
 } vrk_handed;
 
-/* A time that is returned: a record within the limits of its scale, or with a refusal the empty one. */
+/* A time that is returned: a record within the limits of its scale with its mark, or with a refusal the empty one. */
 typedef struct {
     uint32_t refusal;
     uint32_t scale;
     int64_t day;
     uint64_t micro;
+    uint32_t mark;
+    uint64_t source;
 } vrk_time;
 
 /* A decimal day that is returned. */
@@ -100,7 +117,7 @@ vrk_time vrk_decimal_read(double day, uint32_t scale);
 /* Given     a time.
  * Returned  the double nearest (day x 86,400,000,000 + micro) / 86,400,000,000, correctly rounded. vrk_decimal_read gives the
  *           same record back.
- * Refused   3 unknown kind or scale; 4; 7; 12 second 60. */
+ * Refused   3 unknown kind, scale or mark; 4; 7; 12 second 60. */
 vrk_decimal vrk_decimal_write(vrk_handed time);
 
 /* ---- SBT ticks */
@@ -126,8 +143,8 @@ typedef struct {
 
 /* Given     a tick, a correlation, the receipt (the day and the microsecond at which the packet was received, in the
  *           correlation's scale), and a leap list.
- * Returned  the time of the tick in that scale, rounded down to the microsecond. The counter wraps: `tick` is taken for the
- *           tick of this number from 2^31 before the reference to 2^31 - 1 after it.
+ * Returned  the time of the tick in that scale, rounded down to the microsecond, marked VRK_CORRELATED with the reference tick.
+ *           The counter wraps: `tick` is taken for the tick of this number from 2^31 before the reference to 2^31 - 1 after it.
  * Refused   5; 6; 7 the receipt is outside the limits of its scale; 8 the tick is outside the window, or the receipt is before
  *           the time of the window's first tick or after that of its last (in UTC the receipt is tested only where it and the
  *           reference are both known); 9 the reference, the receipt or the result; 10 the receipt; 11 (in UTC only before
@@ -137,9 +154,9 @@ vrk_time vrk_sbt_date(uint32_t tick, vrk_sbt_correlation correlation, int64_t re
 
 /* Given     a time, a correlation and a leap list.
  * Returned  the last tick of the window whose time is not later than the given one; it is at most 3,906 microseconds earlier.
- * Refused   3 unknown kind or scale of the time; 4; 5; 6; 7; 8 the time is before that of the window's first tick or after that
- *           of its last (in UTC tested only where it and the reference are both known); 9 the reference or the time; 10 the
- *           time; 12 another scale than the correlation's. 5, 9 and 10 are for UTC correlations. A time of another scale is not
+ * Refused   3 unknown kind, scale or mark of the time; 4; 5; 6; 7; 8 the time is before that of the window's first tick or
+ *           after that of its last (in UTC tested only where it and the reference are both known); 9 the reference or the time;
+ *           10 the time; 12 another scale than the correlation's. 5, 9 and 10 are for UTC correlations. A time of another scale is not
  *           tested for 8 and 10, and for 9 only the reference is. */
 vrk_count vrk_sbt_tick(vrk_handed time, vrk_sbt_correlation correlation, const int64_t *days, size_t day_count,
                        const uint64_t *offsets, size_t offset_count, int64_t last);
@@ -165,8 +182,8 @@ typedef struct {
 /* Given     a count, a correlation, the receipt (the day and the microsecond at which the packet was received, in UTC), and a
  *           leap list: counts are counted in TAI by it, as the ticks of a UTC correlation are.
  * Returned  the time of the count in UTC: Gradient x (OBT - OBT0) after Offset + UTC0, the exact sum rounded down to the
- *           microsecond. The counter wraps: `obt` is taken for the count of this number from 2^47 before the reference to
- *           2^47 - 1 after it.
+ *           microsecond, marked VRK_CORRELATED with `obt0`. The counter wraps: `obt` is taken for the count of this number
+ *           from 2^47 before the reference to 2^47 - 1 after it.
  * Refused   3 a count of 2^48 or more; 5; 6; 7 the receipt is outside the limits of UTC; 8 the count is outside the window, or
  *           the receipt is before the time of the window's first count or after that of its last (the receipt is tested only
  *           where it and the reference are both known); 9 the reference, the receipt or the result; 10 the receipt; 11 (only
@@ -176,7 +193,7 @@ vrk_time vrk_goce_date(uint64_t obt, vrk_goce_correlation correlation, int64_t r
 
 /* Given     a time, a correlation and a leap list.
  * Returned  the last count of the window whose time is not later than the given one; it is at most 15 microseconds earlier.
- * Refused   3 unknown kind or scale of the time; 4; 5; 6; 7; 8 the time is before that of the window's first count or after
+ * Refused   3 unknown kind, scale or mark of the time; 4; 5; 6; 7; 8 the time is before that of the window's first count or after
  *           that of its last (tested only where it and the reference are both known); 9 the reference or the time; 10 the
  *           time; 12 another scale than UTC. A time of another scale is not tested for 8 and 10, and for 9 only the reference
  *           is. */
@@ -274,8 +291,8 @@ uint32_t vrk_list_accepted(const int64_t *days, size_t day_count, const uint64_t
 
 /* Given     a time, `to_scale`, the code of the scale to change it to, and a leap list, which is used only where one of the
  *           two scales is UTC.
- * Returned  the same instant in that scale; in its own scale a time stays as it is.
- * Refused   3 unknown `to_scale`, unknown kind or scale of the time; 4; 5; 7; 9; 10; 11. With a refusal `scale` is
+ * Returned  the same instant in that scale, with the mark that was given; in its own scale a time stays as it is.
+ * Refused   3 unknown `to_scale`, unknown kind, scale or mark of the time; 4; 5; 7; 9; 10; 11. With a refusal `scale` is
  *           `to_scale`. */
 vrk_time vrk_change(vrk_handed time, uint32_t to_scale, const int64_t *days, size_t day_count, const uint64_t *offsets,
                     size_t offset_count, int64_t last);
@@ -292,7 +309,7 @@ vrk_time vrk_change(vrk_handed time, uint32_t to_scale, const int64_t *days, siz
 vrk_time vrk_cuc_read(const uint8_t *bytes, size_t count);
 
 /* Given     a time.    Written  6 bytes.
- * Refused   3 unknown kind or scale; 4; 7; 12 a scale other than GPS; 13. */
+ * Refused   3 unknown kind, scale or mark; 4; 7; 12 a scale other than GPS; 13. */
 vrk_written vrk_cuc_write(vrk_handed time, uint8_t *out, size_t count);
 
 /* GOCE OBT, 6 bytes: a count of 48 bits, without an epoch; vrk_goce_date dates it.
@@ -311,26 +328,17 @@ vrk_count vrk_obet_read(const uint8_t *bytes, size_t count);
 /* Given     a count.    Written  8 bytes.    Refused  3 a count of 2^56 or more; 13. */
 vrk_written vrk_obet_write(uint64_t value, uint8_t *out, size_t count);
 
-/* A time that is returned, with Proteus's H3 bit, 0 or 1. */
-typedef struct {
-    uint32_t refusal;
-    uint32_t scale;
-    int64_t day;
-    uint64_t micro;
-    uint32_t h3;
-} vrk_proteus;
-
 /* Proteus, SMOS, 8 bytes: week (12 bits) from 6 January 1980, three bits that are 0, the bit H3, second of week (32 bits, at
- * most 604,799), a fraction as in CUC, read as the nearest microsecond, halves upward. It is UTC in weeks of 604,800 s, and no leap list is used.
+ * most 604,799), a fraction as in CUC, read as the nearest microsecond, halves upward. It is UTC in weeks of 604,800 s, and no
+ * leap list is used.
  *
- * Given     8 bytes.    Returned  a UTC time, and H3.    Refused  1; 2 one of the three bits is 1; 3 a second over its
- *           limit. */
-vrk_proteus vrk_proteus_read(const uint8_t *bytes, size_t count);
+ * Given     8 bytes.    Returned  a UTC time, marked VRK_PROTEUS with its H3.    Refused  1; 2 one of the three bits is 1; 3 a
+ *           second over its limit. */
+vrk_time vrk_proteus_read(const uint8_t *bytes, size_t count);
 
-/* Given     a time, and H3, 0 or 1.    Written  8 bytes.
- * Refused   3 an H3 other than 0 and 1, unknown kind or scale; 4; 7; 12 a scale other than UTC, second 60, a day outside
- *           -7300 to 21371; 13. */
-vrk_written vrk_proteus_write(vrk_handed time, uint32_t h3, uint8_t *out, size_t count);
+/* Given     a time.    Written  8 bytes; H3 is the source of a record marked VRK_PROTEUS, and 0 for every other time.
+ * Refused   3 unknown kind, scale or mark; 4; 7; 12 a scale other than UTC, second 60, a day outside -7300 to 21371; 13. */
+vrk_written vrk_proteus_write(vrk_handed time, uint8_t *out, size_t count);
 
 /* CryoSat general, 8 bytes: day (16 bits) from 1 January 2000, millisecond (32 bits, below 86,400,000), microsecond (16 bits,
  * below 1,000), in TAI.
@@ -339,7 +347,7 @@ vrk_written vrk_proteus_write(vrk_handed time, uint32_t h3, uint8_t *out, size_t
 vrk_time vrk_cryosat_read(const uint8_t *bytes, size_t count);
 
 /* Given     a time.    Written  8 bytes, which hold it exactly.
- * Refused   3 unknown kind or scale; 4; 7; 12 a scale other than TAI, a day before 0; 13. */
+ * Refused   3 unknown kind, scale or mark; 4; 7; 12 a scale other than TAI, a day before 0; 13. */
 vrk_written vrk_cryosat_write(vrk_handed time, uint8_t *out, size_t count);
 
 /* SIRAL, 10 bytes: the 8 of CryoSat general, and an extra counter (16 bits) in units of 33/16 microsecond. All are added, and
@@ -349,7 +357,7 @@ vrk_written vrk_cryosat_write(vrk_handed time, uint8_t *out, size_t count);
 vrk_time vrk_siral_read(const uint8_t *bytes, size_t count);
 
 /* Given     a time.    Written  10 bytes, which hold it exactly, with the extra counter 0.
- * Refused   3 unknown kind or scale; 4; 7; 12 a scale other than TAI, a day before 0; 13. */
+ * Refused   3 unknown kind, scale or mark; 4; 7; 12 a scale other than TAI, a day before 0; 13. */
 vrk_written vrk_siral_write(vrk_handed time, uint8_t *out, size_t count);
 
 /* SBT, 4 bytes: the tick.
@@ -419,8 +427,8 @@ vrk_time vrk_text_read(const uint8_t *text, size_t count, const int64_t *days, s
 
 /* Given     a time, a leap list, and `form`: 20, 24, 27 or 31.
  * Written   that many bytes. vrk_text_read gives the same time back, under the same list.
- * Refused   3 unknown form, unknown kind or scale; 4; 5; 7; 9; 10; 12 a scale other than UTC in 20 and 27, a time that is not
- *           a whole second in 20 and 24; 13. */
+ * Refused   3 unknown form, unknown kind, scale or mark; 4; 5; 7; 9; 10; 12 a scale other than UTC in 20 and 27, a time that is
+ *           not a whole second in 20 and 24; 13. */
 vrk_written vrk_text_write(vrk_handed time, const int64_t *days, size_t day_count, const uint64_t *offsets, size_t offset_count,
                            int64_t last, uint32_t form, uint8_t *out, size_t count);
 

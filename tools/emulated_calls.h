@@ -7,7 +7,7 @@ enum {
     TEXT_WRITE,
 };
 
-enum { ANSWER = 5 };
+enum { ANSWER = 6 };
 
 static void ask(uint64_t function, const uint64_t *words, size_t word_count, const struct slice *slices,
                 size_t slice_count, uint64_t *answer);
@@ -16,7 +16,7 @@ vrk_time vrk_cuc_read(const uint8_t *bytes, size_t bytes_count) {
     uint64_t the_answer[ANSWER];
     const struct slice the_slices[] = {{bytes, bytes_count, 1, 0}};
     ask(CUC_READ, 0, 0, the_slices, 1, the_answer);
-    vrk_time the_result = {.refusal = (uint32_t)the_answer[0], .scale = (uint32_t)the_answer[1], .day = (int64_t)the_answer[2], .micro = the_answer[3]};
+    vrk_time the_result = {.refusal = (uint32_t)the_answer[0], .scale = (uint32_t)the_answer[1], .day = (int64_t)the_answer[2], .micro = the_answer[3], .mark = (uint32_t)the_answer[4], .source = the_answer[5]};
     return the_result;
 }
 
@@ -24,7 +24,7 @@ vrk_time vrk_cryosat_read(const uint8_t *bytes, size_t bytes_count) {
     uint64_t the_answer[ANSWER];
     const struct slice the_slices[] = {{bytes, bytes_count, 1, 0}};
     ask(CRYOSAT_READ, 0, 0, the_slices, 1, the_answer);
-    vrk_time the_result = {.refusal = (uint32_t)the_answer[0], .scale = (uint32_t)the_answer[1], .day = (int64_t)the_answer[2], .micro = the_answer[3]};
+    vrk_time the_result = {.refusal = (uint32_t)the_answer[0], .scale = (uint32_t)the_answer[1], .day = (int64_t)the_answer[2], .micro = the_answer[3], .mark = (uint32_t)the_answer[4], .source = the_answer[5]};
     return the_result;
 }
 
@@ -32,7 +32,7 @@ vrk_time vrk_siral_read(const uint8_t *bytes, size_t bytes_count) {
     uint64_t the_answer[ANSWER];
     const struct slice the_slices[] = {{bytes, bytes_count, 1, 0}};
     ask(SIRAL_READ, 0, 0, the_slices, 1, the_answer);
-    vrk_time the_result = {.refusal = (uint32_t)the_answer[0], .scale = (uint32_t)the_answer[1], .day = (int64_t)the_answer[2], .micro = the_answer[3]};
+    vrk_time the_result = {.refusal = (uint32_t)the_answer[0], .scale = (uint32_t)the_answer[1], .day = (int64_t)the_answer[2], .micro = the_answer[3], .mark = (uint32_t)the_answer[4], .source = the_answer[5]};
     return the_result;
 }
 
@@ -62,27 +62,27 @@ vrk_count vrk_sbt_read(const uint8_t *bytes, size_t bytes_count) {
 
 vrk_written vrk_cuc_write(vrk_handed time, uint8_t *out, size_t out_count) {
     uint64_t the_answer[ANSWER];
-    const uint64_t the_words[] = {time.kind, time.scale, (uint64_t)time.day, time.micro, bits_of(time.decimal)};
+    const uint64_t the_words[] = {time.kind, time.scale, (uint64_t)time.day, time.micro, bits_of(time.decimal), time.mark, time.source};
     const struct slice the_slices[] = {{out, out_count, 1, 1}};
-    ask(CUC_WRITE, the_words, 5, the_slices, 1, the_answer);
+    ask(CUC_WRITE, the_words, 7, the_slices, 1, the_answer);
     vrk_written the_result = {.refusal = (uint32_t)the_answer[0], .length = the_answer[1]};
     return the_result;
 }
 
 vrk_written vrk_cryosat_write(vrk_handed time, uint8_t *out, size_t out_count) {
     uint64_t the_answer[ANSWER];
-    const uint64_t the_words[] = {time.kind, time.scale, (uint64_t)time.day, time.micro, bits_of(time.decimal)};
+    const uint64_t the_words[] = {time.kind, time.scale, (uint64_t)time.day, time.micro, bits_of(time.decimal), time.mark, time.source};
     const struct slice the_slices[] = {{out, out_count, 1, 1}};
-    ask(CRYOSAT_WRITE, the_words, 5, the_slices, 1, the_answer);
+    ask(CRYOSAT_WRITE, the_words, 7, the_slices, 1, the_answer);
     vrk_written the_result = {.refusal = (uint32_t)the_answer[0], .length = the_answer[1]};
     return the_result;
 }
 
 vrk_written vrk_siral_write(vrk_handed time, uint8_t *out, size_t out_count) {
     uint64_t the_answer[ANSWER];
-    const uint64_t the_words[] = {time.kind, time.scale, (uint64_t)time.day, time.micro, bits_of(time.decimal)};
+    const uint64_t the_words[] = {time.kind, time.scale, (uint64_t)time.day, time.micro, bits_of(time.decimal), time.mark, time.source};
     const struct slice the_slices[] = {{out, out_count, 1, 1}};
-    ask(SIRAL_WRITE, the_words, 5, the_slices, 1, the_answer);
+    ask(SIRAL_WRITE, the_words, 7, the_slices, 1, the_answer);
     vrk_written the_result = {.refusal = (uint32_t)the_answer[0], .length = the_answer[1]};
     return the_result;
 }
@@ -114,19 +114,19 @@ vrk_written vrk_sbt_write(uint32_t tick, uint8_t *out, size_t out_count) {
     return the_result;
 }
 
-vrk_proteus vrk_proteus_read(const uint8_t *bytes, size_t bytes_count) {
+vrk_time vrk_proteus_read(const uint8_t *bytes, size_t bytes_count) {
     uint64_t the_answer[ANSWER];
     const struct slice the_slices[] = {{bytes, bytes_count, 1, 0}};
     ask(PROTEUS_READ, 0, 0, the_slices, 1, the_answer);
-    vrk_proteus the_result = {.refusal = (uint32_t)the_answer[0], .scale = (uint32_t)the_answer[1], .day = (int64_t)the_answer[2], .micro = the_answer[3], .h3 = (uint32_t)the_answer[4]};
+    vrk_time the_result = {.refusal = (uint32_t)the_answer[0], .scale = (uint32_t)the_answer[1], .day = (int64_t)the_answer[2], .micro = the_answer[3], .mark = (uint32_t)the_answer[4], .source = the_answer[5]};
     return the_result;
 }
 
-vrk_written vrk_proteus_write(vrk_handed time, uint32_t h3, uint8_t *out, size_t out_count) {
+vrk_written vrk_proteus_write(vrk_handed time, uint8_t *out, size_t out_count) {
     uint64_t the_answer[ANSWER];
-    const uint64_t the_words[] = {time.kind, time.scale, (uint64_t)time.day, time.micro, bits_of(time.decimal), h3};
+    const uint64_t the_words[] = {time.kind, time.scale, (uint64_t)time.day, time.micro, bits_of(time.decimal), time.mark, time.source};
     const struct slice the_slices[] = {{out, out_count, 1, 1}};
-    ask(PROTEUS_WRITE, the_words, 6, the_slices, 1, the_answer);
+    ask(PROTEUS_WRITE, the_words, 7, the_slices, 1, the_answer);
     vrk_written the_result = {.refusal = (uint32_t)the_answer[0], .length = the_answer[1]};
     return the_result;
 }
@@ -136,15 +136,15 @@ vrk_time vrk_goce_date(uint64_t obt, vrk_goce_correlation correlation, int64_t r
     const uint64_t the_words[] = {obt, correlation.obt0, correlation.utc0, (uint64_t)correlation.offset, correlation.gradient, correlation.back, correlation.ahead, (uint64_t)receipt_day, receipt_micro, (uint64_t)last};
     const struct slice the_slices[] = {{days, days_count, 8, 0}, {offsets, offsets_count, 8, 0}};
     ask(GOCE_DATE, the_words, 10, the_slices, 2, the_answer);
-    vrk_time the_result = {.refusal = (uint32_t)the_answer[0], .scale = (uint32_t)the_answer[1], .day = (int64_t)the_answer[2], .micro = the_answer[3]};
+    vrk_time the_result = {.refusal = (uint32_t)the_answer[0], .scale = (uint32_t)the_answer[1], .day = (int64_t)the_answer[2], .micro = the_answer[3], .mark = (uint32_t)the_answer[4], .source = the_answer[5]};
     return the_result;
 }
 
 vrk_count vrk_goce_count(vrk_handed time, vrk_goce_correlation correlation, const int64_t *days, size_t days_count, const uint64_t *offsets, size_t offsets_count, int64_t last) {
     uint64_t the_answer[ANSWER];
-    const uint64_t the_words[] = {time.kind, time.scale, (uint64_t)time.day, time.micro, bits_of(time.decimal), correlation.obt0, correlation.utc0, (uint64_t)correlation.offset, correlation.gradient, correlation.back, correlation.ahead, (uint64_t)last};
+    const uint64_t the_words[] = {time.kind, time.scale, (uint64_t)time.day, time.micro, bits_of(time.decimal), time.mark, time.source, correlation.obt0, correlation.utc0, (uint64_t)correlation.offset, correlation.gradient, correlation.back, correlation.ahead, (uint64_t)last};
     const struct slice the_slices[] = {{days, days_count, 8, 0}, {offsets, offsets_count, 8, 0}};
-    ask(GOCE_COUNT, the_words, 12, the_slices, 2, the_answer);
+    ask(GOCE_COUNT, the_words, 14, the_slices, 2, the_answer);
     vrk_count the_result = {.refusal = (uint32_t)the_answer[0], .count = the_answer[1]};
     return the_result;
 }
@@ -153,14 +153,14 @@ vrk_time vrk_decimal_read(double day, uint32_t scale) {
     uint64_t the_answer[ANSWER];
     const uint64_t the_words[] = {bits_of(day), scale};
     ask(DECIMAL_READ, the_words, 2, 0, 0, the_answer);
-    vrk_time the_result = {.refusal = (uint32_t)the_answer[0], .scale = (uint32_t)the_answer[1], .day = (int64_t)the_answer[2], .micro = the_answer[3]};
+    vrk_time the_result = {.refusal = (uint32_t)the_answer[0], .scale = (uint32_t)the_answer[1], .day = (int64_t)the_answer[2], .micro = the_answer[3], .mark = (uint32_t)the_answer[4], .source = the_answer[5]};
     return the_result;
 }
 
 vrk_decimal vrk_decimal_write(vrk_handed time) {
     uint64_t the_answer[ANSWER];
-    const uint64_t the_words[] = {time.kind, time.scale, (uint64_t)time.day, time.micro, bits_of(time.decimal)};
-    ask(DECIMAL_WRITE, the_words, 5, 0, 0, the_answer);
+    const uint64_t the_words[] = {time.kind, time.scale, (uint64_t)time.day, time.micro, bits_of(time.decimal), time.mark, time.source};
+    ask(DECIMAL_WRITE, the_words, 7, 0, 0, the_answer);
     vrk_decimal the_result = {.refusal = (uint32_t)the_answer[0], .day = double_of(the_answer[1])};
     return the_result;
 }
@@ -170,15 +170,15 @@ vrk_time vrk_sbt_date(uint32_t tick, vrk_sbt_correlation correlation, int64_t re
     const uint64_t the_words[] = {tick, correlation.tick, correlation.scale, (uint64_t)correlation.day, correlation.micro, correlation.period, correlation.back, correlation.ahead, (uint64_t)receipt_day, receipt_micro, (uint64_t)last};
     const struct slice the_slices[] = {{days, days_count, 8, 0}, {offsets, offsets_count, 8, 0}};
     ask(SBT_DATE, the_words, 11, the_slices, 2, the_answer);
-    vrk_time the_result = {.refusal = (uint32_t)the_answer[0], .scale = (uint32_t)the_answer[1], .day = (int64_t)the_answer[2], .micro = the_answer[3]};
+    vrk_time the_result = {.refusal = (uint32_t)the_answer[0], .scale = (uint32_t)the_answer[1], .day = (int64_t)the_answer[2], .micro = the_answer[3], .mark = (uint32_t)the_answer[4], .source = the_answer[5]};
     return the_result;
 }
 
 vrk_count vrk_sbt_tick(vrk_handed time, vrk_sbt_correlation correlation, const int64_t *days, size_t days_count, const uint64_t *offsets, size_t offsets_count, int64_t last) {
     uint64_t the_answer[ANSWER];
-    const uint64_t the_words[] = {time.kind, time.scale, (uint64_t)time.day, time.micro, bits_of(time.decimal), correlation.tick, correlation.scale, (uint64_t)correlation.day, correlation.micro, correlation.period, correlation.back, correlation.ahead, (uint64_t)last};
+    const uint64_t the_words[] = {time.kind, time.scale, (uint64_t)time.day, time.micro, bits_of(time.decimal), time.mark, time.source, correlation.tick, correlation.scale, (uint64_t)correlation.day, correlation.micro, correlation.period, correlation.back, correlation.ahead, (uint64_t)last};
     const struct slice the_slices[] = {{days, days_count, 8, 0}, {offsets, offsets_count, 8, 0}};
-    ask(SBT_TICK, the_words, 13, the_slices, 2, the_answer);
+    ask(SBT_TICK, the_words, 15, the_slices, 2, the_answer);
     vrk_count the_result = {.refusal = (uint32_t)the_answer[0], .count = the_answer[1]};
     return the_result;
 }
@@ -193,10 +193,10 @@ uint32_t vrk_list_accepted(const int64_t *days, size_t days_count, const uint64_
 
 vrk_time vrk_change(vrk_handed time, uint32_t to_scale, const int64_t *days, size_t days_count, const uint64_t *offsets, size_t offsets_count, int64_t last) {
     uint64_t the_answer[ANSWER];
-    const uint64_t the_words[] = {time.kind, time.scale, (uint64_t)time.day, time.micro, bits_of(time.decimal), to_scale, (uint64_t)last};
+    const uint64_t the_words[] = {time.kind, time.scale, (uint64_t)time.day, time.micro, bits_of(time.decimal), time.mark, time.source, to_scale, (uint64_t)last};
     const struct slice the_slices[] = {{days, days_count, 8, 0}, {offsets, offsets_count, 8, 0}};
-    ask(CHANGE, the_words, 7, the_slices, 2, the_answer);
-    vrk_time the_result = {.refusal = (uint32_t)the_answer[0], .scale = (uint32_t)the_answer[1], .day = (int64_t)the_answer[2], .micro = the_answer[3]};
+    ask(CHANGE, the_words, 9, the_slices, 2, the_answer);
+    vrk_time the_result = {.refusal = (uint32_t)the_answer[0], .scale = (uint32_t)the_answer[1], .day = (int64_t)the_answer[2], .micro = the_answer[3], .mark = (uint32_t)the_answer[4], .source = the_answer[5]};
     return the_result;
 }
 
@@ -298,15 +298,15 @@ vrk_time vrk_text_read(const uint8_t *text, size_t text_count, const int64_t *da
     const uint64_t the_words[] = {(uint64_t)last};
     const struct slice the_slices[] = {{text, text_count, 1, 0}, {days, days_count, 8, 0}, {offsets, offsets_count, 8, 0}};
     ask(TEXT_READ, the_words, 1, the_slices, 3, the_answer);
-    vrk_time the_result = {.refusal = (uint32_t)the_answer[0], .scale = (uint32_t)the_answer[1], .day = (int64_t)the_answer[2], .micro = the_answer[3]};
+    vrk_time the_result = {.refusal = (uint32_t)the_answer[0], .scale = (uint32_t)the_answer[1], .day = (int64_t)the_answer[2], .micro = the_answer[3], .mark = (uint32_t)the_answer[4], .source = the_answer[5]};
     return the_result;
 }
 
 vrk_written vrk_text_write(vrk_handed time, const int64_t *days, size_t days_count, const uint64_t *offsets, size_t offsets_count, int64_t last, uint32_t form, uint8_t *out, size_t out_count) {
     uint64_t the_answer[ANSWER];
-    const uint64_t the_words[] = {time.kind, time.scale, (uint64_t)time.day, time.micro, bits_of(time.decimal), (uint64_t)last, form};
+    const uint64_t the_words[] = {time.kind, time.scale, (uint64_t)time.day, time.micro, bits_of(time.decimal), time.mark, time.source, (uint64_t)last, form};
     const struct slice the_slices[] = {{days, days_count, 8, 0}, {offsets, offsets_count, 8, 0}, {out, out_count, 1, 1}};
-    ask(TEXT_WRITE, the_words, 7, the_slices, 3, the_answer);
+    ask(TEXT_WRITE, the_words, 9, the_slices, 3, the_answer);
     vrk_written the_result = {.refusal = (uint32_t)the_answer[0], .length = the_answer[1]};
     return the_result;
 }

@@ -1,7 +1,7 @@
 -- What the functions on bytes of the C interface share: the cases of a library's answer, and 3 before what a library judges.
 -- Assumes nothing.
 use mathlib.Core.Path.{_≡_, refl, sym, ap, subst, _∙_}
-use mathlib.Core.Bool.{Bool, true, false, cond}
+use mathlib.Core.Bool.{Bool, true, false}
 use mathlib.Core.List.{List}
 use Prim.Native.Nat.{ℕ}
 use native.Mathlib.Omega.{arith}
@@ -15,7 +15,7 @@ use Rattle.c_api.specs.declared.texts.FormNamed.the-variants as N
 use Rattle.c_api.specs.Texts.{knownForm, formAt, namedForm}
 use Rattle.c_api.specs.Meaning.{givenOf}
 use Rattle.c_api.specs.Bytes.{wroteOf, writes, handedWriting}
-use Rattle.c_api.proofs.Ways.{given-bad, given-good}
+use Rattle.c_api.proofs.Ways.{dropped, taken, given-bad, given-good}
 
 -- ---- a reader: the case y of the library's answer x
 module _ {X Y R : Type 0} (slip : X → Y) (out : Y → R) where
@@ -60,16 +60,9 @@ module _ (m : Handed → List ℕ → Judged (List ℕ)) (h : VrkHanded) (out : 
 unformed : (f : Form) → N.Form f ≡ N.Unknown → ⊥
 unformed f e = let z : _≡_ {A = ℕ} 0 1 = cc in omega arith
 
-pub form-good : (n : ℕ) (f : Form) → namedForm n ≡ N.Form f → (knownForm n ≡ true) × (f ≡ formAt n)
-form-good n f e = go (knownForm n) e
-  where
-    go : (b : Bool) → cond b (N.Form (formAt n)) N.Unknown ≡ N.Form f → (b ≡ true) × (f ≡ formAt n)
-    go true e = (refl, cc)
-    go false e = absurd (unformed f (sym e))
+module _ (n : ℕ) where
+  pub form-bad : namedForm n ≡ N.Unknown → knownForm n ≡ false
+  form-bad e = dropped N.Form N.Unknown unformed (knownForm n) (formAt n) e
 
-pub form-bad : (n : ℕ) → namedForm n ≡ N.Unknown → knownForm n ≡ false
-form-bad n e = go (knownForm n) e
-  where
-    go : (b : Bool) → cond b (N.Form (formAt n)) N.Unknown ≡ N.Unknown → b ≡ false
-    go true e = absurd (unformed (formAt n) e)
-    go false e = refl
+  pub form-good : (f : Form) → namedForm n ≡ N.Form f → (knownForm n ≡ true) × (f ≡ formAt n)
+  form-good f e = taken N.Form N.Unknown unformed (λ a b q. cc) (knownForm n) (formAt n) f e

@@ -4,14 +4,15 @@ use mathlib.Core.Bool.{Bool, true, false, cond}
 use mathlib.Core.List.{List}
 use Prim.Native.Nat.{ℕ, _<_}
 use native.Mathlib.Omega.{arith}
-use lib.IntN.{ℤ, pos}
+use lib.IntN.{ℤ}
 use lib.Ieee.{Float}
 use borrow.Author.Tests.{eq-eqb, ne-eqb, le-leb, lt-leb, leb-false}
 use Rattle.scales.specs.declared.Scale.{Scale}
 use Rattle.scales.specs.declared.Scale.the-variants as S
 use Rattle.handed.specs.declared.Handed.{Handed}
 use Rattle.handed.specs.declared.Handed.the-variants as H
-use Rattle.scales.specs.Meaning.{codeOf, scaleAt, recordOf}
+use Rattle.scales.specs.declared.Mark.{Mark}
+use Rattle.scales.specs.Meaning.{codeOf, scaleAt, recordOf, markedRecord}
 use Rattle.scales.specs.Place.{and-false}
 use Rattle.double.specs.Meaning.{plusZero}
 use Rattle.decimal.specs.Meaning.{readOf, WroteDay, decimalSlip}
@@ -24,14 +25,21 @@ use Rattle.c_api.specs.declared.VrkHanded.{VrkHanded}
 use Rattle.c_api.specs.declared.counts.VrkGoceCorrelation.{VrkGoceCorrelation}
 use Rattle.c_api.specs.declared.Given.the-variants as G
 use Rattle.c_api.specs.declared.ScaleNamed.the-variants as N
-use Rattle.c_api.specs.Meaning.{knownScale, known, handedOf, timeOut, decimalOut, decimalRead, DecimalWrote, correlationOf, countOut, sbtTick, changed, namedBy, givenOf}
+use Rattle.c_api.specs.declared.marks.MarkNamed.the-variants as K
+use Rattle.c_api.specs.Marks.{knownMark, markAt, markedBy}
+use Rattle.c_api.specs.Meaning.{knownScale, known, handedOf, emptyOut, timeOut, decimalOut, decimalRead, DecimalWrote, correlationOf, countOut, sbtTick, changed, namedBy, recordGiven, givenOf}
 use Rattle.c_api.specs.Counts.{goceOf, goceCount}
 
--- ---- an answer picked by a test tells the test
-module _ {A : Type 0} (good bad : A) (apart : good ≡ bad → ⊥) where
-  dropped : (t : Bool) → cond t good bad ≡ bad → t ≡ false
-  dropped true e = absurd (apart e)
-  dropped false e = refl
+-- ---- an answer picked by a test tells the test: good of one value, or bad
+module _ {A B : Type 0} (good : A → B) (bad : B) (apart : (a : A) → good a ≡ bad → ⊥) where
+  pub dropped : (t : Bool) (a : A) → cond t (good a) bad ≡ bad → t ≡ false
+  dropped true a e = absurd (apart a e)
+  dropped false a e = refl
+
+  module _ (same : (a b : A) → good a ≡ good b → b ≡ a) where
+    pub taken : (t : Bool) (a b : A) → cond t (good a) bad ≡ good b → (t ≡ true) × (b ≡ a)
+    taken true a b e = (refl, same a b e)
+    taken false a b e = absurd (apart b (sym e))
 
 -- ---- scales by code
 pub named-is : (c n : ℕ) → c ≡ n → namedBy n ≡ namedBy c
@@ -46,15 +54,34 @@ unnamed s e = let z : _≡_ {A = ℕ} 0 1 = cc in omega arith
 
 pub named-bad : (c : ℕ) → namedBy c ≡ N.Unknown → knownScale c ≡ false
 unfolding namedBy
-named-bad c e = dropped (N.Scale (scaleAt c)) N.Unknown (unnamed (scaleAt c)) (knownScale c) e
+named-bad c e = dropped N.Scale N.Unknown unnamed (knownScale c) (scaleAt c) e
 
 pub named-good : (c : ℕ) (s : Scale) → namedBy c ≡ N.Scale s → (knownScale c ≡ true) × (s ≡ scaleAt c)
 unfolding namedBy
-named-good c s e = go (knownScale c) e
-  where
-    go : (t : Bool) → cond t (N.Scale (scaleAt c)) N.Unknown ≡ N.Scale s → (t ≡ true) × (s ≡ scaleAt c)
-    go true e = (refl, cc)
-    go false e = absurd (unnamed s (sym e))
+named-good c s e = taken N.Scale N.Unknown unnamed (λ a b q. cc) (knownScale c) (scaleAt c) s e
+
+-- ---- marks by code and source
+module _ (c x : ℕ) where
+  unmarked : (m : Mark) → K.Mark m ≡ K.Unknown → ⊥
+  unmarked m e = let z : _≡_ {A = ℕ} 0 1 = cc in omega arith
+
+  marked-bad : markedBy c x ≡ K.Unknown → knownMark c x ≡ false
+  unfolding markedBy
+  marked-bad e = dropped K.Mark K.Unknown unmarked (knownMark c x) (markAt c x) e
+
+  marked-good : (m : Mark) → markedBy c x ≡ K.Mark m → (knownMark c x ≡ true) × (m ≡ markAt c x)
+  unfolding markedBy
+  marked-good m e = taken K.Mark K.Unknown unmarked (λ a b q. cc) (knownMark c x) (markAt c x) m e
+
+  -- ---- a record of a known scale
+  module _ (s : Scale) (d : ℤ) (u : ℕ) where
+    pub record-known : (m : Mark) → markedBy c x ≡ K.Mark m → G.Handed (H.Record (markedRecord m (recordOf s d u))) ≡ recordGiven s d u c x
+    unfolding recordGiven
+    record-known m e = let k = marked-good m e in rw (k .0, k .1)
+
+    pub record-unknown : markedBy c x ≡ K.Unknown → G.Unknown ≡ recordGiven s d u c x
+    unfolding recordGiven
+    record-unknown e = rw (marked-bad e)
 
 -- ---- what is handed in
 module _ (h : VrkHanded) where
@@ -63,32 +90,28 @@ module _ (h : VrkHanded) where
   hand-scale e = rw (named-bad (h .scale) e)
 
   module _ (s : Scale) (e : namedBy (h .scale) ≡ N.Scale s) where
-    pub hand-record : h .kind ≡ 0 → G.Handed (H.Record (recordOf s (h .day) (h .micro))) ≡ givenOf h
-    unfolding givenOf
+    pub hand-record : h .kind ≡ 0 → recordGiven s (h .day) (h .micro) (h .mark) (h .source) ≡ givenOf h
+    unfolding givenOf recordGiven
     hand-record k = let x = named-good (h .scale) s e in rw (x .0, le-leb (h .kind) 1 (omega arith), eq-eqb (h .kind) 0 k, x .1)
 
     pub hand-decimal : h .kind ≡ 1 → G.Handed (H.Decimal (h .decimal) s) ≡ givenOf h
     unfolding givenOf
     hand-decimal k = let x = named-good (h .scale) s e in rw (x .0, le-leb (h .kind) 1 (omega arith), ne-eqb (h .kind) 0 (λ z. omega arith), x .1)
 
-    pub hand-kind : 1 < h .kind → G.Unknown ≡ givenOf h
-    unfolding givenOf
-    hand-kind k = rw (lt-leb (h .kind) 1 k, and-false (knownScale (h .scale)))
+  pub hand-kind : 1 < h .kind → G.Unknown ≡ givenOf h
+  unfolding givenOf
+  hand-kind k = rw (lt-leb (h .kind) 1 k, and-false (knownScale (h .scale)))
 
   ungiven : (t : Handed) → G.Handed t ≡ G.Unknown → ⊥
   ungiven t e = let z : _≡_ {A = ℕ} 0 1 = cc in omega arith
 
   pub given-bad : givenOf h ≡ G.Unknown → known h ≡ false
   unfolding givenOf
-  given-bad e = dropped (G.Handed (handedOf h)) G.Unknown (ungiven (handedOf h)) (known h) e
+  given-bad e = dropped G.Handed G.Unknown ungiven (known h) (handedOf h) e
 
   pub given-good : (t : Handed) → givenOf h ≡ G.Handed t → (known h ≡ true) × (t ≡ handedOf h)
   unfolding givenOf
-  given-good t e = go (known h) e
-    where
-      go : (b : Bool) → cond b (G.Handed (handedOf h)) G.Unknown ≡ G.Handed t → (b ≡ true) × (t ≡ handedOf h)
-      go true e = (refl, cc)
-      go false e = absurd (ungiven t (sym e))
+  given-good t e = taken G.Handed G.Unknown ungiven (λ a b q. cc) (known h) (handedOf h) t e
 
 -- ---- decimal days
 pub read-known : (x : Float) (c : ℕ) (s : Scale) → namedBy c ≡ N.Scale s → timeOut (readOf x s) ≡ decimalRead x c
@@ -101,7 +124,7 @@ unknown-tai c e =
     let h : 2 < c = leb-false c 2 e in
     rw (ne-eqb c 1 (λ q. omega arith), ne-eqb c 2 (λ q. omega arith))
 
-pub read-unknown : (x : Float) (c : ℕ) → namedBy c ≡ N.Unknown → record { refusal = 3; scale = 0; day = pos 0; micro = 0 } ≡ decimalRead x c
+pub read-unknown : (x : Float) (c : ℕ) → namedBy c ≡ N.Unknown → emptyOut 3 0 ≡ decimalRead x c
 unfolding decimalRead
 read-unknown x c e = let k = named-bad c e in rw (k, unknown-tai c k)
 
@@ -148,7 +171,7 @@ module _ (h : VrkHanded) (c : VrkGoceCorrelation) (ds : List ℤ) (os : List ℕ
 
 -- ---- changes of scale
 module _ (h : VrkHanded) (c : ℕ) (ds : List ℤ) (os : List ℕ) (e : ℤ) where
-  pub change-unknown : namedBy c ≡ N.Unknown → record { refusal = 3; scale = 0; day = pos 0; micro = 0 } ≡ changed h c ds os e
+  pub change-unknown : namedBy c ≡ N.Unknown → emptyOut 3 0 ≡ changed h c ds os e
   unfolding changed
   change-unknown f = let k = named-bad c f in rw (k, unknown-tai c k)
 
@@ -157,6 +180,6 @@ module _ (h : VrkHanded) (c : ℕ) (ds : List ℤ) (os : List ℕ) (e : ℤ) whe
     unfolding changed changeOf
     change-known t g = let k = named-good c s f in let l = given-good h t g in rw (k .0, l .0, k .1, l .1)
 
-    pub change-kind : givenOf h ≡ G.Unknown → record { refusal = 3; scale = codeOf s; day = pos 0; micro = 0 } ≡ changed h c ds os e
+    pub change-kind : givenOf h ≡ G.Unknown → emptyOut 3 (codeOf s) ≡ changed h c ds os e
     unfolding changed
     change-kind g = let k = named-good c s f in rw (k .0, given-bad h g, k .1)

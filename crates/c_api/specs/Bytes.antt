@@ -1,9 +1,7 @@
 -- What the functions on bytes of the C interface mean. Assumes nothing.
-use mathlib.Core.Bool.{Bool, cond}
 use mathlib.Core.List.{List}
 use Prim.Native.Nat.{ℕ}
-use lib.Dec.{eqb, leb}
-use Rattle.scales.specs.Meaning.{codeOf, Judged, given, outcome, Wrote, written}
+use Rattle.scales.specs.Meaning.{Judged, given, outcome, Wrote, written}
 use Rattle.handed.specs.declared.Handed.{Handed}
 use Rattle.layout_times.specs.Cuc as Cuc
 use Rattle.layout_times.specs.Cryosat as Cryosat
@@ -12,24 +10,10 @@ use Rattle.layout_times.specs.Proteus as Proteus
 use Rattle.c_api.specs.Meaning.{known, handedOf}
 use Rattle.c_api.specs.declared.VrkHanded.{VrkHanded}
 use Rattle.c_api.specs.declared.bytes.VrkWritten.{VrkWritten}
-use Rattle.c_api.specs.declared.bytes.VrkProteus.{VrkProteus}
 use Rattle.c_api.specs.declared.bytes.Layout.{Layout}
 use Rattle.c_api.specs.declared.bytes.Layout.the-variants as L
 
 -- ---- what is handed out
-abbrev pub bitOf : Bool → ℕ
-bitOf b = cond b 1 0
-
-abbrev pub proteusOut : Proteus.Stamped → VrkProteus
-proteusOut s =
-    record {
-      refusal = s .slip .number;
-      scale = codeOf (s .slip .scale);
-      day = s .slip .day;
-      micro = s .slip .micro;
-      h3 = bitOf (s .h3);
-    }
-
 -- the second argument is the lent slice as the writer leaves it
 abbrev pub wroteOf : VrkWritten → List ℕ → Wrote ℕ
 wroteOf r out = record { number = r .refusal; length = r .length; lent = out }
@@ -43,14 +27,9 @@ handedWriting m h out =
     given (known h) 3
     (m (handedOf h) out)
 
-abbrev pub proteusWriting : ℕ → Handed → List ℕ → Judged (List ℕ)
-proteusWriting h3 t out =
-    given (leb h3 1) 3
-    (Proteus.writing t (eqb h3 1) out)
-
 -- ---- the inner answers
 abbrev pub writingOf : Layout → Handed → List ℕ → Judged (List ℕ)
 writingOf L.Cuc t = Cuc.writing t
 writingOf L.Cryosat t = Cryosat.writing t
 writingOf L.Siral t = Siral.writing t
-writingOf (L.Proteus h3) t = Proteus.writing t h3
+writingOf L.Proteus t = Proteus.writing t

@@ -1,3 +1,4 @@
+pub mod Marks
 pub mod Meaning
 pub mod Bytes
 pub mod Parts

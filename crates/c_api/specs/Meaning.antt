@@ -1,20 +1,23 @@
--- What the structs and codes of the C interface stand for. A code that stands for nothing is refused 3, before all else.
--- Assumes nothing.
-use mathlib.Core.Bool.{Bool, cond, _&&_}
+-- What the structs and codes of the C interface stand for. A code that stands for nothing is refused 3, before all else. The
+-- header's words are quoted. Assumes nothing.
+use mathlib.Core.Bool.{Bool, cond, not, _&&_, _||_}
 use mathlib.Core.List.{List}
 use Prim.Native.Nat.{ℕ}
 use lib.Dec.{eqb, leb}
-use lib.IntN.{ℤ}
+use lib.IntN.{ℤ, pos}
 use lib.Ieee.{Float}
 use Rattle.axis.specs.Meaning.{Moment}
+use Rattle.handed.specs.Meaning.{markOf}
 use Rattle.handed.specs.declared.Handed.{Handed}
 use Rattle.handed.specs.declared.Handed.the-variants as H
-use Rattle.scales.specs.Meaning.{codeOf, scaleAt, given, outcome, Slip, dated, recordOf, Judged, Valued, valued}
+use Rattle.scales.specs.Meaning.{codeOf, scaleAt, given, outcome, Slip, datedAs, dated, recordOf, markedRecord, Judged, Valued, valued}
+use Rattle.scales.specs.declared.Scale.{Scale}
 use Rattle.decimal.specs.Meaning.{reading, writing, Allowed}
 use Rattle.sbt.specs.Meaning.{dateOf, turning}
 use Rattle.sbt.specs.declared.Correlation.{Correlation}
 use Rattle.leap.specs.Meaning.{accepted}
 use Rattle.changes.specs.Meaning.{changing}
+use Rattle.c_api.specs.Marks.{knownMark, markAt, markCode, markSource}
 use Rattle.c_api.specs.declared.VrkSbtCorrelation.{VrkSbtCorrelation}
 use Rattle.c_api.specs.declared.VrkCount.{VrkCount}
 use Rattle.c_api.specs.declared.VrkTime.{VrkTime}
@@ -30,17 +33,37 @@ abbrev pub knownScale : ℕ → Bool
 knownScale c = leb c 2
 
 -- ---- what is handed in: kind 0 a record, kind 1 a decimal day
-abbrev pub known : VrkHanded → Bool
-known h = knownScale (h .scale) && leb (h .kind) 1
+abbrev pub isRecord : VrkHanded → Bool
+isRecord h = eqb (h .kind) 0
 
+-- an unknown scale, an unknown kind, and of a record an unknown mark stand for nothing
+abbrev pub known : VrkHanded → Bool
+known h = knownScale (h .scale) && (leb (h .kind) 1 && (not (isRecord h) || knownMark (h .mark) (h .source)))
+
+abbrev recordIn : Scale → ℤ → ℕ → ℕ → ℕ → Handed
+recordIn s d u c x = H.Record (markedRecord (markAt c x) (recordOf s d u))
+
+-- "Of a record `decimal` is ignored; of a decimal day `day`, `micro`, `mark` and `source` are"
 abbrev pub handedOf : VrkHanded → Handed
 handedOf h =
-    cond (eqb (h .kind) 0) (H.Record (recordOf (scaleAt (h .scale)) (h .day) (h .micro)))
+    cond (isRecord h) (recordIn (scaleAt (h .scale)) (h .day) (h .micro) (h .mark) (h .source))
     (H.Decimal (h .decimal) (scaleAt (h .scale)))
 
 -- ---- what is handed out
 abbrev pub timeOut : Slip → VrkTime
-timeOut s = record { refusal = s .number; scale = codeOf (s .scale); day = s .day; micro = s .micro }
+timeOut s =
+    record {
+      refusal = s .number;
+      scale = codeOf (s .scale);
+      day = s .day;
+      micro = s .micro;
+      mark = markCode (s .mark);
+      source = markSource (s .mark);
+    }
+
+-- "With a refusal the other fields are empty", but for the code of the scale "that the answer would have had"
+abbrev pub emptyOut : ℕ → ℕ → VrkTime
+emptyOut n c = record { refusal = n; scale = c; day = pos 0; micro = 0; mark = 0; source = 0 }
 
 abbrev pub countOut : Valued ℕ → VrkCount
 countOut v = record { refusal = v .number; count = v .value }
@@ -82,12 +105,17 @@ changingOf h c ds os e =
     given (knownScale c && known h) 3
     (changing (handedOf h) (scaleAt c) ds os e)
 
+-- "with the mark that was given"
 unfoldable pub changed : VrkHanded → ℕ → List ℤ → List ℕ → ℤ → VrkTime
-changed h c ds os e = timeOut (dated (scaleAt c) (outcome (changingOf h c ds os e)))
+changed h c ds os e = timeOut (datedAs (markOf (handedOf h)) (scaleAt c) (outcome (changingOf h c ds os e)))
 
 -- ---- the inner answers
 unfoldable pub namedBy : ℕ → ScaleNamed
 namedBy c = cond (knownScale c) (N.Scale (scaleAt c)) N.Unknown
+
+-- a record of a known scale
+unfoldable pub recordGiven : Scale → ℤ → ℕ → ℕ → ℕ → Given
+recordGiven s d u c x = cond (knownMark c x) (G.Handed (recordIn s d u c x)) G.Unknown
 
 unfoldable pub givenOf : VrkHanded → Given
 givenOf h = cond (known h) (G.Handed (handedOf h)) G.Unknown

@@ -13,7 +13,7 @@ use Rattle.layout_fields.specs.declared.cuc.Fields as CucFields
 use Rattle.layout_fields.specs.declared.proteus.Fields as ProteusFields
 use Rattle.layout_fields.specs.declared.cryosat.Fields as CryosatFields
 use Rattle.layout_fields.specs.declared.siral.Fields as SiralFields
-use Rattle.c_api.specs.Bytes.{bitOf}
+use Rattle.c_api.specs.Marks.{bitOf}
 use Rattle.c_api.specs.declared.parts.VrkCucFields.{VrkCucFields}
 use Rattle.c_api.specs.declared.parts.VrkProteusFields.{VrkProteusFields}
 use Rattle.c_api.specs.declared.parts.VrkCryosatFields.{VrkCryosatFields}

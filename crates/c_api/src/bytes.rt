@@ -9,9 +9,9 @@ ghost use Rattle.layout_fields.specs.Sbt.{read as sbtRead, write as sbtWrite};
 ghost use Rattle.layout_times.specs.Cuc.{read as cucRead, writing as cucWriting};
 ghost use Rattle.layout_times.specs.Cryosat.{read as cryosatRead, writing as cryosatWriting};
 ghost use Rattle.layout_times.specs.Siral.{read as siralRead, writing as siralWriting};
-ghost use Rattle.layout_times.specs.Proteus.{read as proteusRead};
+ghost use Rattle.layout_times.specs.Proteus.{read as proteusRead, writing as proteusWriting};
 ghost use Rattle.c_api.specs.Meaning.{timeOut, countOut};
-ghost use Rattle.c_api.specs.Bytes.{bitOf, proteusOut, wroteOf, writes, handedWriting, proteusWriting, writingOf};
+ghost use Rattle.c_api.specs.Bytes.{wroteOf, writes, handedWriting, writingOf};
 use crate::Given;
 use crate::VrkCount;
 use crate::VrkHanded;
@@ -19,7 +19,6 @@ use crate::VrkTime;
 use crate::hand;
 use crate::tick_out;
 use crate::time_out;
-use layout_times::proteus::ProteusDated;
 use scales::Counted;
 use scales::Tick;
 use scales::Written;
@@ -36,15 +35,6 @@ pub(crate) const REFUSED: VrkWritten = VrkWritten {
     length: 0,
 };
 
-#[repr(C)]
-pub struct VrkProteus {
-    pub refusal: u32,
-    pub scale: u32,
-    pub day: i64,
-    pub micro: u64,
-    pub h3: u32,
-}
-
 pub(crate) fn written_out(w: Written) -> VrkWritten
     ensures { λ r. ⌜ ((out : List ℕ) → wroteOf r out ≡ wrote w out) ⌝ }
 {
@@ -58,12 +48,6 @@ pub(crate) fn written_out(w: Written) -> VrkWritten
             length: 0,
         },
     }
-}
-
-pub(crate) fn bit(b: bool) -> u32
-    ensures { λ r. ⌜ r ≡ bitOf b ⌝ }
-{
-    if b { 1 } else { 0 }
 }
 
 #[no_mangle]
@@ -120,12 +104,12 @@ pub extern "C" fn vrk_sbt_read(bytes: &[u8]) -> VrkCount
     tick_out(layout_fields::sbt::read(bytes))
 }
 
-// The layouts of a time, Proteus with its H3.
+// The layouts of a time.
 enum Layout {
     Cuc,
     Cryosat,
     Siral,
-    Proteus(bool),
+    Proteus,
 }
 
 fn write_as(layout: Layout, time: VrkHanded, out: &mut [u8]) -> VrkWritten
@@ -137,7 +121,7 @@ fn write_as(layout: Layout, time: VrkHanded, out: &mut [u8]) -> VrkWritten
                 Layout::Cuc => layout_times::cuc::write(h, out),
                 Layout::Cryosat => layout_times::cryosat::write(h, out),
                 Layout::Siral => layout_times::siral::write(h, out),
-                Layout::Proteus(h3) => layout_times::proteus::write(h, h3, out),
+                Layout::Proteus => layout_times::proteus::write(h, out),
             };
             written_out(w)
         }
@@ -188,36 +172,15 @@ pub extern "C" fn vrk_sbt_write(tick: u32, out: &mut [u8]) -> VrkWritten
 }
 
 #[no_mangle]
-pub extern "C" fn vrk_proteus_read(bytes: &[u8]) -> VrkProteus
-    ensures { λ r. ⌜ r ≡ proteusOut (proteusRead (now (bytes .entry))) ⌝ }
+pub extern "C" fn vrk_proteus_read(bytes: &[u8]) -> VrkTime
+    ensures { λ r. ⌜ r ≡ timeOut (proteusRead (now (bytes .entry))) ⌝ }
 {
-    match layout_times::proteus::read(bytes) {
-        ProteusDated::At(r, h3) => {
-            let scale = r.scale;
-            VrkProteus {
-                refusal: 0,
-                scale: scale.code(),
-                day: r.day,
-                micro: r.micro,
-                h3: bit(h3),
-            }
-        }
-        ProteusDated::Refused(f) => VrkProteus {
-            refusal: f.number(),
-            scale: 1,
-            day: 0,
-            micro: 0,
-            h3: 0,
-        },
-    }
+    time_out(layout_times::proteus::read(bytes))
 }
 
 #[no_mangle]
-pub extern "C" fn vrk_proteus_write(time: VrkHanded, h3: u32, out: &mut [u8]) -> VrkWritten
-    ensures { λ r. ⌜ wroteOf r (now (out .exit)) ≡ writes (handedWriting (proteusWriting h3) time) (now (out .entry)) ⌝ }
+pub extern "C" fn vrk_proteus_write(time: VrkHanded, out: &mut [u8]) -> VrkWritten
+    ensures { λ r. ⌜ wroteOf r (now (out .exit)) ≡ writes (handedWriting proteusWriting time) (now (out .entry)) ⌝ }
 {
-    if 1 < h3 {
-        return REFUSED;
-    }
-    write_as(Layout::Proteus(h3 == 1), time, out)
+    write_as(Layout::Proteus, time, out)
 }

@@ -3,7 +3,7 @@
 ghost use mathlib.Core.Path.{_≡_};
 ghost use Rattle.scales.specs.Meaning.{slip, tickSlip};
 ghost use Rattle.decimal.specs.Meaning.{decimalSlip};
-ghost use Rattle.c_api.specs.Meaning.{namedBy, givenOf, timeOut, decimalOut, countOut, correlationOf, decimalRead, DecimalWrote, sbtDate, sbtTick, listAccepted, changed};
+ghost use Rattle.c_api.specs.Meaning.{namedBy, recordGiven, givenOf, emptyOut, timeOut, decimalOut, countOut, correlationOf, decimalRead, DecimalWrote, sbtDate, sbtTick, listAccepted, changed};
 use decimal::Decimal;
 use handed::Handed;
 use sbt::Correlation;
@@ -15,9 +15,15 @@ use scales::Ticked;
 
 pub mod bytes;
 pub mod counts;
+mod marks;
 pub mod parts;
 pub mod seasons;
 pub mod texts;
+
+use marks::MarkNamed;
+use marks::mark_code;
+use marks::mark_named;
+use marks::mark_source;
 
 #[repr(C)]
 pub struct VrkHanded {
@@ -26,6 +32,8 @@ pub struct VrkHanded {
     pub day: i64,
     pub micro: u64,
     pub decimal: f64,
+    pub mark: u32,
+    pub source: u64,
 }
 
 #[repr(C)]
@@ -34,6 +42,8 @@ pub struct VrkTime {
     pub scale: u32,
     pub day: i64,
     pub micro: u64,
+    pub mark: u32,
+    pub source: u64,
 }
 
 #[repr(C)]
@@ -84,21 +94,45 @@ fn scale_named(code: u32) -> ScaleNamed
     ScaleNamed::Unknown
 }
 
+// A record that a caller in C hands in: of a known scale, its mark by code and source.
+fn hand_record(scale: Scale, day: i64, micro: u64, code: u32, source: u64) -> Given
+    ensures { λ r. ⌜ r ≡ recordGiven scale day micro code source ⌝ }
+{
+    match mark_named(code, source) {
+        MarkNamed::Mark(mark) => {
+            Given::Handed(Handed::Record(Record::new(scale, day, micro).with_mark(mark)))
+        }
+        MarkNamed::Unknown => Given::Unknown,
+    }
+}
+
 // What a caller in C hands in.
 fn hand(h: VrkHanded) -> Given
     ensures { λ r. ⌜ r ≡ givenOf h ⌝ }
 {
-    let kind = h.kind;
     let ScaleNamed::Scale(scale) = scale_named(h.scale) else {
         return Given::Unknown;
     };
-    if kind == 0 {
-        return Given::Handed(Handed::Record(Record::new(scale, h.day, h.micro)));
+    let kind = h.kind;
+    match kind {
+        0 => hand_record(scale, h.day, h.micro, h.mark, h.source),
+        1 => Given::Handed(Handed::Decimal(h.decimal, scale)),
+        _ => Given::Unknown,
     }
-    if kind == 1 {
-        return Given::Handed(Handed::Decimal(h.decimal, scale));
+}
+
+// The empty time of a refusal, by its number and the code of its scale.
+fn empty_out(refusal: u32, scale: u32) -> VrkTime
+    ensures { λ r. ⌜ r ≡ emptyOut refusal scale ⌝ }
+{
+    VrkTime {
+        refusal,
+        scale,
+        day: 0,
+        micro: 0,
+        mark: 0,
+        source: 0,
     }
-    Given::Unknown
 }
 
 fn time_out(d: Dated) -> VrkTime
@@ -107,19 +141,17 @@ fn time_out(d: Dated) -> VrkTime
     match d {
         Dated::At(r) => {
             let scale = r.scale;
+            let mark = r.mark;
             VrkTime {
                 refusal: 0,
                 scale: scale.code(),
                 day: r.day,
                 micro: r.micro,
+                mark: mark_code(mark),
+                source: mark_source(mark),
             }
         }
-        Dated::Refused(f, scale) => VrkTime {
-            refusal: f.number(),
-            scale: scale.code(),
-            day: 0,
-            micro: 0,
-        },
+        Dated::Refused(f, scale) => empty_out(f.number(), scale.code()),
     }
 }
 
@@ -141,12 +173,7 @@ pub extern "C" fn vrk_decimal_read(day: f64, scale: u32) -> VrkTime
 {
     match scale_named(scale) {
         ScaleNamed::Scale(s) => time_out(decimal::read(day, s)),
-        ScaleNamed::Unknown => VrkTime {
-            refusal: 3,
-            scale: 0,
-            day: 0,
-            micro: 0,
-        },
+        ScaleNamed::Unknown => empty_out(3, 0),
     }
 }
 
@@ -269,20 +296,10 @@ pub extern "C" fn vrk_change(
     ensures { λ r. ⌜ r ≡ changed time «to_scale» (now (days .entry)) (now (offsets .entry)) last ⌝ }
 {
     let ScaleNamed::Scale(to) = scale_named(to_scale) else {
-        return VrkTime {
-            refusal: 3,
-            scale: 0,
-            day: 0,
-            micro: 0,
-        };
+        return empty_out(3, 0);
     };
     match hand(time) {
         Given::Handed(h) => time_out(changes::change(h, to, days, offsets, last)),
-        Given::Unknown => VrkTime {
-            refusal: 3,
-            scale: to.code(),
-            day: 0,
-            micro: 0,
-        },
+        Given::Unknown => empty_out(3, to.code()),
     }
 }

@@ -1,4 +1,6 @@
 pub mod One
+pub mod Marks
+pub mod Desks
 pub mod ReadersWrong
 pub mod TextsWrong
 pub mod WritersWrong

@@ -3,7 +3,7 @@ use mathlib.Core.Path.{refl}
 use mathlib.Core.List.{List, [], _∷_, reverse}
 use Prim.Native.Nat.{ℕ, _+_}
 use native.Mathlib.Omega.{arith}
-use lib.IntN.{ℤ, pos, negsuc}
+use lib.IntN.{pos, negsuc}
 use Rattle.evidence.specs.ShutOut.{ShutOut, differ}
 use Rattle.octets.specs.Meaning.{number, part}
 use Rattle.scales.specs.Meaning.{Valued}
@@ -18,16 +18,16 @@ use Rattle.layout_times.specs.Cuc as Cuc
 use Rattle.layout_times.specs.Proteus as Proteus
 use Rattle.layout_times.specs.Cryosat as Cryosat
 use Rattle.layout_times.specs.Siral as Siral
-use Rattle.c_api.specs.Meaning.{timeOut, countOut}
-use Rattle.c_api.specs.Bytes.{proteusOut}
+use Rattle.c_api.specs.Meaning.{emptyOut, timeOut, countOut}
 use Rattle.c_api.specs.Parts.{cucFields, proteusFields, cryosatFields, siralFields}
 use Rattle.c_api.specs.declared.VrkTime.{VrkTime}
 use Rattle.c_api.specs.declared.VrkCount.{VrkCount}
-use Rattle.c_api.specs.declared.bytes.VrkProteus.{VrkProteus}
 use Rattle.c_api.specs.declared.parts.VrkCucFields.{VrkCucFields}
 use Rattle.c_api.specs.declared.parts.VrkProteusFields.{VrkProteusFields}
 use Rattle.c_api.specs.declared.parts.VrkCryosatFields.{VrkCryosatFields}
 use Rattle.c_api.specs.declared.parts.VrkSiralFields.{VrkSiralFields}
+use Rattle.c_api_laws.proofs.Marks.{withH3}
+use Rattle.c_api_laws.proofs.Desks.{answered, plain, refusalIn, scaleIn, microIn, markIn, sourceIn, remarked, sourceLost}
 
 -- ---- wrong in any layout
 -- the bytes read from the last to the first
@@ -40,29 +40,20 @@ handsBack stands read s = record { number = read s .number; value = stands s }
 
 -- the codes of the scales counted from 1
 abbrev fromOne : VrkTime → VrkTime
-fromOne t = record { refusal = t .refusal; scale = t .scale + 1; day = t .day; micro = t .micro }
-
-abbrev time : ℕ → ℕ → ℤ → ℕ → VrkTime
-time n s d u = record { refusal = n; scale = s; day = d; micro = u }
+fromOne t = record { refusal = t .refusal; scale = t .scale + 1; day = t .day; micro = t .micro; mark = t .mark; source = t .source }
 
 abbrev counted : ℕ → ℕ → VrkCount
 counted n c = record { refusal = n; count = c }
-
-abbrev microIn : VrkTime → ℕ
-microIn t = t .micro
-
-abbrev scaleIn : VrkTime → ℕ
-scaleIn t = t .scale
 
 -- ---- vrk_cuc_read
 abbrev aSecond : List ℕ
 aSecond = 0 ∷ 0 ∷ 0 ∷ 1 ∷ 0 ∷ 0 ∷ []
 
-pub cuc-backwards : ShutOut (timeOut (Cuc.read aSecond)) (time 0 2 (negsuc 7299) 1000000) (timeOut (backwards Cuc.read aSecond)) (time 0 2 (negsuc 7299) 256000000)
+pub cuc-backwards : ShutOut (timeOut (Cuc.read aSecond)) (plain 2 (negsuc 7299) 1000000) (timeOut (backwards Cuc.read aSecond)) (plain 2 (negsuc 7299) 256000000)
 unfolding Cuc.read number
 cuc-backwards = (refl, refl, differ microIn (λ e. omega arith))
 
-pub cuc-from-one : ShutOut (timeOut (Cuc.read aSecond)) (time 0 2 (negsuc 7299) 1000000) (fromOne (timeOut (Cuc.read aSecond))) (time 0 3 (negsuc 7299) 1000000)
+pub cuc-from-one : ShutOut (timeOut (Cuc.read aSecond)) (plain 2 (negsuc 7299) 1000000) (fromOne (timeOut (Cuc.read aSecond))) (plain 3 (negsuc 7299) 1000000)
 unfolding Cuc.read number
 cuc-from-one = (refl, refl, differ scaleIn (λ e. omega arith))
 
@@ -70,11 +61,11 @@ cuc-from-one = (refl, refl, differ scaleIn (λ e. omega arith))
 abbrev aDay : List ℕ
 aDay = 0 ∷ 1 ∷ 0 ∷ 0 ∷ 0 ∷ 2 ∷ 0 ∷ 3 ∷ []
 
-pub cryosat-backwards : ShutOut (timeOut (Cryosat.read aDay)) (time 0 0 (pos 1) 2003) (timeOut (backwards Cryosat.read aDay)) (time 0 0 (pos 768) 33554432256)
+pub cryosat-backwards : ShutOut (timeOut (Cryosat.read aDay)) (plain 0 (pos 1) 2003) (timeOut (backwards Cryosat.read aDay)) (plain 0 (pos 768) 33554432256)
 unfolding Cryosat.read number
 cryosat-backwards = (refl, refl, differ microIn (λ e. omega arith))
 
-pub cryosat-from-one : ShutOut (timeOut (Cryosat.read aDay)) (time 0 0 (pos 1) 2003) (fromOne (timeOut (Cryosat.read aDay))) (time 0 1 (pos 1) 2003)
+pub cryosat-from-one : ShutOut (timeOut (Cryosat.read aDay)) (plain 0 (pos 1) 2003) (fromOne (timeOut (Cryosat.read aDay))) (plain 1 (pos 1) 2003)
 unfolding Cryosat.read number
 cryosat-from-one = (refl, refl, differ scaleIn (λ e. omega arith))
 
@@ -82,11 +73,11 @@ cryosat-from-one = (refl, refl, differ scaleIn (λ e. omega arith))
 abbrev aDayMore : List ℕ
 aDayMore = 0 ∷ 1 ∷ 0 ∷ 0 ∷ 0 ∷ 2 ∷ 0 ∷ 3 ∷ 0 ∷ 4 ∷ []
 
-pub siral-backwards : ShutOut (timeOut (Siral.read aDayMore)) (time 0 0 (pos 1) 2011) (timeOut (backwards Siral.read aDayMore)) (time 0 0 (pos 1024) 50332160528)
+pub siral-backwards : ShutOut (timeOut (Siral.read aDayMore)) (plain 0 (pos 1) 2011) (timeOut (backwards Siral.read aDayMore)) (plain 0 (pos 1024) 50332160528)
 unfolding Siral.read number
 siral-backwards = (refl, refl, differ microIn (λ e. omega arith))
 
-pub siral-from-one : ShutOut (timeOut (Siral.read aDayMore)) (time 0 0 (pos 1) 2011) (fromOne (timeOut (Siral.read aDayMore))) (time 0 1 (pos 1) 2011)
+pub siral-from-one : ShutOut (timeOut (Siral.read aDayMore)) (plain 0 (pos 1) 2011) (fromOne (timeOut (Siral.read aDayMore))) (plain 1 (pos 1) 2011)
 unfolding Siral.read number
 siral-from-one = (refl, refl, differ scaleIn (λ e. omega arith))
 
@@ -121,23 +112,19 @@ unfolding Sbt.read number
 sbt-hands-back = (refl, refl, differ (λ (c : VrkCount). c .count) (λ e. omega arith))
 
 -- ---- vrk_proteus_read
-abbrev marked : List ℕ
-marked = 0 ∷ 1 ∷ 0 ∷ 0 ∷ 0 ∷ 1 ∷ 0 ∷ 0 ∷ []
 
-abbrev stamp : ℕ → ℤ → ℕ → ℕ → VrkProteus
-stamp n d u h = record { refusal = n; scale = 1; day = d; micro = u; h3 = h }
-
-pub proteus-backwards : ShutOut (proteusOut (Proteus.read marked)) (stamp 0 (negsuc 7299) 1000000 1) (proteusOut (backwards Proteus.read marked)) (stamp 3 (pos 0) 0 0)
+pub proteus-backwards : ShutOut (timeOut (Proteus.read withH3)) (answered 1 (negsuc 7299) 1000000 1 1) (timeOut (backwards Proteus.read withH3)) (emptyOut 3 1)
 unfolding Proteus.read number
-proteus-backwards = (refl, refl, differ (λ (t : VrkProteus). t .refusal) (λ e. omega arith))
+proteus-backwards = (refl, refl, differ refusalIn (λ e. omega arith))
 
--- H3 lost on the way
-abbrev noH3 : VrkProteus → VrkProteus
-noH3 t = record { refusal = t .refusal; scale = t .scale; day = t .day; micro = t .micro; h3 = 0 }
-
-pub proteus-no-h3 : ShutOut (proteusOut (Proteus.read marked)) (stamp 0 (negsuc 7299) 1000000 1) (noH3 (proteusOut (Proteus.read marked))) (stamp 0 (negsuc 7299) 1000000 0)
+pub proteus-no-h3 : ShutOut (timeOut (Proteus.read withH3)) (answered 1 (negsuc 7299) 1000000 1 1) (sourceLost (timeOut (Proteus.read withH3))) (answered 1 (negsuc 7299) 1000000 1 0)
 unfolding Proteus.read number
-proteus-no-h3 = (refl, refl, differ (λ (t : VrkProteus). t .h3) (λ e. omega arith))
+proteus-no-h3 = (refl, refl, differ sourceIn (λ e. omega arith))
+
+-- every time from Proteus marked, a refusal's empty one too: no bytes
+pub proteus-refusal-marked : ShutOut (timeOut (Proteus.read [])) (emptyOut 1 1) (remarked 1 0 (timeOut (Proteus.read []))) (record { refusal = 1; scale = 1; day = pos 0; micro = 0; mark = 1; source = 0 })
+unfolding Proteus.read number
+proteus-refusal-marked = (refl, refl, differ markIn (λ e. omega arith))
 
 -- ---- vrk_cuc_fields_read
 abbrev cucParts : ℕ → ℕ → ℕ → VrkCucFields

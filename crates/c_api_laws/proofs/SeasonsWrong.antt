@@ -1,6 +1,5 @@
 -- Wrong covers of the season's question for C, each shut out by a file at which its answer is not the meaning's. Assumes nothing.
-use mathlib.Core.Path.{_≡_, refl, ap}
-use Prim.Native.Nat.{ℕ}
+use mathlib.Core.Path.{ap}
 use native.Mathlib.Omega.{arith}
 use lib.IntN.{pos, natAbs}
 use Rattle.evidence.specs.ShutOut.{ShutOut, shut, differ}

@@ -1,8 +1,10 @@
 -- Wrong writers for C, each shut out by an input at which its answer is not the meaning's. Assumes nothing.
 use mathlib.Core.Path.{refl}
+use mathlib.Core.Bool.{cond}
 use mathlib.Core.List.{List, [], _∷_}
 use Prim.Native.Nat.{ℕ, _+_, _%_, _^_}
 use native.Mathlib.Omega.{arith}
+use lib.Dec.{eqb}
 use lib.IntN.{ℤ, pos, negsuc}
 use Rattle.evidence.specs.ShutOut.{ShutOut, differ}
 use Rattle.octets.specs.Meaning.{field, hasRoom}
@@ -14,22 +16,26 @@ use Rattle.layout_fields.specs.Obet as Obet
 use Rattle.layout_fields.specs.Sbt as Sbt
 use Rattle.layout_times.specs.Meaning.{lastTo}
 use Rattle.layout_times.specs.Cuc as Cuc
+use Rattle.layout_times.specs.Proteus as Proteus
 use Rattle.layout_times.specs.Cryosat as Cryosat
 use Rattle.layout_times.specs.Siral as Siral
-use Rattle.c_api.specs.Bytes.{writes, handedWriting, proteusWriting}
+use Rattle.c_api.specs.Marks.{knownMark}
+use Rattle.c_api.specs.Bytes.{writes, handedWriting}
 use Rattle.c_api.specs.Parts.{cucFieldsWriting, proteusFieldsWriting, cryosatFieldsWriting, siralFieldsWriting}
 use Rattle.c_api.specs.declared.VrkHanded.{VrkHanded}
+use Rattle.c_api_laws.proofs.Marks.{markedWith}
+use Rattle.c_api_laws.proofs.Desks.{unknownIsPlain}
 
 -- ---- what is handed in, and what is lent
 abbrev handed : ℕ → ℕ → ℤ → ℕ → VrkHanded
-handed k s d u = record { kind = k; scale = s; day = d; micro = u; decimal = plusZero }
+handed k s d u = record { kind = k; scale = s; day = d; micro = u; decimal = plusZero; mark = 0; source = 0 }
 
 abbrev lengthIn : Wrote ℕ → ℕ
 lengthIn w = w .length
 
 -- a kind cut to its last bit, a scale to its last two: what stands for nothing is taken for a record, or for TAI, UTC or GPS
 abbrev lastBits : VrkHanded → VrkHanded
-lastBits h = record { kind = h .kind % 2; scale = h .scale % 4; day = h .day; micro = h .micro; decimal = h .decimal }
+lastBits h = record { kind = h .kind % 2; scale = h .scale % 4; day = h .day; micro = h .micro; decimal = h .decimal; mark = h .mark; source = h .source }
 
 -- ---- vrk_cuc_write
 -- an unknown kind judged after the room
@@ -73,12 +79,29 @@ pub cryosat-made-up :
 unfolding writes field
 cryosat-made-up = (refl, refl, differ lengthIn (λ e. omega arith))
 
+-- a decimal day refused for its mark: day 0
+abbrev everyMark : VrkHanded → List ℕ → Wrote ℕ
+everyMark h out = written out (outcome (given (knownMark (h .mark) (h .source)) 3 (handedWriting Cryosat.writing h out)))
+
+pub cryosat-decimal-mark :
+    ShutOut (writes (handedWriting Cryosat.writing (markedWith 3 0 (handed 1 0 (pos 0) 0))) (sevens 8)) (got 8 (0 ∷ 0 ∷ 0 ∷ 0 ∷ 0 ∷ 0 ∷ 0 ∷ 0 ∷ []))
+    (everyMark (markedWith 3 0 (handed 1 0 (pos 0) 0)) (sevens 8)) (keeps 3 (sevens 8))
+unfolding writes field
+cryosat-decimal-mark = (refl, refl, differ lengthIn (λ e. omega arith))
+
 -- ---- vrk_siral_write
 pub siral-kind-cut :
     ShutOut (writes (handedWriting Siral.writing (handed 2 0 (pos 1) 2003)) (sevens 10)) (keeps 3 (sevens 10))
     (writes (handedWriting Siral.writing (lastBits (handed 2 0 (pos 1) 2003))) (sevens 10)) (got 10 (0 ∷ 1 ∷ 0 ∷ 0 ∷ 0 ∷ 2 ∷ 0 ∷ 3 ∷ 0 ∷ 0 ∷ []))
 unfolding writes field
 siral-kind-cut = (refl, refl, differ lengthIn (λ e. omega arith))
+
+-- an unknown mark taken for plain
+pub siral-mark-plain :
+    ShutOut (writes (handedWriting Siral.writing (markedWith 3 0 (handed 0 0 (pos 1) 2003))) (sevens 10)) (keeps 3 (sevens 10))
+    (writes (handedWriting Siral.writing (unknownIsPlain (markedWith 3 0 (handed 0 0 (pos 1) 2003)))) (sevens 10)) (got 10 (0 ∷ 1 ∷ 0 ∷ 0 ∷ 0 ∷ 2 ∷ 0 ∷ 3 ∷ 0 ∷ 0 ∷ []))
+unfolding writes field
+siral-mark-plain = (refl, refl, differ lengthIn (λ e. omega arith))
 
 pub siral-scribbling :
     ShutOut (writes (handedWriting Siral.writing (handed 0 0 (pos 1) 2003)) (sevens 2)) (keeps 13 (sevens 2))
@@ -122,15 +145,39 @@ unfolding Sbt.write field
 sbt-scribbling = (refl, refl, differ (bytesAt 0) (λ e. omega arith))
 
 -- ---- vrk_proteus_write: the first second of week 0
-pub proteus-h3-cut :
-    ShutOut (writes (handedWriting (proteusWriting 3) (handed 0 1 (negsuc 7299) 0)) (sevens 8)) (keeps 3 (sevens 8))
-    (writes (handedWriting (proteusWriting (3 % 2)) (handed 0 1 (negsuc 7299) 0)) (sevens 8)) (got 8 (0 ∷ 1 ∷ 0 ∷ 0 ∷ 0 ∷ 0 ∷ 0 ∷ 0 ∷ []))
+abbrev firstSecond : ℕ → ℕ → VrkHanded
+firstSecond m x = markedWith m x (handed 0 1 (negsuc 7299) 0)
+
+-- a source of Proteus that is neither 0 nor 1, cut to its last bit
+pub proteus-source-cut :
+    ShutOut (writes (handedWriting Proteus.writing (firstSecond 1 2)) (sevens 8)) (keeps 3 (sevens 8))
+    (writes (handedWriting Proteus.writing (firstSecond 1 (2 % 2))) (sevens 8)) (got 8 (0 ∷ 0 ∷ 0 ∷ 0 ∷ 0 ∷ 0 ∷ 0 ∷ 0 ∷ []))
 unfolding writes field lastTo
-proteus-h3-cut = (refl, refl, differ lengthIn (λ e. omega arith))
+proteus-source-cut = (refl, refl, differ lengthIn (λ e. omega arith))
+
+-- and taken for H3, as any that is not 0
+abbrev notZero : ℕ → ℕ
+notZero x = cond (eqb x 0) 0 1
+
+pub proteus-source-taken :
+    ShutOut (writes (handedWriting Proteus.writing (firstSecond 1 2)) (sevens 8)) (keeps 3 (sevens 8))
+    (writes (handedWriting Proteus.writing (firstSecond 1 (notZero 2))) (sevens 8)) (got 8 (0 ∷ 1 ∷ 0 ∷ 0 ∷ 0 ∷ 0 ∷ 0 ∷ 0 ∷ []))
+unfolding writes field lastTo
+proteus-source-taken = (refl, refl, differ lengthIn (λ e. omega arith))
+
+-- H3 from the source, whatever the mark: a correlated time, its reference 1
+abbrev fromSource : VrkHanded → VrkHanded
+fromSource h = markedWith 1 (h .source) h
+
+pub proteus-source-alone :
+    ShutOut (writes (handedWriting Proteus.writing (firstSecond 2 1)) (sevens 8)) (got 8 (0 ∷ 0 ∷ 0 ∷ 0 ∷ 0 ∷ 0 ∷ 0 ∷ 0 ∷ []))
+    (writes (handedWriting Proteus.writing (fromSource (firstSecond 2 1))) (sevens 8)) (got 8 (0 ∷ 1 ∷ 0 ∷ 0 ∷ 0 ∷ 0 ∷ 0 ∷ 0 ∷ []))
+unfolding writes field lastTo
+proteus-source-alone = (refl, refl, differ (bytesAt 1) (λ e. omega arith))
 
 pub proteus-scale-cut :
-    ShutOut (writes (handedWriting (proteusWriting 1) (handed 0 5 (negsuc 7299) 0)) (sevens 8)) (keeps 3 (sevens 8))
-    (writes (handedWriting (proteusWriting 1) (lastBits (handed 0 5 (negsuc 7299) 0))) (sevens 8)) (got 8 (0 ∷ 1 ∷ 0 ∷ 0 ∷ 0 ∷ 0 ∷ 0 ∷ 0 ∷ []))
+    ShutOut (writes (handedWriting Proteus.writing (markedWith 1 1 (handed 0 5 (negsuc 7299) 0))) (sevens 8)) (keeps 3 (sevens 8))
+    (writes (handedWriting Proteus.writing (lastBits (markedWith 1 1 (handed 0 5 (negsuc 7299) 0)))) (sevens 8)) (got 8 (0 ∷ 1 ∷ 0 ∷ 0 ∷ 0 ∷ 0 ∷ 0 ∷ 0 ∷ []))
 unfolding writes field lastTo
 proteus-scale-cut = (refl, refl, differ lengthIn (λ e. omega arith))
 

@@ -7,8 +7,9 @@ use native.Mathlib.Omega.{arith}
 use lib.IntN.{ℤ, pos, negsuc}
 use lib.Ieee.{Float, nan}
 use Rattle.evidence.specs.ShutOut.{ShutOut, differ}
-use Rattle.scales.specs.Meaning.{scaleAt, given, outcome, dated, valued}
+use Rattle.scales.specs.Meaning.{scaleAt, given, outcome, datedAs, dated, valued}
 use Rattle.scales.specs.declared.Scale.the-variants as S
+use Rattle.handed.specs.Meaning.{markOf}
 use Rattle.decimal.specs.Meaning.{reading}
 use Rattle.clock.specs.Meaning.{inWindow, within, clock}
 use Rattle.sbt.specs.Meaning.{accepted, dating, dateOf, turning}
@@ -17,31 +18,33 @@ use Rattle.double.specs.Meaning.{plusZero}
 use Rattle.leap.specs.Meaning as L
 use Rattle.leap.specs.Meaning.{begins, risesFrom, rises, countsFrom, countsUp}
 use Rattle.changes.specs.Meaning.{changing}
-use Rattle.c_api.specs.Meaning.{knownScale, known, listAccepted, changed, handedOf, correlationOf, timeOut, countOut, decimalRead, DecimalWrote, sbtDate, sbtTick}
+use Rattle.c_api.specs.Meaning.{knownScale, known, listAccepted, changed, handedOf, correlationOf, emptyOut, timeOut, countOut, decimalRead, DecimalWrote, sbtDate, sbtTick}
 use Rattle.c_api.specs.declared.VrkSbtCorrelation.{VrkSbtCorrelation}
 use Rattle.c_api.specs.declared.VrkCount.{VrkCount}
 use Rattle.c_api.specs.declared.VrkTime.{VrkTime}
 use Rattle.c_api.specs.declared.VrkHanded.{VrkHanded}
 use Rattle.c_api.specs.declared.VrkDecimal.{VrkDecimal}
 use Rattle.c_api_laws.proofs.One.{decimal-one}
+use Rattle.c_api_laws.proofs.Marks.{markedWith}
+use Rattle.c_api_laws.proofs.Desks.{answered, plain, refusalIn, scaleIn, markIn, sourceIn, remarked, sourceLost, unknownIsPlain}
 
 -- ---- vrk_decimal_read
 -- an unknown scale taken for TAI
 abbrev unknownIsTai : Float → ℕ → VrkTime
 unknownIsTai x c = timeOut (dated (scaleAt c) (outcome (reading x (scaleAt c))))
 
-pub read-unknown : ShutOut (decimalRead plusZero 3) (record { refusal = 3; scale = 0; day = pos 0; micro = 0 }) (unknownIsTai plusZero 3) (record { refusal = 0; scale = 0; day = pos 0; micro = 0 })
+pub read-unknown : ShutOut (decimalRead plusZero 3) (emptyOut 3 0) (unknownIsTai plusZero 3) (plain 0 (pos 0) 0)
 unfolding decimalRead
-read-unknown = (refl, refl, differ (λ (t : VrkTime). t .refusal) (λ e. omega arith))
+read-unknown = (refl, refl, differ refusalIn (λ e. omega arith))
 
 -- an unknown scale judged after what the day brings
-pub read-four-first : ShutOut (decimalRead nan 3) (record { refusal = 3; scale = 0; day = pos 0; micro = 0 }) (unknownIsTai nan 3) (record { refusal = 4; scale = 0; day = pos 0; micro = 0 })
+pub read-four-first : ShutOut (decimalRead nan 3) (emptyOut 3 0) (unknownIsTai nan 3) (emptyOut 4 0)
 unfolding decimalRead
-read-four-first = (refl, refl, differ (λ (t : VrkTime). t .refusal) (λ e. omega arith))
+read-four-first = (refl, refl, differ refusalIn (λ e. omega arith))
 
 -- ---- vrk_decimal_write: its contract is a relation, which allows a; the wrong program answers b, which it does not
 abbrev strange : VrkHanded
-strange = record { kind = 2; scale = 0; day = pos 0; micro = 0; decimal = plusZero }
+strange = record { kind = 2; scale = 0; day = pos 0; micro = 0; decimal = plusZero; mark = 0; source = 0 }
 
 right : DecimalWrote strange (record { refusal = 3; day = plusZero })
 unfolding DecimalWrote
@@ -75,29 +78,31 @@ dead scale = record { tick = 7; scale = scale; day = pos 0; micro = 0; period = 
 abbrev datedBare : ℕ → VrkSbtCorrelation → VrkTime
 datedBare t c = sbtDate t c (pos 0) 0 [] [] (pos 0)
 
-abbrev timed : ℕ → ℕ → VrkTime
-timed n u = record { refusal = n; scale = 0; day = pos 0; micro = u }
-
 -- an unknown scale taken for TAI
 abbrev takenForTai : VrkSbtCorrelation → VrkSbtCorrelation
 takenForTai c = record { tick = c .tick; scale = 0; day = c .day; micro = c .micro; period = c .period; back = c .back; ahead = c .ahead }
 
-pub date-unknown : ShutOut (datedBare 7 (dead 3)) (timed 6 0) (datedBare 7 (takenForTai (dead 3))) (timed 0 0)
+pub date-unknown : ShutOut (datedBare 7 (dead 3)) (emptyOut 6 0) (datedBare 7 (takenForTai (dead 3))) (answered 0 (pos 0) 0 2 7)
 unfolding sbtDate correlationOf dateOf accepted inWindow within clock
-date-unknown = (refl, refl, differ (λ (t : VrkTime). t .refusal) (λ e. omega arith))
+date-unknown = (refl, refl, differ refusalIn (λ e. omega arith))
 
 -- the list judged, though the scale is unknown
 abbrev listFirst : ℕ → VrkSbtCorrelation → VrkTime
 listFirst t c = timeOut (dated S.Tai (outcome (given (L.accepted [] [] (pos 0)) 5 (dating (correlationOf c) t (pos 0) 0 [] [] (pos 0)))))
 
-pub date-unknown-list : ShutOut (datedBare 7 (dead 3)) (timed 6 0) (listFirst 7 (dead 3)) (timed 5 0)
+pub date-unknown-list : ShutOut (datedBare 7 (dead 3)) (emptyOut 6 0) (listFirst 7 (dead 3)) (emptyOut 5 0)
 unfolding sbtDate correlationOf dateOf accepted L.accepted
-date-unknown-list = (refl, refl, differ (λ (t : VrkTime). t .refusal) (λ e. omega arith))
+date-unknown-list = (refl, refl, differ refusalIn (λ e. omega arith))
 
 -- the window left to the caller
-pub date-window : ShutOut (datedBare 8 (dead 0)) (timed 8 0) (datedBare 8 (record { tick = 7; scale = 0; day = pos 0; micro = 0; period = 3906250000; back = 1; ahead = 1 })) (timed 0 3906)
+pub date-window : ShutOut (datedBare 8 (dead 0)) (emptyOut 8 0) (datedBare 8 (record { tick = 7; scale = 0; day = pos 0; micro = 0; period = 3906250000; back = 1; ahead = 1 })) (answered 0 (pos 0) 3906 2 7)
 unfolding sbtDate correlationOf dateOf accepted inWindow within clock
-date-window = (refl, refl, differ (λ (t : VrkTime). t .refusal) (λ e. omega arith))
+date-window = (refl, refl, differ refusalIn (λ e. omega arith))
+
+-- the reference lost
+pub date-source-lost : ShutOut (datedBare 7 (dead 0)) (answered 0 (pos 0) 0 2 7) (sourceLost (datedBare 7 (dead 0))) (answered 0 (pos 0) 0 2 0)
+unfolding sbtDate correlationOf dateOf accepted inWindow within clock
+date-source-lost = (refl, refl, differ sourceIn (λ e. omega arith))
 
 -- ---- vrk_sbt_tick
 abbrev tickBare : VrkHanded → VrkSbtCorrelation → VrkCount
@@ -139,22 +144,47 @@ list-swapped = (refl, refl, λ e. omega arith)
 -- ---- vrk_change
 -- the empty record of the scale that was handed in
 abbrev fromScaleEmpty : VrkHanded → ℕ → List ℤ → List ℕ → ℤ → VrkTime
-fromScaleEmpty h c ds os e = timeOut (dated (scaleAt (h .scale)) (outcome (given (knownScale c && known h) 3 (changing (handedOf h) (scaleAt c) ds os e))))
+fromScaleEmpty h c ds os e = timeOut (datedAs (markOf (handedOf h)) (scaleAt (h .scale)) (outcome (given (knownScale c && known h) 3 (changing (handedOf h) (scaleAt c) ds os e))))
 
 abbrev late : VrkHanded
-late = record { kind = 0; scale = 0; day = pos 36525; micro = 0; decimal = plusZero }
+late = record { kind = 0; scale = 0; day = pos 36525; micro = 0; decimal = plusZero; mark = 0; source = 0 }
 
-pub change-empty : ShutOut (changed late 2 [] [] (pos 0)) (record { refusal = 7; scale = 2; day = pos 0; micro = 0 }) (fromScaleEmpty late 2 [] [] (pos 0)) (record { refusal = 7; scale = 0; day = pos 0; micro = 0 })
+pub change-empty : ShutOut (changed late 2 [] [] (pos 0)) (emptyOut 7 2) (fromScaleEmpty late 2 [] [] (pos 0)) (emptyOut 7 0)
 unfolding changed
-change-empty = (refl, refl, differ (λ (t : VrkTime). t .scale) (λ e. omega arith))
+change-empty = (refl, refl, differ scaleIn (λ e. omega arith))
 
 -- an unknown scale wanted, taken for TAI
 abbrev wantsTai : VrkHanded → ℕ → List ℤ → List ℕ → ℤ → VrkTime
-wantsTai h c ds os e = timeOut (dated (scaleAt c) (outcome (given (known h) 3 (changing (handedOf h) (scaleAt c) ds os e))))
+wantsTai h c ds os e = timeOut (datedAs (markOf (handedOf h)) (scaleAt c) (outcome (given (known h) 3 (changing (handedOf h) (scaleAt c) ds os e))))
 
 abbrev today : VrkHanded
-today = record { kind = 0; scale = 0; day = pos 0; micro = 5; decimal = plusZero }
+today = record { kind = 0; scale = 0; day = pos 0; micro = 5; decimal = plusZero; mark = 0; source = 0 }
 
-pub change-wanted : ShutOut (changed today 3 [] [] (pos 0)) (record { refusal = 3; scale = 0; day = pos 0; micro = 0 }) (wantsTai today 3 [] [] (pos 0)) (record { refusal = 0; scale = 0; day = pos 0; micro = 5 })
+pub change-wanted : ShutOut (changed today 3 [] [] (pos 0)) (emptyOut 3 0) (wantsTai today 3 [] [] (pos 0)) (plain 0 (pos 0) 5)
 unfolding changed
-change-wanted = (refl, refl, differ (λ (t : VrkTime). t .refusal) (λ e. omega arith))
+change-wanted = (refl, refl, differ refusalIn (λ e. omega arith))
+
+-- the mark lost, or its source
+abbrev changedBare : VrkHanded → ℕ → VrkTime
+changedBare h c = changed h c [] [] (pos 0)
+
+pub change-mark-lost : ShutOut (changedBare (markedWith 1 1 today) 0) (answered 0 (pos 0) 5 1 1) (remarked 0 0 (changedBare (markedWith 1 1 today) 0)) (plain 0 (pos 0) 5)
+unfolding changed
+change-mark-lost = (refl, refl, differ markIn (λ e. omega arith))
+
+pub change-source-lost : ShutOut (changedBare (markedWith 2 9 today) 0) (answered 0 (pos 0) 5 2 9) (sourceLost (changedBare (markedWith 2 9 today) 0)) (answered 0 (pos 0) 5 2 0)
+unfolding changed
+change-source-lost = (refl, refl, differ sourceIn (λ e. omega arith))
+
+-- a refusal that keeps the mark's code
+abbrev keepsCode : VrkHanded → ℕ → VrkTime
+keepsCode h c = remarked (h .mark) (changedBare h c .source) (changedBare h c)
+
+pub change-mark-kept : ShutOut (changedBare (markedWith 2 9 late) 2) (emptyOut 7 2) (keepsCode (markedWith 2 9 late) 2) (remarked 2 0 (emptyOut 7 2))
+unfolding changed
+change-mark-kept = (refl, refl, differ markIn (λ e. omega arith))
+
+-- an unknown mark taken for plain
+pub change-mark-plain : ShutOut (changedBare (markedWith 3 0 today) 0) (emptyOut 3 0) (changedBare (unknownIsPlain (markedWith 3 0 today)) 0) (plain 0 (pos 0) 5)
+unfolding changed
+change-mark-plain = (refl, refl, differ refusalIn (λ e. omega arith))

@@ -1,12 +1,10 @@
 -- `c_api::vrk_change` meets its contract. Assumes nothing.
 use mathlib.Core.Path.{ap, sym, _∙_}
-use Prim.Native.Nat.{ℕ}
-use lib.IntN.{ℤ, pos}
+use lib.IntN.{ℤ}
 use denote.Ref.{now}
 use mir.Facts.{toZ-ofZ}
 use Rattle.changes.specs.Meaning.{changeOf}
-use Rattle.c_api.specs.Meaning.{timeOut}
-use Rattle.c_api.specs.declared.VrkTime.{VrkTime}
+use Rattle.c_api.specs.Meaning.{emptyOut, timeOut}
 use Rattle.c_api.proofs.Ways.{change-unknown, change-known, change-kind}
 use borrow.Author.Needs.{needs}
 use Rattle.c_api.proofs.vrk_change.Statement.{statement}
@@ -14,9 +12,11 @@ use Rattle.c_api.proofs.vrk_change.Tie as tie
 
 returns : tie.Need-returns
 returns c =
-    let b = c .before .before in
+    let u = c .before in
+    let b = u .before .before in
     let a = b .before .before .args in
-    change-unknown (a .time) (a .to-scale) (now (a .days)) (now (a .offsets)) (a .last) (sym (b .scale-named .ensures) ∙ c .enum-told .given .1)
+    c .empty-out .ensures
+    ∙ change-unknown (a .time) (a .to-scale) (now (a .days)) (now (a .offsets)) (a .last) (sym (b .scale-named .ensures) ∙ u .enum-told .given .1)
 
 returns-2 : tie.Need-returns-2
 returns-2 c =
@@ -36,12 +36,13 @@ returns-2 c =
 
 returns-3 : tie.Need-returns-3
 returns-3 c =
-    let k = c .before in
+    let n = c .before in
+    let k = n .before in
     let d = k .before .before in
     let o = d .before .before in
     let b = o .before .before in
     let a = b .before .before .args in
-    ap {B = VrkTime} (λ (n : ℕ). record { refusal = 3; scale = n; day = pos 0; micro = 0 }) (c .code .ensures)
+    c .empty-out2 .ensures ∙ ap (emptyOut 3) (n .code .ensures)
     ∙ change-kind (a .time) (a .to-scale) (now (a .days)) (now (a .offsets)) (a .last) (o .to .given .0 .0)
     (sym (b .scale-named .ensures) ∙ o .to .given .1) (sym (d .hand .ensures) ∙ k .enum-told2 .given .1)
 
@@ -52,12 +53,14 @@ vrk-change-spec =
     (λ c κs. search needs)
     (λ c. search needs)
     (λ c. search needs)
+    (λ c κs. search needs)
     returns
     (λ c κs. search needs)
     (λ c. search needs)
     (λ c κs. search needs)
     (λ c κs. search needs)
     (λ c. search needs)
+    (λ c κs. search needs)
     (λ c κs. search needs)
     returns-2
     returns-3)

@@ -17,9 +17,10 @@ returns c =
 
 returns-2 : tie.Need-returns-2
 returns-2 c =
-    let b = c .before .before in
+    let e = c .before in
+    let b = e .before .before in
     let a = b .before .args in
-    read-unknown (a .day) (a .scale) (sym (b .scale-named .ensures) ∙ c .enum-told .given .1)
+    c .empty-out .ensures ∙ read-unknown (a .day) (a .scale) (sym (b .scale-named .ensures) ∙ e .enum-told .given .1)
 
 pub vrk-decimal-read-spec : {M : Type 1} → statement M
 vrk-decimal-read-spec =
@@ -30,5 +31,6 @@ vrk-decimal-read-spec =
     (λ c κs. search needs)
     (λ c κs. search needs)
     (λ c. search needs)
+    (λ c κs. search needs)
     returns
     returns-2)

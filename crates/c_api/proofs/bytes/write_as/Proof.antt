@@ -38,7 +38,7 @@ returns c =
     ∙ ⊎-elim (λ v. arm h (now (a .out)) (v .1 .given .1) (v .7) (v .6) (v .3 .ensures))
     (⊎-elim (λ v. arm h (now (a .out)) (v .1 .given .1) (v .7) (v .6) (v .3 .ensures))
     (⊎-elim (λ v. arm h (now (a .out)) (v .1 .given .1) (v .7) (v .6) (v .3 .ensures))
-    (λ v. arm h (now (a .out)) (v .1 .given .1) (v .8) (v .7) (v .4 .ensures))))
+    (λ v. arm h (now (a .out)) (v .1 .given .1) (v .7) (v .6) (v .3 .ensures))))
     (m .match2 .came)
     ∙ handed-past (writingOf (a .layout)) (a .time) (now (a .out)) h (sym (b .hand .ensures) ∙ k .h .given .1) done
 
@@ -46,7 +46,7 @@ returns-2 : tie.Need-returns-2
 returns-2 c =
     let b = c .before .before in
     let a = b .before .before .args in
-    handed-three (writingOf (a .layout)) (a .time) (now (a .out)) (sym (b .hand .ensures) ∙ c .enum-told4 .given .1)
+    handed-three (writingOf (a .layout)) (a .time) (now (a .out)) (sym (b .hand .ensures) ∙ c .enum-told5 .given .1)
 
 pub write-as-spec : {M : Type 1} → statement M
 write-as-spec =
