@@ -5,16 +5,19 @@ use Rattle.calendar_laws.specs.Undo.{date-of-day, day-of-date, has-date}
 use Rattle.decimal_laws.proofs.Trip.{later as decimal-laws-trip-later, trip as decimal-laws-trip-trip}
 use Rattle.decimal_laws.proofs.Unique.{wrote-one}
 use Rattle.leap_laws.proofs.Functions.{later as leap-laws-functions-later, only, the-one, undoes}
+use Rattle.leap_laws.proofs.Marks.{change-ignores, judged-ignores, keeps-mark, keeps-mark-instance}
 use Rattle.sbt_laws.proofs.Answers.{dates as sbt-laws-answers-dates, exact as sbt-laws-answers-exact, turns as sbt-laws-answers-turns}
-use Rattle.sbt_laws.proofs.Cases.{night, receipt-covered as sbt-laws-cases-receipt-covered, receipt-received as sbt-laws-cases-receipt-received}
+use Rattle.sbt_laws.proofs.Cases.{date-marked as sbt-laws-cases-date-marked, night, receipt-covered as sbt-laws-cases-receipt-covered, receipt-received as sbt-laws-cases-receipt-received}
 use Rattle.sbt_laws.proofs.Fresh.{kept-date as sbt-laws-fresh-kept-date, kept-lacking as sbt-laws-fresh-kept-lacking, kept-tick, now-dates as sbt-laws-fresh-now-dates, tai-date-base, tai-kept, tai-tick-base, utc-date-stays as sbt-laws-fresh-utc-date-stays, utc-tick-stays}
+use Rattle.sbt_laws.proofs.Marks.{correlated as sbt-laws-marks-correlated}
 use Rattle.sbt_laws.proofs.NewYear.{across as sbt-laws-new-year-across, back-across as sbt-laws-new-year-back-across, dating-refusals as sbt-laws-new-year-dating-refusals, exactly-time, receipt-covered as sbt-laws-new-year-receipt-covered, receipt-received as sbt-laws-new-year-receipt-received, time-trip as sbt-laws-new-year-time-trip, too-far as sbt-laws-new-year-too-far, too-late as sbt-laws-new-year-too-late, trip as sbt-laws-new-year-trip, turning-refusals as sbt-laws-new-year-turning-refusals}
 use Rattle.sbt_laws.proofs.Night.{no-wrap as sbt-laws-night-no-wrap, outside-window as sbt-laws-night-outside-window, received-after as sbt-laws-night-received-after, received-before as sbt-laws-night-received-before}
 use Rattle.sbt_laws.proofs.Stays.{date-base, date-stays as sbt-laws-stays-date-stays, tick-base, tick-stays}
 use Rattle.sbt_laws.proofs.Trips.{little-earlier as sbt-laws-trips-little-earlier, never-later as sbt-laws-trips-never-later, record-back as sbt-laws-trips-record-back, same-tick}
 use Rattle.goce_laws.proofs.Answers.{dates as goce-laws-answers-dates, exact as goce-laws-answers-exact, turns as goce-laws-answers-turns}
-use Rattle.goce_laws.proofs.Cases.{receipt-covered as goce-laws-cases-receipt-covered, receipt-received as goce-laws-cases-receipt-received, sum}
+use Rattle.goce_laws.proofs.Cases.{date-marked as goce-laws-cases-date-marked, receipt-covered as goce-laws-cases-receipt-covered, receipt-received as goce-laws-cases-receipt-received, sum}
 use Rattle.goce_laws.proofs.Fresh.{kept-count, kept-date as goce-laws-fresh-kept-date, kept-lacking as goce-laws-fresh-kept-lacking, now-dates as goce-laws-fresh-now-dates, utc-count-stays, utc-date-stays as goce-laws-fresh-utc-date-stays}
+use Rattle.goce_laws.proofs.Marks.{correlated as goce-laws-marks-correlated}
 use Rattle.goce_laws.proofs.NewYear.{across as goce-laws-new-year-across, back-across as goce-laws-new-year-back-across, dating-refusals as goce-laws-new-year-dating-refusals, receipt-covered as goce-laws-new-year-receipt-covered, time-trip as goce-laws-new-year-time-trip, too-far as goce-laws-new-year-too-far, too-late as goce-laws-new-year-too-late, trip as goce-laws-new-year-trip, turning-refusals as goce-laws-new-year-turning-refusals}
 use Rattle.goce_laws.proofs.Night.{no-wrap as goce-laws-night-no-wrap, outside-window as goce-laws-night-outside-window, received-after as goce-laws-night-received-after, received-before as goce-laws-night-received-before}
 use Rattle.goce_laws.proofs.Stays.{count-stays, date-stays as goce-laws-stays-date-stays}
@@ -27,16 +30,18 @@ use Rattle.season_laws.proofs.Trips.{read-back as season-laws-trips-read-back, 
 use Rattle.season_laws.proofs.Written.{written-read}
 use Rattle.layout_laws.proofs.Back.{cryosat-again, cuc-again, proteus-again, siral-again}
 use Rattle.layout_laws.proofs.Fields.{cryosat-exact, cuc-exact, goce-exact, obet-exact, proteus-exact, sbt-exact, siral-exact}
-use Rattle.layout_laws.proofs.Times.{cryosat-same, cuc-last, proteus-last, siral-same}
+use Rattle.layout_laws.proofs.Times.{cryosat-same, cuc-last, proteus-kept, proteus-last, siral-same}
 use Rattle.text_laws.specs.Back.{none-refused, read-back as text-laws-back-read-back}
 use Rattle.lines_laws.specs.Calls.{dated, kept-for}
 use Rattle.lines_laws.specs.Each.{one-each}
 use Rattle.lines_laws.specs.First.{line-numbers, line-outcome}
 use Rattle.lines_laws.specs.Run.{any-blocks}
+use Rattle.c_api_laws.proofs.Marks.{by-handed, decimal-unmarked, decimal-unmarked-instance, handed-again, handed-again-instance, known-mark-instance, mark-ignored as c-api-laws-marks-mark-ignored, mark-ignored-instance as c-api-laws-marks-mark-ignored-instance, plain-source, plain-source-instance, unknown-mark, unknown-mark-instance}
 use Rattle.c_api_laws.proofs.One.{decimal-one}
 use Rattle.marked.proofs.Marked.{marked, ten-cases}
 use Rattle.promises.specs.First.{exactly, first-is, first-then, promised, then-first}
 use Rattle.promises.specs.Instances.{change-for-c-instance, cryosat-time-instance, cuc-time-instance, date-for-c-instance, decimal-write-for-c-instance, decimal-write-instance, exactly-instance, goce-count-for-c-instance, goce-date-for-c-instance, gps-to-utc-never-11-instance, handed-gps-to-utc-never-11-instance, kept-instance, line-instance, paper-instance, proteus-read-never-7-instance, proteus-time-instance, refusal-instance, siral-time-instance, sixty-instance, take-instance, text-read-for-c-instance, text-write-for-c-instance, tick-for-c-instance, without-list-never-5-instance}
+use Rattle.promises.specs.Marks.{mark-ignored as promises-marks-mark-ignored, mark-ignored-instance as promises-marks-mark-ignored-instance}
 use Rattle.promises.specs.Never.{gps-to-utc-never-11, handed-gps-to-utc-never-11, line-never-5, proteus-read-never-7, without-list-never-5}
 use Rattle.promises.specs.One.{answer-returns-0, change as promises-one-change, cryosat-fields-read as promises-one-cryosat-fields-read, cryosat-fields-write as promises-one-cryosat-fields-write, cryosat-read as promises-one-cryosat-read, cryosat-write as promises-one-cryosat-write, cuc-fields-read as promises-one-cuc-fields-read, cuc-fields-write as promises-one-cuc-fields-write, cuc-read as promises-one-cuc-read, cuc-write as promises-one-cuc-write, date-of, day-of, decimal-read as promises-one-decimal-read, decimal-write as promises-one-decimal-write, goce-count as promises-one-goce-count, goce-date as promises-one-goce-date, goce-read as promises-one-goce-read, goce-write, gps-to-tai, gps-to-utc, line, obet-read as promises-one-obet-read, obet-write, proteus-fields-read as promises-one-proteus-fields-read, proteus-fields-write as promises-one-proteus-fields-write, proteus-read as promises-one-proteus-read, proteus-write as promises-one-proteus-write, record-judged, rest-stays, sbt-date as promises-one-sbt-date, sbt-read as promises-one-sbt-read, sbt-tick as promises-one-sbt-tick, sbt-write, siral-fields-read as promises-one-siral-fields-read, siral-fields-write as promises-one-siral-fields-write, siral-read as promises-one-siral-read, siral-write as promises-one-siral-write, tai-to-gps, tai-to-utc, take, text-read as promises-one-text-read, text-write as promises-one-text-write, utc-to-gps, utc-to-tai}
 use Rattle.promises.specs.OneForC.{answer-returns-0-for-c, change as promises-one-for-c-change, cryosat-fields-read as promises-one-for-c-cryosat-fields-read, cryosat-fields-write as promises-one-for-c-cryosat-fields-write, cryosat-read as promises-one-for-c-cryosat-read, cryosat-write as promises-one-for-c-cryosat-write, cuc-fields-read as promises-one-for-c-cuc-fields-read, cuc-fields-write as promises-one-for-c-cuc-fields-write, cuc-read as promises-one-for-c-cuc-read, cuc-write as promises-one-for-c-cuc-write, decimal-read as promises-one-for-c-decimal-read, decimal-write as promises-one-for-c-decimal-write, goce-count as promises-one-for-c-goce-count, goce-date as promises-one-for-c-goce-date, goce-read as promises-one-for-c-goce-read, obet-read as promises-one-for-c-obet-read, proteus-fields-read as promises-one-for-c-proteus-fields-read, proteus-fields-write as promises-one-for-c-proteus-fields-write, proteus-read as promises-one-for-c-proteus-read, proteus-write as promises-one-for-c-proteus-write, sbt-date as promises-one-for-c-sbt-date, sbt-read as promises-one-for-c-sbt-read, sbt-tick as promises-one-for-c-sbt-tick, siral-fields-read as promises-one-for-c-siral-fields-read, siral-fields-write as promises-one-for-c-siral-fields-write, siral-read as promises-one-for-c-siral-read, siral-write as promises-one-for-c-siral-write, text-read as promises-one-for-c-text-read, text-write as promises-one-for-c-text-write}

@@ -77,11 +77,19 @@ textWrong s =
 abbrev pub scaleUnknown : ℕ → Bool
 scaleUnknown c = not (leb c 2)
 
+-- a mark up to 2, and Proteus with a source up to 1
+abbrev pub isMark : ℕ → ℕ → Bool
+isMark c x = leb c 2 && (not (eqb c 1) || leb x 1)
+
+-- of a decimal day mark and source are not looked at
+abbrev pub isHanded : VrkHanded → Bool
+isHanded h = leb (h .scale) 2 && (leb (h .kind) 1 && (not (eqb (h .kind) 0) || isMark (h .mark) (h .source)))
+
 abbrev pub handedUnknown : VrkHanded → Bool
-handedUnknown h = not (leb (h .scale) 2 && leb (h .kind) 1)
+handedUnknown h = not (isHanded h)
 
 abbrev pub changeUnknown : ℕ → VrkHanded → Bool
-changeUnknown c h = not (leb c 2 && (leb (h .scale) 2 && leb (h .kind) 1))
+changeUnknown c h = not (leb c 2 && isHanded h)
 
 abbrev pub formUnknown : ℕ → Bool
 formUnknown n = not (eqb n 20 || (eqb n 24 || (eqb n 27 || eqb n 31)))

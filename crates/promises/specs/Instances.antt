@@ -10,9 +10,10 @@ use lib.IntN.{ℤ, pos, negsuc}
 use Rattle.axis.specs.Meaning.{Moment, since}
 use Rattle.octets.specs.Meaning.{number, field}
 use Rattle.octets.specs.Field.{field-bytes}
-use Rattle.scales.specs.Meaning.{Outcome, answer, dated, order, recordOf, valued}
+use Rattle.scales.specs.Meaning.{Outcome, answer, datedAs, dated, order, recordOf, valued}
 use Rattle.scales.specs.declared.Scale.the-variants as S
 use Rattle.scales.specs.declared.Refusal.the-variants as R
+use Rattle.scales.specs.declared.Mark.the-variants as M
 use Rattle.double.specs.Meaning.{plusZero}
 use Rattle.handed.specs.Meaning.{takenOf, takenSlip, Took}
 use Rattle.handed.specs.declared.Handed.{Handed}
@@ -60,7 +61,7 @@ use Rattle.c_api.specs.declared.counts.VrkGoceCorrelation.{VrkGoceCorrelation}
 use Rattle.promises.specs.Three.{FreshPaper, old-dates-stay, widenedForC, goceWidenedForC, change-for-c, text-read-for-c, text-write-for-c, date-for-c, tick-for-c, goce-date-for-c, goce-count-for-c}
 
 -- ---- demand 1: CUC of no bytes is refused 1, with day 0 of GPS; a CryoSat time is no image of CUC, and the slice keeps its byte
-pub refusal-instance : Cuc.read [] ≡ record { number = 1; scale = S.Gps; day = pos 0; micro = 0 }
+pub refusal-instance : Cuc.read [] ≡ record { number = 1; scale = S.Gps; day = pos 0; micro = 0; mark = M.Plain }
 unfolding Cuc.read
 refusal-instance = cuc-read [] .empty (λ q. omega arith)
 
@@ -90,7 +91,7 @@ pub decimal-write-instance : decimalSlip (D.Refused R.NoImage) .number ≡ 12
 decimal-write-instance = decimal-write (H.Record (recordOf S.Utc (pos 0) 86400000000)) (D.Refused R.NoImage) (refl, refl) .first
 
 abbrev unknown : VrkHanded
-unknown = record { kind = 0; scale = 9; day = pos 0; micro = 0; decimal = plusZero }
+unknown = record { kind = 0; scale = 9; day = pos 0; micro = 0; decimal = plusZero; mark = 0; source = 0 }
 
 unknown-wrote : CApi.DecimalWrote unknown (record { refusal = 3; day = plusZero })
 unfolding CApi.DecimalWrote
@@ -104,7 +105,7 @@ line-instance = line publishedDays publishedOffsets publishedLast [] .printed (�
 
 -- ---- numbers that never come, of inputs that are answered: 8 zero bytes of Proteus; GPS day 0 under the published list, as a count and
 -- as a record; TAI to GPS, which asks nothing of the empty list
-pub proteus-read-never-7-instance : Bytes.proteusOut (Proteus.read (0 ∷ 0 ∷ 0 ∷ 0 ∷ 0 ∷ 0 ∷ 0 ∷ 0 ∷ [])) .refusal ≡ 7 → ⊥
+pub proteus-read-never-7-instance : CApi.timeOut (Proteus.read (0 ∷ 0 ∷ 0 ∷ 0 ∷ 0 ∷ 0 ∷ 0 ∷ 0 ∷ [])) .refusal ≡ 7 → ⊥
 unfolding field
 proteus-read-never-7-instance = Never.proteus-read-never-7 (0 ∷ 0 ∷ 0 ∷ 0 ∷ 0 ∷ 0 ∷ 0 ∷ 0 ∷ []) (field-bytes 8 0)
 
@@ -124,7 +125,7 @@ cuc-time-instance = cuc-time (0 ∷ 0 ∷ 0 ∷ 1 ∷ 0 ∷ 1 ∷ []) (record { 
 
 pub proteus-time-instance : since (negsuc 7292) 2000015 ≡ since (negsuc 7299) 604802000015
 unfolding number
-proteus-time-instance = proteus-time (0 ∷ 16 ∷ 0 ∷ 0 ∷ 0 ∷ 2 ∷ 0 ∷ 1 ∷ []) (record { moment = record { day = negsuc 7292; micro = 2000015 }; h3 = _ }) refl
+proteus-time-instance = proteus-time (0 ∷ 16 ∷ 0 ∷ 0 ∷ 0 ∷ 2 ∷ 0 ∷ 1 ∷ []) (record { day = negsuc 7292; micro = 2000015 }) refl
 
 pub cryosat-time-instance : since (pos 1) 2003 ≡ since Cryosat.epoch 86400002003
 unfolding number
@@ -171,23 +172,23 @@ read-earlier = rw earlier
 pub sixty-instance : readText june publishedDays publishedOffsets publishedLast ≡ dated S.Utc (answer (record { day = pos 5659; micro = 86400000000 }))
 sixty-instance = paper-instance .texts .read june (λ q. let z : _≡_ {A = ℕ} 0 9 = (λ i. sym read-earlier i .number) ∙ q in omega arith) ∙ read-earlier
 
--- ---- the same for C
+-- ---- the same for C, of records that are correlated with 9
 abbrev handed : ℕ → ℤ → ℕ → VrkHanded
-handed scale d u = record { kind = 0; scale = scale; day = d; micro = u; decimal = plusZero }
+handed scale d u = record { kind = 0; scale = scale; day = d; micro = u; decimal = plusZero; mark = 2; source = 9 }
 
 -- the last microsecond of that second 60, in TAI
-changed-earlier : CApi.changed (handed 1 (pos 5659) 86400999999) 0 earlierDays earlierOffsets earlierLast ≡ record { refusal = 0; scale = 0; day = pos 5660; micro = 35999999 }
+changed-earlier : CApi.changed (handed 1 (pos 5659) 86400999999) 0 earlierDays earlierOffsets earlierLast ≡ record { refusal = 0; scale = 0; day = pos 5660; micro = 35999999; mark = 2; source = 9 }
 unfolding CApi.changed through isStep
 changed-earlier = rw earlier
 
 pub change-for-c-instance :
-    CApi.changed (handed 1 (pos 5659) 86400999999) 0 publishedDays publishedOffsets publishedLast ≡ record { refusal = 0; scale = 0; day = pos 5660; micro = 35999999 }
+    CApi.changed (handed 1 (pos 5659) 86400999999) 0 publishedDays publishedOffsets publishedLast ≡ record { refusal = 0; scale = 0; day = pos 5660; micro = 35999999; mark = 2; source = 9 }
 change-for-c-instance =
     change-for-c earlierDays earlierOffsets earlierLast publishedDays publishedOffsets publishedLast earlier published step-more (handed 1 (pos 5659) 86400999999) 0
     (λ q. let z : _≡_ {A = ℕ} 0 9 = (λ i. sym changed-earlier i .refusal) ∙ q in omega arith)
     ∙ changed-earlier
 
-pub text-read-for-c-instance : CApi.timeOut (readText june publishedDays publishedOffsets publishedLast) ≡ record { refusal = 0; scale = 1; day = pos 5659; micro = 86400000000 }
+pub text-read-for-c-instance : CApi.timeOut (readText june publishedDays publishedOffsets publishedLast) ≡ record { refusal = 0; scale = 1; day = pos 5659; micro = 86400000000; mark = 0; source = 0 }
 text-read-for-c-instance =
     text-read-for-c earlierDays earlierOffsets earlierLast publishedDays publishedOffsets publishedLast earlier published step-more june
     (λ q. let z : _≡_ {A = ℕ} 0 9 = (λ i. sym read-earlier i .number) ∙ q in omega arith)
@@ -213,12 +214,12 @@ no d p q = d (sym p ∙ q)
 abbrev reference : VrkSbtCorrelation
 reference = record { tick = 7; scale = 1; day = pos 6000; micro = 86399990000; period = 3906250000; back = 4; ahead = 4 }
 
-abbrev ending : ℕ → VrkTime
-ending u = record { refusal = 0; scale = 1; day = pos 6000; micro = u }
+abbrev ending : ℕ → ℕ → VrkTime
+ending u r = record { refusal = 0; scale = 1; day = pos 6000; micro = u; mark = 2; source = r }
 
-dated-before : CApi.sbtDate 8 reference (pos 6000) 86399995000 earlierDays earlierOffsets earlierLast ≡ ending 86399993906
+dated-before : CApi.sbtDate 8 reference (pos 6000) 86399995000 earlierDays earlierOffsets earlierLast ≡ ending 86399993906 7
 unfolding CApi.sbtDate CApi.correlationOf Sbt.dateOf
-dated-before = ap (λ (o : Outcome Moment). CApi.timeOut (dated S.Utc o)) (old-dates .0)
+dated-before = ap (λ (o : Outcome Moment). CApi.timeOut (datedAs (M.Correlated 7) S.Utc o)) (old-dates .0)
 
 reference-accepted : Sbt.accepted (CApi.correlationOf reference) ≡ true
 unfolding CApi.correlationOf
@@ -228,7 +229,7 @@ reference-wider : Sbt.accepted (CApi.correlationOf (widenedForC reference 8 20))
 unfolding CApi.correlationOf
 reference-wider = wider
 
-pub date-for-c-instance : CApi.sbtDate 8 (widenedForC reference 8 20) (pos 6000) 86399995000 publishedDays publishedOffsets publishedLast ≡ ending 86399993906
+pub date-for-c-instance : CApi.sbtDate 8 (widenedForC reference 8 20) (pos 6000) 86399995000 publishedDays publishedOffsets publishedLast ≡ ending 86399993906 7
 date-for-c-instance =
     date-for-c earlierDays earlierOffsets earlierLast publishedDays publishedOffsets publishedLast earlier published step-more reference 8 20 (lit≤ tt) (lit≤ tt) reference-accepted reference-wider 8 (pos 6000) 86399995000
     (no (λ q. omega arith) (ap (λ (t : VrkTime). t .refusal) dated-before)) (no (λ q. omega arith) (ap (λ (t : VrkTime). t .refusal) dated-before))
@@ -248,11 +249,11 @@ tick-for-c-instance =
 abbrev clock : VrkGoceCorrelation
 clock = record { obt0 = 5; utc0 = 33979524710399; offset = pos 0; gradient = 1000000000; back = 4; ahead = 4 }
 
-goce-dated-before : Counts.goceDate 5 clock (pos 6000) 86399999990 earlierDays earlierOffsets earlierLast ≡ ending 86399999984
+goce-dated-before : Counts.goceDate 5 clock (pos 6000) 86399999990 earlierDays earlierOffsets earlierLast ≡ ending 86399999984 5
 unfolding Counts.goceDate Goce.dateOf
-goce-dated-before = ap (λ (o : Outcome Moment). CApi.timeOut (dated S.Utc o)) (GoceFresh.old-dates .0)
+goce-dated-before = ap (λ (o : Outcome Moment). CApi.timeOut (datedAs (M.Correlated 5) S.Utc o)) (GoceFresh.old-dates .0)
 
-pub goce-date-for-c-instance : Counts.goceDate 5 (goceWidenedForC clock 8 20) (pos 6000) 86399999990 publishedDays publishedOffsets publishedLast ≡ ending 86399999984
+pub goce-date-for-c-instance : Counts.goceDate 5 (goceWidenedForC clock 8 20) (pos 6000) 86399999990 publishedDays publishedOffsets publishedLast ≡ ending 86399999984 5
 goce-date-for-c-instance =
     goce-date-for-c earlierDays earlierOffsets earlierLast publishedDays publishedOffsets publishedLast earlier published step-more clock 8 20 (lit≤ tt) (lit≤ tt) goce-accepts goce-wider 5 (pos 6000) 86399999990
     (no (λ q. omega arith) (ap (λ (t : VrkTime). t .refusal) goce-dated-before)) (no (λ q. omega arith) (ap (λ (t : VrkTime). t .refusal) goce-dated-before))

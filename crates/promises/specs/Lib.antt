@@ -10,6 +10,7 @@ pub mod Refusals
 pub mod Never
 pub mod Two
 pub mod Three
+pub mod Marks
 pub mod Wrong
 pub mod Instances
 pub mod All

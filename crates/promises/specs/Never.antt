@@ -10,12 +10,14 @@ use lib.ListN.{length, drop}
 use borrow.Author.Tests.{eqb-true, leb-true, not-true}
 use Rattle.axis.specs.Meaning.{placeOfDay, Moment, since}
 use Rattle.octets.specs.Field.{Bytes}
-use Rattle.scales.specs.Meaning.{inSpan, Judged, given, gives, Outcome, refused, answer, outcome, dated, order, momentAt, resulting}
+use Rattle.scales.specs.Meaning.{inSpan, Judged, given, gives, Outcome, refused, answer, outcome, datedAs, order, momentAt, resulting}
 use Rattle.scales.specs.Place.{firstAt, apart, in-span, placed}
 use Rattle.scales.specs.declared.Scale.{Scale}
 use Rattle.scales.specs.declared.Scale.the-variants as S
+use Rattle.scales.specs.declared.Mark.{Mark}
+use Rattle.scales.specs.declared.Mark.the-variants as M
 use Rattle.handed.specs.declared.Handed.{Handed}
-use Rattle.handed.specs.Meaning.{scaleOf, isFinite, isInSpan, dayOf, microOf, momentIn}
+use Rattle.handed.specs.Meaning.{scaleOf, markOf, isFinite, isInSpan, dayOf, microOf, momentIn}
 use Rattle.handed.specs.Told.{loose}
 use Rattle.leap.specs.Meaning.{seconds, accepted, isExpiredTai, utcOf, publishedDays, publishedOffsets, publishedLast}
 use Rattle.leap.specs.Published.{published}
@@ -26,14 +28,14 @@ use Rattle.changes.specs.Asked.{list-passes}
 use Rattle.octets.specs.Meaning.{part}
 use Rattle.octets.specs.Parts.{part-lt}
 use Rattle.layout_fields.specs.Proteus as ProteusFields
-use Rattle.layout_times.specs.Meaning.{rounding, fractionMicros, momentFrom}
+use Rattle.layout_times.specs.Meaning.{rounding, fractionMicros, momentFrom, judged}
 use Rattle.layout_times.specs.Fraction.{below-second}
 use Rattle.layout_times.specs.Days.{place-is}
 use Rattle.layout_times.specs.Proteus as Proteus
 use Rattle.text_read.specs.Meaning.{scaleIn}
 use Rattle.lines.specs.Meaning.{lineDating}
 use Rattle.lines_laws.specs.First.{lineJudging, line-outcome}
-use Rattle.c_api.specs.Bytes.{proteusOut}
+use Rattle.c_api.specs.Meaning.{timeOut}
 use Rattle.promises.specs.Meaning.{applies}
 use Rattle.promises.specs.First.{numberIn, given-applies, exactly}
 use Rattle.promises.specs.Conditions as C
@@ -51,7 +53,7 @@ module _ {A : Type 0} where
 
 -- ---- Proteus 7: 4,096 weeks from day -7300 end with day 21371
 weeks-inside : (s : List ℕ) → Bytes s → length s ≡ 8 → part s 2 4 ≤ 604799
-    → let m = Proteus.fieldsMoment (ProteusFields.fieldsOf s) in inSpan S.Utc (m .day) (m .micro) ≡ true
+    → let m = momentFrom Proteus.epoch (Proteus.microsOf (ProteusFields.fieldsOf s)) in inSpan S.Utc (m .day) (m .micro) ≡ true
 weeks-inside s b l k =
     let f = ProteusFields.fieldsOf s in
     let n = Proteus.microsOf f in
@@ -65,19 +67,19 @@ weeks-inside s b l k =
     top : (head second micros : ℕ) → head < 65536 → second ≤ 604799 → micros < 1000000 → ((head / 16 * 604800 + second) * 1000000 + micros) / 86400000000 < 28672
     top head second micros h k u = omega arith
 
-pub proteus-read-never-7 : (s : List ℕ) → Bytes s → proteusOut (Proteus.read s) .refusal ≡ 7 → ⊥
+pub proteus-read-never-7 : (s : List ℕ) → Bytes s → timeOut (Proteus.read s) .refusal ≡ 7 → ⊥
 unfolding Proteus.read
 proteus-read-never-7 s b q =
     let f = ProteusFields.fieldsOf s in
-    let m = Proteus.fieldsMoment f in
-    let last = Proteus.fieldsDating f in
+    let m = momentFrom Proteus.epoch (Proteus.microsOf f) in
+    let last = judged S.Utc m in
     behind 7 (eqb (length s) 8) 1 (given (eqb (ProteusFields.zerosIn (part s 0 2)) 0) 2 (given (leb (part s 2 4) 604799) 3 last)) (λ z. omega arith) (λ l.
     behind 7 (eqb (ProteusFields.zerosIn (part s 0 2)) 0) 2 (given (leb (part s 2 4) 604799) 3 last) (λ z. omega arith) (λ y.
     behind 7 (leb (part s 2 4) 604799) 3 last (λ z. omega arith) (λ k.
-    at-last 7 (inSpan S.Utc (m .day) (m .micro)) (record { moment = m; h3 = f .h3 }) (λ z. omega arith) (weeks-inside s b (eqb-true (length s) 8 l) (leb-true (part s 2 4) 604799 k)))))
+    at-last 7 (inSpan S.Utc (m .day) (m .micro)) m (λ z. omega arith) (weeks-inside s b (eqb-true (length s) 8 l) (leb-true (part s 2 4) 604799 k)))))
     (sym (numbered (outcome (Proteus.reading s))) ∙ q)
   where
-    numbered : (o : Outcome Proteus.Stamp) → proteusOut (Proteus.stamped o) .refusal ≡ numberIn o
+    numbered : (o : Outcome Moment) → timeOut (datedAs (M.Proteus (ProteusFields.fieldsOf s .h3)) S.Utc o) .refusal ≡ numberIn o
     numbered (refused n) = refl
     numbered (answer t) = refl
 
@@ -92,9 +94,9 @@ module _ (ds : List ℤ) (os : List ℕ) (e : ℤ) where
       behind 11 (not (isExpiredTai ds os e c)) 9 (resulting S.Utc m) (λ z. omega arith) (λ x.
       at-last 11 (inSpan S.Utc (m .day) (m .micro)) m (λ z. omega arith) (gps-known ds os e w d u (p i .0) (p i .1) (not-true (isExpiredTai ds os e c) x))))
 
-  number-is : (s : Scale) (o : Outcome Moment) → dated s o .number ≡ numberIn o
-  number-is s (refused n) = refl
-  number-is s (answer m) = refl
+  number-is : (m : Mark) (s : Scale) (o : Outcome Moment) → datedAs m s o .number ≡ numberIn o
+  number-is m s (refused n) = refl
+  number-is m s (answer t) = refl
 
   pub gps-to-utc-never-11 : (n : ℕ) → gpsToUtc n ds os e .number ≡ 11 → ⊥
   unfolding gpsToUtc
@@ -102,12 +104,12 @@ module _ (ds : List ℤ) (os : List ℕ) (e : ℤ) where
       let m = momentAt S.Gps n in
       behind 11 (accepted ds os e) 5 (gpsInUtc ds os e n) (λ z. omega arith)
       (moving-never (m .day) (m .micro) (inSpan S.Gps (m .day) (m .micro)) (λ i. let w = placed S.Gps (m .day) (m .micro) i in (w .from, omega (arith, w .to, apart S.Gps .to))))
-      (sym (number-is S.Utc (outcome (withList ds os e (gpsInUtc ds os e n)))) ∙ q)
+      (sym (number-is M.Plain S.Utc (outcome (withList ds os e (gpsInUtc ds os e n)))) ∙ q)
 
   pub handed-gps-to-utc-never-11 : (h : Handed) → scaleOf h ≡ S.Gps → changeOf h S.Utc ds os e .number ≡ 11 → ⊥
   unfolding changeOf
   handed-gps-to-utc-never-11 h g q =
-      behind 11 (isFinite h) 4 (from (scaleOf h)) (λ z. omega arith) (λ f r. gps f (ap (λ (s : Scale). numberIn (outcome (from s))) (sym g) ∙ r)) (sym (number-is S.Utc (outcome (changing h S.Utc ds os e))) ∙ q)
+      behind 11 (isFinite h) 4 (from (scaleOf h)) (λ z. omega arith) (λ f r. gps f (ap (λ (s : Scale). numberIn (outcome (from s))) (sym g) ∙ r)) (sym (number-is (markOf h) S.Utc (outcome (changing h S.Utc ds os e))) ∙ q)
     where
       from : Scale → Judged Moment
       from s = given (not (changeUsesList s S.Utc) || accepted ds os e) 5 (moving s S.Utc ds os e (isInSpan h) (momentIn h))

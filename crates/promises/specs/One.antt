@@ -10,10 +10,12 @@ use lib.ListN.{length, drop}
 use lib.Seq.{drop-at}
 use Rattle.axis.specs.Meaning.{Moment}
 use Rattle.octets.specs.Meaning.{field}
-use Rattle.scales.specs.Meaning.{Judged, Outcome, refused, answer, outcome, numbers, order, standsIn, Slip, dated, spanning, spanned, Wrote, written, Valued, valued}
+use Rattle.scales.specs.Meaning.{Judged, Outcome, refused, answer, outcome, numbers, order, standsIn, Slip, datedAs, dated, spanning, spannedAs, Wrote, written, Valued, valued}
 use Rattle.scales.specs.declared.Scale.{Scale}
 use Rattle.scales.specs.declared.Scale.the-variants as S
-use Rattle.handed.specs.Meaning.{scaleOf, Took, takenSlip, taking}
+use Rattle.scales.specs.declared.Mark.{Mark}
+use Rattle.scales.specs.declared.Mark.the-variants as M
+use Rattle.handed.specs.Meaning.{scaleOf, markOf, Took, takenSlip, taking}
 use Rattle.handed.specs.Told.{taken-is}
 use Rattle.handed.specs.declared.Handed.{Handed}
 use Rattle.handed.specs.declared.Taken.{Taken}
@@ -24,6 +26,7 @@ use Rattle.decimal.specs.Meaning.{reading, readOf, writing, Allowed, WroteDay, 
 use Rattle.decimal.specs.declared.Decimal.{Decimal}
 use Rattle.changes.specs.Meaning as Changes
 use Rattle.leap_laws.proofs.Order.{any}
+use Rattle.clock.specs.Meaning as Clock
 use Rattle.sbt.specs.Meaning as Sbt
 use Rattle.sbt.specs.declared.Correlation.{Correlation}
 use Rattle.goce.specs.Meaning as Goce
@@ -55,11 +58,18 @@ use Rattle.promises.specs.Judging.{change-rows, list-rows, dating-rows, 
 use Rattle.promises.specs.First.{numberIn, order-clear, first-is, promised}
 
 -- ---- the kinds of answers
+-- a time whose answer has a mark; a refusal's empty record is plain
+abbrev pub Marked : Mark → Scale → Slip → Judged Moment → List (ℕ × Bool) → Type 0
+Marked m s r j rows = Promise (datedAs m s) (λ (x : Slip). x .number) r j rows
+
+marked : (m : Mark) (s : Scale) (j : Judged Moment) {rows : List (ℕ × Bool)} → tests j ≡ rows → standsIn (numbers j) order ≡ true → Marked m s (datedAs m s (outcome j)) j rows
+marked m s j {rows} e r = promised (record { of-refusal = λ n. refl; of-answer = λ a. refl }) j e r
+
 abbrev pub Times : Scale → Slip → Judged Moment → List (ℕ × Bool) → Type 0
-Times s r j rows = Promise (dated s) (λ (x : Slip). x .number) r j rows
+Times s r j rows = Marked M.Plain s r j rows
 
 times : (s : Scale) (j : Judged Moment) {rows : List (ℕ × Bool)} → tests j ≡ rows → standsIn (numbers j) order ≡ true → Times s (dated s (outcome j)) j rows
-times s j {rows} e r = promised (record { of-refusal = λ n. refl; of-answer = λ a. refl }) j e r
+times s j {rows} e r = marked M.Plain s j e r
 
 abbrev pub Writes : List ℕ → Wrote ℕ → Judged (List ℕ) → List (ℕ × Bool) → Type 0
 Writes out r j rows = Promise (written out) (λ (x : Wrote ℕ). x .number) r j rows
@@ -106,9 +116,9 @@ allows j {rows} e r w q =
 
 -- ---- records, dates, handed times and decimal days
 
-pub record-judged : (s : Scale) (d : ℤ) (u : ℕ) → Times s (spanned s d u) (spanning s d u) (Rows.recordJudged s (record { day = d; micro = u }))
-unfolding spanned
-record-judged s d u = times s (spanning s d u) refl refl
+pub record-judged : (m : Mark) (s : Scale) (d : ℤ) (u : ℕ) → Marked m s (spannedAs m s d u) (spanning s d u) (Rows.recordJudged s (record { day = d; micro = u }))
+unfolding spannedAs
+record-judged m s d u = marked m s (spanning s d u) refl refl
 
 pub date-of : (d : ℤ) → Values Calendar.noDate (Calendar.dateOfDay d) (Calendar.givingDate d) (Rows.dateOf d)
 unfolding Calendar.dateOfDay
@@ -131,9 +141,9 @@ decimal-write h r q = allows (writing h) refl refl (decimalSlip r) q
 
 -- ---- changes of scale
 
-pub change : (h : Handed) (to : Scale) (ds : List ℤ) (os : List ℕ) (e : ℤ) → Times to (Changes.changeOf h to ds os e) (Changes.changing h to ds os e) (Rows.change h to ds os e)
+pub change : (h : Handed) (to : Scale) (ds : List ℤ) (os : List ℕ) (e : ℤ) → Marked (markOf h) to (Changes.changeOf h to ds os e) (Changes.changing h to ds os e) (Rows.change h to ds os e)
 unfolding Changes.changeOf
-change h to ds os e = times to (Changes.changing h to ds os e) (change-rows ds os e h to) (any h to ds os e)
+change h to ds os e = marked (markOf h) to (Changes.changing h to ds os e) (change-rows ds os e h to) (any h to ds os e)
 
 pub tai-to-gps : (n : ℕ) → Times S.Gps (Changes.taiToGps n) (Changes.taiInGps n) (Rows.taiToGps n)
 unfolding Changes.taiToGps
@@ -161,9 +171,9 @@ gps-to-utc n ds os e = times S.Utc (Changes.withList ds os e (Changes.gpsInUtc d
 
 -- ---- SBT correlation
 
-pub sbt-date : (c : Correlation) (t : ℕ) (d : ℤ) (u : ℕ) (ds : List ℤ) (os : List ℕ) (e : ℤ) → Times (c .scale) (Sbt.dateOf c t d u ds os e) (Sbt.dating c t d u ds os e) (Rows.sbtDate c t d u ds os e)
+pub sbt-date : (c : Correlation) (t : ℕ) (d : ℤ) (u : ℕ) (ds : List ℤ) (os : List ℕ) (e : ℤ) → Marked (Clock.markOf (Sbt.clockOf c ds os)) (c .scale) (Sbt.dateOf c t d u ds os e) (Sbt.dating c t d u ds os e) (Rows.sbtDate c t d u ds os e)
 unfolding Sbt.dateOf
-sbt-date c t d u ds os e = times (c .scale) (Sbt.dating c t d u ds os e) (dating-rows (Sbt.accepted c) (Sbt.clockOf c ds os) t d u ds os e) refl
+sbt-date c t d u ds os e = marked (Clock.markOf (Sbt.clockOf c ds os)) (c .scale) (Sbt.dating c t d u ds os e) (dating-rows (Sbt.accepted c) (Sbt.clockOf c ds os) t d u ds os e) refl
 
 pub sbt-tick : (c : Correlation) (h : Handed) (ds : List ℤ) (os : List ℕ) (e : ℤ) → Values 0 (Sbt.tickOf c h ds os e) (Sbt.turning c h ds os e) (Rows.sbtTick c h ds os e)
 unfolding Sbt.tickOf
@@ -171,10 +181,10 @@ sbt-tick c h ds os e = values 0 (Sbt.turning c h ds os e) (turning-rows (Sbt.acc
 
 -- ---- GOCE's correlation
 
-pub goce-date : (c : GoceDeclared.Correlation) (t : ℕ) (d : ℤ) (u : ℕ) (ds : List ℤ) (os : List ℕ) (e : ℤ) → Times S.Utc (Goce.dateOf c t d u ds os e) (Goce.dating c t d u ds os e) (Rows.goceDate c t d u ds os e)
+pub goce-date : (c : GoceDeclared.Correlation) (t : ℕ) (d : ℤ) (u : ℕ) (ds : List ℤ) (os : List ℕ) (e : ℤ) → Marked (Clock.markOf (Goce.clockOf c ds os)) S.Utc (Goce.dateOf c t d u ds os e) (Goce.dating c t d u ds os e) (Rows.goceDate c t d u ds os e)
 unfolding Goce.dateOf
 goce-date c t d u ds os e =
-    times S.Utc (Goce.dating c t d u ds os e)
+    marked (Clock.markOf (Goce.clockOf c ds os)) S.Utc (Goce.dating c t d u ds os e)
     (ap (λ (rs : List (ℕ × Bool)). (3, C.countOver 48 t) ∷ rs) (dating-rows (Goce.accepted c) (Goce.clockOf c ds os) t d u ds os e)) refl
 
 pub goce-count : (c : GoceDeclared.Correlation) (h : Handed) (ds : List ℤ) (os : List ℕ) (e : ℤ) → Values 0 (Goce.obtOf c h ds os e) (Goce.turning c h ds os e) (Rows.goceCount c h ds os e)
@@ -265,13 +275,13 @@ pub siral-write : (h : Handed) (out : List ℕ) → Writes out (Siral.write h ou
 unfolding Siral.write field
 siral-write h out = writes out (Siral.writing h out) refl refl
 
-pub proteus-read : (s : List ℕ) → Promise Proteus.stamped (λ (x : Proteus.Stamped). x .slip .number) (Proteus.read s) (Proteus.reading s) (Rows.proteusRead s)
+pub proteus-read : (s : List ℕ) → Marked (M.Proteus (ProteusFields.fieldsOf s .h3)) S.Utc (Proteus.read s) (Proteus.reading s) (Rows.proteusRead s)
 unfolding Proteus.read
-proteus-read s = promised (record { of-refusal = λ n. refl; of-answer = λ a. refl }) (Proteus.reading s) refl refl
+proteus-read s = marked (M.Proteus (ProteusFields.fieldsOf s .h3)) S.Utc (Proteus.reading s) refl refl
 
-pub proteus-write : (h : Handed) (b : Bool) (out : List ℕ) → Writes out (Proteus.write h b out) (Proteus.writing h b out) (Rows.proteusWrite h out)
+pub proteus-write : (h : Handed) (out : List ℕ) → Writes out (Proteus.write h out) (Proteus.writing h out) (Rows.proteusWrite h out)
 unfolding Proteus.write field
-proteus-write h b out = writes out (Proteus.writing h b out) refl refl
+proteus-write h out = writes out (Proteus.writing h out) refl refl
 
 -- ---- texts
 

@@ -8,12 +8,16 @@ use lib.Ieee.{Float}
 use lib.IntN.{ℤ}
 use Rattle.axis.specs.Meaning.{Moment}
 use Rattle.octets.specs.Meaning.{field}
-use Rattle.scales.specs.Meaning.{scaleAt, Judged, given, Outcome, answer, outcome, numbers, order, standsIn, dated, valued}
+use Rattle.scales.specs.Meaning.{scaleAt, Judged, given, Outcome, answer, outcome, numbers, order, standsIn, datedAs, dated, valued}
 use Rattle.scales.specs.declared.Scale.{Scale}
 use Rattle.scales.specs.declared.Scale.the-variants as S
+use Rattle.scales.specs.declared.Mark.{Mark}
+use Rattle.scales.specs.declared.Mark.the-variants as M
+use Rattle.handed.specs.Meaning.{markOf}
 use Rattle.decimal.specs.Meaning as Decimal
 use Rattle.changes.specs.Meaning as Changes
 use Rattle.leap_laws.proofs.Order.{any}
+use Rattle.clock.specs.Meaning as Clock
 use Rattle.sbt.specs.Meaning as Sbt
 use Rattle.goce.specs.Meaning as Goce
 use Rattle.layout_fields.specs.Cuc as CucFields
@@ -39,7 +43,6 @@ use Rattle.c_api.specs.declared.VrkCount.{VrkCount}
 use Rattle.c_api.specs.declared.VrkDecimal.{VrkDecimal}
 use Rattle.c_api.specs.declared.VrkSbtCorrelation.{VrkSbtCorrelation}
 use Rattle.c_api.specs.declared.counts.VrkGoceCorrelation.{VrkGoceCorrelation}
-use Rattle.c_api.specs.declared.bytes.VrkProteus.{VrkProteus}
 use Rattle.c_api.specs.declared.parts.VrkCucFields.{VrkCucFields}
 use Rattle.c_api.specs.declared.parts.VrkProteusFields.{VrkProteusFields}
 use Rattle.c_api.specs.declared.parts.VrkCryosatFields.{VrkCryosatFields}
@@ -54,11 +57,18 @@ use Rattle.promises.specs.One.{Writes, writes, Allows, allows}
 use Rattle.promises.specs.One as One
 
 -- ---- the kinds of answers
+-- a time whose answer has a mark; a refusal's empty record is plain
+abbrev pub Marked : Mark → Scale → VrkTime → Judged Moment → List (ℕ × Bool) → Type 0
+Marked m s r j rows = Promise (λ (o : Outcome Moment). CApi.timeOut (datedAs m s o)) (λ (x : VrkTime). x .refusal) r j rows
+
+marked : (m : Mark) (s : Scale) (j : Judged Moment) {rows : List (ℕ × Bool)} → tests j ≡ rows → standsIn (numbers j) order ≡ true → Marked m s (CApi.timeOut (datedAs m s (outcome j))) j rows
+marked m s j {rows} e r = promised (record { of-refusal = λ n. refl; of-answer = λ a. refl }) j e r
+
 abbrev pub Times : Scale → VrkTime → Judged Moment → List (ℕ × Bool) → Type 0
-Times s r j rows = Promise (λ (o : Outcome Moment). CApi.timeOut (dated s o)) (λ (x : VrkTime). x .refusal) r j rows
+Times s r j rows = Marked M.Plain s r j rows
 
 times : (s : Scale) (j : Judged Moment) {rows : List (ℕ × Bool)} → tests j ≡ rows → standsIn (numbers j) order ≡ true → Times s (CApi.timeOut (dated s (outcome j))) j rows
-times s j {rows} e r = promised (record { of-refusal = λ n. refl; of-answer = λ a. refl }) j e r
+times s j {rows} e r = marked M.Plain s j e r
 
 abbrev pub Counts : VrkCount → Judged ℕ → List (ℕ × Bool) → Type 0
 Counts r j rows = Promise (λ (o : Outcome ℕ). CApi.countOut (valued 0 o)) (λ (x : VrkCount). x .refusal) r j rows
@@ -84,18 +94,18 @@ pub decimal-write : (h : VrkHanded) (r : VrkDecimal) → CApi.DecimalWrote h r
 unfolding CApi.DecimalWrote
 decimal-write h r q = allows (given (CApi.known h) 3 (Decimal.writing (CApi.handedOf h))) refl refl (record { number = r .refusal; value = r .day }) q
 
-pub change : (h : VrkHanded) (c : ℕ) (ds : List ℤ) (os : List ℕ) (e : ℤ) → Times (scaleAt c) (CApi.changed h c ds os e) (CApi.changingOf h c ds os e)
+pub change : (h : VrkHanded) (c : ℕ) (ds : List ℤ) (os : List ℕ) (e : ℤ) → Marked (markOf (CApi.handedOf h)) (scaleAt c) (CApi.changed h c ds os e) (CApi.changingOf h c ds os e)
     ((3, C.changeUnknown c h) ∷ Rows.change (CApi.handedOf h) (scaleAt c) ds os e)
 unfolding CApi.changed
-change h c ds os e = times (scaleAt c) (CApi.changingOf h c ds os e) (in-front (CApi.knownScale c && CApi.known h) (Changes.changing (CApi.handedOf h) (scaleAt c) ds os e) (change-rows ds os e (CApi.handedOf h) (scaleAt c)))
+change h c ds os e = marked (markOf (CApi.handedOf h)) (scaleAt c) (CApi.changingOf h c ds os e) (in-front (CApi.knownScale c && CApi.known h) (Changes.changing (CApi.handedOf h) (scaleAt c) ds os e) (change-rows ds os e (CApi.handedOf h) (scaleAt c)))
     (any (CApi.handedOf h) (scaleAt c) ds os e)
 
 pub sbt-date : (t : ℕ) (c : VrkSbtCorrelation) (d : ℤ) (u : ℕ) (ds : List ℤ) (os : List ℕ) (e : ℤ) →
-    Times (CApi.correlationOf c .scale) (CApi.sbtDate t c d u ds os e) (Sbt.dating (CApi.correlationOf c) t d u ds os e)
+    Marked (Clock.markOf (Sbt.clockOf (CApi.correlationOf c) ds os)) (CApi.correlationOf c .scale) (CApi.sbtDate t c d u ds os e) (Sbt.dating (CApi.correlationOf c) t d u ds os e)
     (Rows.sbtDate (CApi.correlationOf c) t d u ds os e)
 unfolding CApi.sbtDate Sbt.dateOf
 sbt-date t c d u ds os e =
-    times (CApi.correlationOf c .scale) (Sbt.dating (CApi.correlationOf c) t d u ds os e) (One.sbt-date (CApi.correlationOf c) t d u ds os e .judges) refl
+    marked (Clock.markOf (Sbt.clockOf (CApi.correlationOf c) ds os)) (CApi.correlationOf c .scale) (Sbt.dating (CApi.correlationOf c) t d u ds os e) (One.sbt-date (CApi.correlationOf c) t d u ds os e .judges) refl
 
 pub sbt-tick : (h : VrkHanded) (c : VrkSbtCorrelation) (ds : List ℤ) (os : List ℕ) (e : ℤ) →
     Counts (CApi.sbtTick h c ds os e) (given (CApi.known h) 3 (Sbt.turning (CApi.correlationOf c) (CApi.handedOf h) ds os e))
@@ -106,9 +116,9 @@ sbt-tick h c ds os e =
     counts (given (CApi.known h) 3 j) (in-front (CApi.known h) j (One.sbt-tick (CApi.correlationOf c) (CApi.handedOf h) ds os e .judges)) refl
 
 pub goce-date : (t : ℕ) (c : VrkGoceCorrelation) (d : ℤ) (u : ℕ) (ds : List ℤ) (os : List ℕ) (e : ℤ) →
-    Times S.Utc (CountsForC.goceDate t c d u ds os e) (Goce.dating (CountsForC.goceOf c) t d u ds os e) (Rows.goceDate (CountsForC.goceOf c) t d u ds os e)
+    Marked (Clock.markOf (Goce.clockOf (CountsForC.goceOf c) ds os)) S.Utc (CountsForC.goceDate t c d u ds os e) (Goce.dating (CountsForC.goceOf c) t d u ds os e) (Rows.goceDate (CountsForC.goceOf c) t d u ds os e)
 unfolding CountsForC.goceDate Goce.dateOf
-goce-date t c d u ds os e = times S.Utc (Goce.dating (CountsForC.goceOf c) t d u ds os e) (One.goce-date (CountsForC.goceOf c) t d u ds os e .judges) refl
+goce-date t c d u ds os e = marked (Clock.markOf (Goce.clockOf (CountsForC.goceOf c) ds os)) S.Utc (Goce.dating (CountsForC.goceOf c) t d u ds os e) (One.goce-date (CountsForC.goceOf c) t d u ds os e .judges) refl
 
 pub goce-count : (h : VrkHanded) (c : VrkGoceCorrelation) (ds : List ℤ) (os : List ℕ) (e : ℤ) →
     Counts (CountsForC.goceCount h c ds os e) (given (CApi.known h) 3 (Goce.turning (CountsForC.goceOf c) (CApi.handedOf h) ds os e))
@@ -148,15 +158,15 @@ pub siral-write : (h : VrkHanded) (out : List ℕ) → Writes out (Bytes.writes 
 unfolding Bytes.writes field
 siral-write h out = writes out (Bytes.handedWriting Siral.writing h out) refl refl
 
-pub proteus-read : (s : List ℕ) → Promise (λ (o : Outcome Proteus.Stamp). Bytes.proteusOut (Proteus.stamped o)) (λ (x : VrkProteus). x .refusal) (Bytes.proteusOut (Proteus.read s)) (Proteus.reading s)
+pub proteus-read : (s : List ℕ) → Marked (M.Proteus (ProteusFields.fieldsOf s .h3)) S.Utc (CApi.timeOut (Proteus.read s)) (Proteus.reading s)
     (Rows.proteusRead s)
 unfolding Proteus.read
-proteus-read s = promised (record { of-refusal = λ n. refl; of-answer = λ a. refl }) (Proteus.reading s) refl refl
+proteus-read s = marked (M.Proteus (ProteusFields.fieldsOf s .h3)) S.Utc (Proteus.reading s) refl refl
 
-pub proteus-write : (h : VrkHanded) (b : ℕ) (out : List ℕ) → Writes out (Bytes.writes (Bytes.handedWriting (Bytes.proteusWriting b) h) out) (Bytes.handedWriting (Bytes.proteusWriting b) h out)
-    ((3, C.handedUnknown h) ∷ (3, C.bitUnknown b) ∷ Rows.proteusWrite (CApi.handedOf h) out)
+pub proteus-write : (h : VrkHanded) (out : List ℕ) → Writes out (Bytes.writes (Bytes.handedWriting Proteus.writing h) out) (Bytes.handedWriting Proteus.writing h out)
+    ((3, C.handedUnknown h) ∷ Rows.proteusWrite (CApi.handedOf h) out)
 unfolding Bytes.writes field
-proteus-write h b out = writes out (Bytes.handedWriting (Bytes.proteusWriting b) h out) refl refl
+proteus-write h out = writes out (Bytes.handedWriting Proteus.writing h out) refl refl
 
 pub goce-read : (s : List ℕ) → Counts (CApi.countOut (GoceFields.read s)) (GoceFields.reading s)
     (Rows.goceRead s)

@@ -29,7 +29,7 @@ rowsAllowed {rows} p = rows
 
 -- of a change: over both kinds of what is handed in, its scales and the scales to change to
 abbrev handedAs : ℕ → Scale → VrkHanded → VrkHanded
-handedAs k s h = record { kind = k; scale = codeOf s; day = h .day; micro = h .micro; decimal = h .decimal }
+handedAs k s h = record { kind = k; scale = codeOf s; day = h .day; micro = h .micro; decimal = h .decimal; mark = h .mark; source = h .source }
 
 abbrev overScales : (Scale → List (ℕ × Bool)) → List (ℕ × Bool)
 overScales f = f S.Tai ++ (f S.Utc ++ f S.Gps)
@@ -80,8 +80,8 @@ obet-write f out = refl
 pub proteus-read : (s : List ℕ) → refusals (rowsOf (OneForC.proteus-read s)) ≡ 1 ∷ 2 ∷ 3 ∷ 7 ∷ []
 proteus-read s = refl
 
-pub proteus-write : (h : VrkHanded) (b : ℕ) (out : List ℕ) → refusals (rowsOf (OneForC.proteus-write h b out)) ≡ 3 ∷ 4 ∷ 7 ∷ 12 ∷ 13 ∷ []
-proteus-write h b out = refl
+pub proteus-write : (h : VrkHanded) (out : List ℕ) → refusals (rowsOf (OneForC.proteus-write h out)) ≡ 3 ∷ 4 ∷ 7 ∷ 12 ∷ 13 ∷ []
+proteus-write h out = refl
 
 pub cryosat-read : (s : List ℕ) → refusals (rowsOf (OneForC.cryosat-read s)) ≡ 1 ∷ 3 ∷ 7 ∷ []
 cryosat-read s = refl

@@ -5,12 +5,14 @@ use mathlib.Core.Bool.{Bool, true, false, _&&_}
 use mathlib.Core.List.{List}
 use Prim.Native.Nat.{ℕ, _≤_}
 use lib.IntN.{ℤ}
-use Rattle.scales.specs.Meaning.{scaleAt, given, Outcome, refused, outcome, Slip, dated, written, Valued, valued}
+use Rattle.scales.specs.Meaning.{scaleAt, given, Outcome, refused, outcome, Slip, datedAs, written, Valued, valued}
 use Rattle.scales.specs.declared.Scale.the-variants as S
+use Rattle.handed.specs.Meaning.{markOf}
 use Rattle.handed.specs.declared.Handed.{Handed}
 use Rattle.leap.specs.Meaning as Leap
 use Rattle.leap_laws.proofs.Kept.{Follows}
 use Rattle.leap_laws.proofs.Promises.{Fresh, fresh}
+use Rattle.clock.specs.Meaning as Clock
 use Rattle.sbt.specs.Meaning as Sbt
 use Rattle.sbt.specs.declared.Correlation.{Correlation}
 use Rattle.sbt_laws.proofs.Window.{widened}
@@ -70,7 +72,7 @@ module _ (ds : List ℤ) (os : List ℕ) (e : ℤ) (cs : List ℤ) (ps : List �
         Sbt.dateOf (widened c b a) t d u cs ps f ≡ Sbt.dateOf c t d u ds os e
     unfolding Sbt.dateOf
     sbt-date-kept t d u =
-        handed-on (dated (c .scale)) (λ (s : Slip). s .number) (λ n. refl) (outcome (Sbt.dating c t d u ds os e)) (outcome (Sbt.dating (widened c b a) t d u cs ps f))
+        handed-on (datedAs (Clock.markOf (Sbt.clockOf c ds os)) (c .scale)) (λ (s : Slip). s .number) (λ n. refl) (outcome (Sbt.dating c t d u ds os e)) (outcome (Sbt.dating (widened c b a) t d u cs ps f))
         (SbtWider.date-kept c b a l m y z ds os e cs ps f (λ i. follows) t d u)
 
     sbt-tick-kept : (h : Handed) → (Sbt.tickOf c h ds os e .number ≡ 8 → ⊥) → (Sbt.tickOf c h ds os e .number ≡ 9 → ⊥) →
@@ -87,7 +89,7 @@ module _ (ds : List ℤ) (os : List ℕ) (e : ℤ) (cs : List ℤ) (ps : List �
         Goce.dateOf (GoceWindow.widened g b a) t d u cs ps f ≡ Goce.dateOf g t d u ds os e
     unfolding Goce.dateOf
     goce-date-kept t d u =
-        handed-on (dated S.Utc) (λ (s : Slip). s .number) (λ n. refl) (outcome (Goce.dating g t d u ds os e)) (outcome (Goce.dating (GoceWindow.widened g b a) t d u cs ps f))
+        handed-on (datedAs (Clock.markOf (Goce.clockOf g ds os)) S.Utc) (λ (s : Slip). s .number) (λ n. refl) (outcome (Goce.dating g t d u ds os e)) (outcome (Goce.dating (GoceWindow.widened g b a) t d u cs ps f))
         (GoceWider.date-kept g b a l m y z ds os e cs ps f follows t d u)
 
     goce-count-kept : (h : Handed) → (Goce.obtOf g h ds os e .number ≡ 8 → ⊥) → (Goce.obtOf g h ds os e .number ≡ 9 → ⊥) →
@@ -157,9 +159,9 @@ module _ (ds : List ℤ) (os : List ℕ) (e : ℤ) (cs : List ℤ) (ps : List �
   unfolding CApi.changed changeOf
   change-for-c h c n = go (CApi.knownScale c && CApi.known h) n
     where
-      go : (k : Bool) → (CApi.timeOut (dated (scaleAt c) (outcome (given k 3 (changing (CApi.handedOf h) (scaleAt c) ds os e)))) .refusal ≡ 9 → ⊥)
-          → CApi.timeOut (dated (scaleAt c) (outcome (given k 3 (changing (CApi.handedOf h) (scaleAt c) cs ps f))))
-          ≡ CApi.timeOut (dated (scaleAt c) (outcome (given k 3 (changing (CApi.handedOf h) (scaleAt c) ds os e))))
+      go : (k : Bool) → (CApi.timeOut (datedAs (markOf (CApi.handedOf h)) (scaleAt c) (outcome (given k 3 (changing (CApi.handedOf h) (scaleAt c) ds os e)))) .refusal ≡ 9 → ⊥)
+          → CApi.timeOut (datedAs (markOf (CApi.handedOf h)) (scaleAt c) (outcome (given k 3 (changing (CApi.handedOf h) (scaleAt c) cs ps f))))
+          ≡ CApi.timeOut (datedAs (markOf (CApi.handedOf h)) (scaleAt c) (outcome (given k 3 (changing (CApi.handedOf h) (scaleAt c) ds os e))))
       go true n = ap CApi.timeOut (fresh ds os e cs ps f v w x .change (CApi.handedOf h) (scaleAt c) n)
       go false n = refl
 

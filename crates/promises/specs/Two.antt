@@ -33,10 +33,10 @@ module _ (s : List ℕ) where
   cuc-time m = ends (λ (x : Moment). since (x .day) (x .micro) ≡ since Cuc.epoch (Cuc.microsOf (CucFields.fieldsOf s))) (Cuc.reading s) m (λ a b. after 32700 (Cuc.microsOf (CucFields.fieldsOf s)))
 
   -- "UTC, in weeks of 604,800 s from day -7300"
-  pub proteus-time : (t : Proteus.Stamp) → outcome (Proteus.reading s) ≡ answer t
-      → since (t .moment .day) (t .moment .micro)
+  pub proteus-time : (m : Moment) → outcome (Proteus.reading s) ≡ answer m
+      → since (m .day) (m .micro)
       ≡ since Proteus.epoch ((ProteusFields.fieldsOf s .week * 604800 + ProteusFields.fieldsOf s .second) * 1000000 + fractionMicros (ProteusFields.fieldsOf s .fraction))
-  proteus-time t = ends (λ (x : Proteus.Stamp). since (x .moment .day) (x .moment .micro) ≡ since Proteus.epoch (Proteus.microsOf (ProteusFields.fieldsOf s))) (Proteus.reading s) t (λ a b c d. after 32700 (Proteus.microsOf (ProteusFields.fieldsOf s)))
+  proteus-time m = ends (λ (x : Moment). since (x .day) (x .micro) ≡ since Proteus.epoch (Proteus.microsOf (ProteusFields.fieldsOf s))) (Proteus.reading s) m (λ a b c d. after 32700 (Proteus.microsOf (ProteusFields.fieldsOf s)))
 
   -- "day 16 bits, millisecond 32 bits, microsecond 16 bits. Read as TAI, MJD2000"
   pub cryosat-time : (m : Moment) → outcome (Cryosat.reading s) ≡ answer m

@@ -56,7 +56,7 @@ pub code-taken :
 code-taken = (
   λ h r q. allows (Decimal.writing (CApi.handedOf h)) refl refl (slipped r) q,
   λ w.
-      let h : VrkHanded = record { kind = 0; scale = 9; day = pos 40000; micro = 0; decimal = plusZero } in
+      let h : VrkHanded = record { kind = 0; scale = 9; day = pos 40000; micro = 0; decimal = plusZero; mark = 0; source = 0 } in
       let z : _≡_ {A = ℕ} 7 3 = w h (record { refusal = 7; day = plusZero }) (refl, refl) .first in
       omega arith,
 )
