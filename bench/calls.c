@@ -125,6 +125,11 @@ static void fresh(const struct row *row, int c) {
     row->run[c](INPUTS);
 }
 
+static void tell(int c, const uint64_t *answer) {
+    printf(" %s", who[c]);
+    for (size_t k = 0; k < sizeof answers[0] / sizeof answers[0][0]; k++) printf(" %lx", answer[k]);
+}
+
 /* How many are refused, or -1 where two contenders differ. One that does less is held to the answers, not to the
  * refusals, and date not to second 60. */
 static int compared(const struct row *row, uint64_t *numbers) {
@@ -147,8 +152,8 @@ static int compared(const struct row *row, uint64_t *numbers) {
             int as_lent = memcmp(lent[i], expected_lent[i], LENT) == 0;
             int as_wide = memcmp(wide + i % FILES, expected_wide + i % FILES, sizeof *wide) == 0;
             if (same(row, answers[i], expected[i]) && as_lent && as_wide) continue;
-            printf("answer or lent bytes differ: %s, input %d: desk %lx %lx %lx, %s %lx %lx %lx\n", row->name, (int)i,
-                   expected[i][0], expected[i][1], expected[i][2], who[c], answers[i][0], answers[i][1], answers[i][2]);
+            printf("answer or lent bytes differ: %s, input %d:", row->name, (int)i);
+            tell(first, expected[i]), tell(c, answers[i]), printf("\n");
             return -1;
         }
     }

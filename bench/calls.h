@@ -31,7 +31,7 @@ struct input {
     };
     union {
         struct {
-            uint32_t code;  /* a tick, an H3, a form or the scale that is wanted */
+            uint32_t code;  /* a tick, a form or the scale that is wanted */
             uint32_t count; /* bytes given or lent; of a season what is given, and in part[0] what is lent */
         };
         uint64_t obt; /* a count that is dated */

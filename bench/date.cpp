@@ -15,5 +15,5 @@ vrk_time date_text_read(const uint8_t *text, size_t count) {
     auto day = date::floor<date::days>(time) - date::sys_days(date::year{2000} / 1 / 1);
     auto micro = time - date::floor<date::days>(time);
     uint32_t scale = text[0] == 'T' ? VRK_TAI : text[0] == 'U' ? VRK_UTC : VRK_GPS;
-    return vrk_time{0, scale, day.count(), static_cast<uint64_t>(micro.count())};
+    return vrk_time{0, scale, day.count(), static_cast<uint64_t>(micro.count()), VRK_PLAIN, 0};
 }

@@ -18,7 +18,7 @@ static vrk_time utc_to_tai(vrk_handed h) {
     eraUtctai(utc1, utc2, &tai1, &tai2);
     double days = floor(tai1 - day_0 + tai2), micro = round((tai1 - day_0 - days + tai2) * 86400e6);
     if (micro >= 86400e6) micro -= 86400e6, days++;
-    return (vrk_time){0, VRK_TAI, (int64_t)days, (uint64_t)micro};
+    return (vrk_time){0, VRK_TAI, (int64_t)days, (uint64_t)micro, VRK_PLAIN, 0};
 }
 
 static vrk_time tai_to_utc(vrk_handed h) {
@@ -28,15 +28,17 @@ static vrk_time tai_to_utc(vrk_handed h) {
     eraD2dtf("UTC", 6, utc1, utc2, &year, &month, &day, clock);
     eraCal2jd(year, month, day, &zero, &mjd);
     int64_t seconds = (clock[0] * 60 + clock[1]) * 60 + clock[2];
-    return (vrk_time){0, VRK_UTC, (int64_t)(zero - day_0 + mjd), (uint64_t)(seconds * 1000000 + clock[3])};
+    return (vrk_time){0, VRK_UTC, (int64_t)(zero - day_0 + mjd), (uint64_t)(seconds * 1000000 + clock[3]), VRK_PLAIN, 0};
 }
 
-/* A decimal day is first made a record, as its users do. */
+/* A decimal day is first made a record, as its users do. The mark goes beside, since ERFA knows none. */
 vrk_time erfa_change(vrk_handed h, uint32_t to_scale) {
     if (h.kind == VRK_DECIMAL) {
         double day = floor(h.decimal), micro = floor((h.decimal - day) * 86400e6 + 0.5);
         if (micro >= 86400e6) micro -= 86400e6, day++;
         h.day = (int64_t)day, h.micro = (uint64_t)micro;
     }
-    return to_scale == VRK_TAI ? utc_to_tai(h) : tai_to_utc(h);
+    vrk_time t = to_scale == VRK_TAI ? utc_to_tai(h) : tai_to_utc(h);
+    if (h.kind == VRK_RECORD && h.mark != VRK_PLAIN) t.mark = h.mark, t.source = h.source;
+    return t;
 }

@@ -40,10 +40,9 @@
     F(text_write)
 
 enum {
-    halves_vrk_time = 0x3F,
+    halves_vrk_time = 0x37F,
     halves_vrk_count = 0x0D,
     halves_vrk_written = 0x0D,
-    halves_vrk_proteus = 0x7F,
     halves_vrk_decimal = 0x0D,
     halves_uint32_t = 0x01,
     halves_vrk_cuc_fields = 0x07,

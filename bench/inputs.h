@@ -5,7 +5,7 @@
 #include "calls.h"
 #include "plain_dates.h"
 
-enum { BAD_TIMES = 9, BAD_LISTS = 11 };
+enum { BAD_TIMES = 11, BAD_LISTS = 11 };
 
 static uint64_t below(uint64_t n);
 

@@ -78,7 +78,7 @@ static uint32_t room(uint32_t length) { return length + (uint32_t)below(3); }
 static vrk_handed without_image(uint32_t scale, size_t which) {
     if (scale == VRK_TAI) return any_time(scale, FIRST_DAY);
     if (which % 3 == 0) return second_60();
-    return (vrk_handed){VRK_RECORD, scale, which % 3 == 1 ? FIRST_GPS_DAY - 1 : 21372, 0, 0};
+    return (vrk_handed){VRK_RECORD, scale, which % 3 == 1 ? FIRST_GPS_DAY - 1 : 21372, 0, 0, 0, 0};
 }
 
 static void write_time(struct input *x, size_t i, uint32_t scale, int64_t first, uint32_t length) {
@@ -100,7 +100,6 @@ static void make_siral_write(struct input *x, size_t i, size_t steps) { (void)st
 static void make_proteus_write(struct input *x, size_t i, size_t steps) {
     (void)steps;
     write_time(x, i, VRK_UTC, FIRST_GPS_DAY, 8);
-    x->code = refused(i) % 5 == 4 ? 2 : (uint32_t)below(2);
 }
 
 /* ---- counts and fields: one over its limit, no room */
@@ -155,8 +154,8 @@ static void make_siral_parts(struct input *x, size_t i, size_t steps) { (void)st
     FUNCTION(goce_write, make_goce_write, vrk_written, x->value, ROOM)                                                    \
     FUNCTION(obet_read, make_obet_read, vrk_count, GIVEN)                                                                 \
     FUNCTION(obet_write, make_obet_write, vrk_written, x->value, ROOM)                                                    \
-    FUNCTION(proteus_read, make_proteus_read, vrk_proteus, GIVEN)                                                         \
-    FUNCTION(proteus_write, make_proteus_write, vrk_written, x->time, x->code, ROOM)                                      \
+    FUNCTION(proteus_read, make_proteus_read, vrk_time, GIVEN)                                                            \
+    FUNCTION(proteus_write, make_proteus_write, vrk_written, x->time, ROOM)                                               \
     FUNCTION(cryosat_read, make_cryosat_read, vrk_time, GIVEN)                                                            \
     FUNCTION(cryosat_write, make_cryosat_write, vrk_written, x->time, ROOM)                                               \
     FUNCTION(siral_read, make_siral_read, vrk_time, GIVEN)                                                                \

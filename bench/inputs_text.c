@@ -17,7 +17,7 @@ static void text_write(struct input *x, size_t i, uint32_t scale, uint32_t form)
     case 1: x->code = 21; break;
     case 2: x->list = bad_list(bad / 8); break;
     case 3: x->time.day = LISTED + 1; break;
-    case 4: x->time = (vrk_handed){VRK_RECORD, VRK_UTC, 1, DAY, 0}; break;
+    case 4: x->time = (vrk_handed){VRK_RECORD, VRK_UTC, 1, DAY, 0, 0, 0}; break;
     case 5: x->code = 20, x->time.scale = VRK_GPS, x->time.day = 0; break;
     case 6: x->code = 24, x->time.kind = VRK_RECORD, x->time.micro = 1; break;
     case 7: x->count = form - 1; break;

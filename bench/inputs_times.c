@@ -11,18 +11,30 @@ static uint64_t below(uint64_t n) {
     return (z ^ z >> 31) % n;
 }
 
+/* Of four times that are not refused for their mark one is from Proteus, one correlated and two are plain, one of these with a
+ * source that nothing may look at. The chance is its own: times to be refused and decimal days have marks too, and no other number
+ * of an input depends on them. */
+static void mark(vrk_handed *h, size_t i) {
+    uint64_t chance = i * UINT64_C(0x9E3779B97F4A7C15);
+    if (h->mark != VRK_PLAIN) return;
+    if (chance >> 62 == 1) h->mark = VRK_PROTEUS, h->source = chance >> 61 & 1;
+    if (chance >> 62 == 2) h->mark = VRK_CORRELATED, h->source = chance;
+    if (chance >> 62 == 3) h->source = chance;
+}
+
 /* Makes n inputs of one kind, the same at every time. */
 static void make_inputs(struct input *x, size_t n, making *make, size_t steps) {
     state = 1;
     for (size_t i = 0; i < n; i++) {
         x[i] = (struct input){0};
         make(x + i, i, steps);
+        mark(&x[i].time, i);
     }
 }
 
 static vrk_handed any_record(uint32_t scale, int64_t first) {
     int64_t from = first > FIRST_GPS_DAY || scale != VRK_GPS ? first : FIRST_GPS_DAY;
-    return (vrk_handed){VRK_RECORD, scale, from + (int64_t)below((uint64_t)(LISTED - from + 1)), below(DAY), 0};
+    return (vrk_handed){VRK_RECORD, scale, from + (int64_t)below((uint64_t)(LISTED - from + 1)), below(DAY), 0, 0, 0};
 }
 
 static vrk_handed any_time(uint32_t scale, int64_t first) {
@@ -35,7 +47,7 @@ static vrk_handed any_time(uint32_t scale, int64_t first) {
 }
 
 static vrk_handed bad_time(size_t which) {
-    vrk_handed h = {VRK_RECORD, VRK_TAI, 0, 0, 0};
+    vrk_handed h = {VRK_RECORD, VRK_TAI, 0, 0, 0, 0, 0};
     switch (which % BAD_TIMES) {
     case 0: h.kind = 2; break;
     case 1: h.scale = 3; break;
@@ -46,6 +58,8 @@ static vrk_handed bad_time(size_t which) {
     case 6: h.kind = VRK_DECIMAL, h.decimal = 36525; break;
     case 7: h.day = LAST_DAY + 1; break;
     case 8: h.micro = DAY; break;
+    case 9: h.mark = VRK_CORRELATED + 1; break;
+    case 10: h.mark = VRK_PROTEUS, h.source = 2; break;
     }
     return h;
 }
@@ -57,7 +71,7 @@ static uint64_t offsets[MOST + 1], wrong_offsets[2][PUBLISHED];
 static struct leap_list good, bad[BAD_LISTS];
 
 static vrk_handed second_60(void) {
-    return (vrk_handed){VRK_RECORD, VRK_UTC, published_days[1 + below(PUBLISHED - 1)] - 1, DAY + below(SECOND), 0};
+    return (vrk_handed){VRK_RECORD, VRK_UTC, published_days[1 + below(PUBLISHED - 1)] - 1, DAY + below(SECOND), 0, 0, 0};
 }
 
 /* The published list, or one with a step on each 1 January from 1972 on that speaks of all days. */

@@ -23,7 +23,7 @@ static void make_decimal_write(struct input *x, size_t i, size_t steps) {
 static vrk_handed near(uint32_t scale, int64_t reference) {
     int64_t t = reference + (int64_t)below(7200 * SECOND) - 3600 * SECOND;
     int64_t day = t / DAY - (t % DAY < 0);
-    return (vrk_handed){VRK_RECORD, scale, day, (uint64_t)(t - day * DAY), 0};
+    return (vrk_handed){VRK_RECORD, scale, day, (uint64_t)(t - day * DAY), 0, 0, 0};
 }
 
 /* One of eight as a decimal day. */
@@ -236,9 +236,9 @@ static void change(struct input *x, size_t i, uint32_t from, uint32_t to) {
     if (!bad) return;
     switch (bad % 4) {
     case 0: x->time = bad_time(bad / 4); break;
-    case 1: x->time = (vrk_handed){VRK_RECORD, from, LISTED + 2, 0, 0}; break;
-    case 2: x->time = (vrk_handed){VRK_RECORD, VRK_UTC, 1, DAY, 0}; break;
-    case 3: x->time = (vrk_handed){VRK_RECORD, from, from == VRK_GPS ? FIRST_GPS_DAY : FIRST_DAY, 1, 0}; break;
+    case 1: x->time = (vrk_handed){VRK_RECORD, from, LISTED + 2, 0, 0, 0, 0}; break;
+    case 2: x->time = (vrk_handed){VRK_RECORD, VRK_UTC, 1, DAY, 0, 0, 0}; break;
+    case 3: x->time = (vrk_handed){VRK_RECORD, from, from == VRK_GPS ? FIRST_GPS_DAY : FIRST_DAY, 1, 0, 0, 0}; break;
     }
 }
 
@@ -262,13 +262,13 @@ static void make_tai_gps(struct input *x, size_t i, size_t steps) {
 /* UTC to TAI, all answered: times after the last of 64 yearly steps, and times of the whole span. */
 static void make_young(struct input *x, size_t i, size_t steps) {
     (void)i;
-    *x = (struct input){.time = {VRK_RECORD, VRK_UTC, 13149 + (int64_t)below(23000), below(DAY), 0}, .code = VRK_TAI};
+    *x = (struct input){.time = {VRK_RECORD, VRK_UTC, 13149 + (int64_t)below(23000), below(DAY), 0, 0, 0}, .code = VRK_TAI};
     x->list = listed(steps);
 }
 
 static void make_any(struct input *x, size_t i, size_t steps) {
     (void)i;
-    *x = (struct input){.time = {VRK_RECORD, VRK_UTC, FIRST_DAY + (int64_t)below(46000), below(DAY), 0}, .code = VRK_TAI};
+    *x = (struct input){.time = {VRK_RECORD, VRK_UTC, FIRST_DAY + (int64_t)below(46000), below(DAY), 0, 0, 0}, .code = VRK_TAI};
     x->list = listed(steps);
 }
 

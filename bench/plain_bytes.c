@@ -130,22 +130,21 @@ vrk_written plain_cuc_write(vrk_handed time, uint8_t *out, size_t count) {
 }
 
 /* Its last week ends with day 21371, so no reading lies outside the span. */
-vrk_proteus plain_proteus_read(const uint8_t *b, size_t count) {
+vrk_time plain_proteus_read(const uint8_t *b, size_t count) {
     vrk_proteus_fields f = plain_proteus_fields_read(b, count);
-    if (f.refusal) return (vrk_proteus){f.refusal, VRK_UTC, 0, 0, 0};
+    if (f.refusal) return no_time(f.refusal, VRK_UTC);
     int64_t micro = f.second % 86400 * SECOND + micros_of_fraction(f.fraction);
-    return (vrk_proteus){0, VRK_UTC, FIRST_GPS_DAY + (int64_t)(f.week * 7 + f.second / 86400), (uint64_t)micro, f.h3};
+    return marked(a_time(VRK_UTC, FIRST_GPS_DAY + (int64_t)(f.week * 7 + f.second / 86400), micro), VRK_PROTEUS, f.h3);
 }
 
-vrk_written plain_proteus_write(vrk_handed time, uint32_t h3, uint8_t *out, size_t count) {
-    if (h3 > 1) return not_written(VRK_FIELD_OVER);
+vrk_written plain_proteus_write(vrk_handed time, uint8_t *out, size_t count) {
     vrk_time t = taken(time);
     if (t.refusal) return not_written(t.refusal);
     if (t.scale != VRK_UTC || in_second_60(t) || t.day < FIRST_GPS_DAY || t.day > LAST_PROTEUS_DAY)
         return not_written(VRK_NO_IMAGE);
     if (count < 8) return not_written(VRK_OUTPUT_SHORTER);
     uint32_t days = (uint32_t)(t.day - FIRST_GPS_DAY);
-    put16(out, days / 7 << 4 | h3);
+    put16(out, days / 7 << 4 | (t.mark == VRK_PROTEUS ? (uint32_t)t.source : 0));
     put32(out + 2, days % 7 * 86400 + (uint32_t)(t.micro / SECOND));
     put16(out + 6, fraction_of((int64_t)(t.micro % SECOND)));
     return wrote(8);

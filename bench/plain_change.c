@@ -72,8 +72,8 @@ static inline vrk_time changed(vrk_time t, uint32_t to, const struct list *l) {
     }
     if (t.scale == to) return t;
     int64_t tai = micros_of(t) + offset * SECOND;
-    if (to == VRK_UTC) return utc_of(l, tai);
-    return time_at(to, to == VRK_GPS ? tai - GPS_OFFSET * SECOND : tai, VRK_RESULT_OUTSIDE);
+    if (to == VRK_UTC) return marked(utc_of(l, tai), t.mark, t.source);
+    return marked(time_at(to, to == VRK_GPS ? tai - GPS_OFFSET * SECOND : tai, VRK_RESULT_OUTSIDE), t.mark, t.source);
 }
 
 /* ---- clocks that are kept in UTC; their times are microseconds since day 0 in days of 86,400 s, from the reference's on */

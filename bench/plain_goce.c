@@ -30,7 +30,8 @@ vrk_time plain_goce_date(uint64_t obt, vrk_goce_correlation c, int64_t receipt_d
     if (k < back || k > ahead) return no_time(VRK_NOT_IN_FORCE, VRK_UTC);
     struct list l = {days, offsets, day_count, last};
     vrk_time receipt = a_time(VRK_UTC, receipt_day, (int64_t)receipt_micro);
-    return clocked(&l, reference_day(&c), receipt, time_of_count(&c, back), time_of_count(&c, ahead), time_of_count(&c, k));
+    vrk_time t = clocked(&l, reference_day(&c), receipt, time_of_count(&c, back), time_of_count(&c, ahead), time_of_count(&c, k));
+    return marked(t, VRK_CORRELATED, c.obt0);
 }
 
 /* The last k with (UTC0 + Offset) * 10^9 + k * Gradient < (t + 1) * 65,536,000: a division of 128 bits, in two of 64. */

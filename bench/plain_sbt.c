@@ -24,10 +24,10 @@ vrk_time plain_sbt_date(uint32_t tick, vrk_sbt_correlation c, int64_t receipt_da
     int64_t begin = time_of_tick(&c, back), end = time_of_tick(&c, ahead), at = time_of_tick(&c, k);
     if (c.scale == VRK_UTC) {
         struct list l = {days, offsets, day_count, last};
-        return clocked(&l, c.day, receipt, begin, end, at);
+        return marked(clocked(&l, c.day, receipt, begin, end, at), VRK_CORRELATED, c.tick);
     }
     if (micros_of(receipt) < begin || micros_of(receipt) > end) return no_time(VRK_NOT_IN_FORCE, c.scale);
-    return time_at(c.scale, at, VRK_RESULT_OUTSIDE);
+    return marked(time_at(c.scale, at, VRK_RESULT_OUTSIDE), VRK_CORRELATED, c.tick);
 }
 
 /* The last k with k * P < (t + 1) * 10^6, t being counted from the reference. */

@@ -1,9 +1,15 @@
 /* Plain C: spans, times handed in, decimal days. A part of plain.c. */
 
 static inline vrk_time a_time(uint32_t scale, int64_t day, int64_t micro) {
-    return (vrk_time){0, scale, day, (uint64_t)micro};
+    return (vrk_time){0, scale, day, (uint64_t)micro, VRK_PLAIN, 0};
 }
-static inline vrk_time no_time(uint32_t refusal, uint32_t scale) { return (vrk_time){refusal, scale, 0, 0}; }
+static inline vrk_time no_time(uint32_t refusal, uint32_t scale) { return (vrk_time){refusal, scale, 0, 0, VRK_PLAIN, 0}; }
+
+/* An answer with a mark; a refusal stays plain. */
+static inline vrk_time marked(vrk_time t, uint32_t mark, uint64_t source) {
+    if (!t.refusal) t.mark = mark, t.source = source;
+    return t;
+}
 
 static inline int64_t first_day(uint32_t scale) { return scale == VRK_GPS ? FIRST_GPS_DAY : FIRST_DAY; }
 
@@ -49,12 +55,13 @@ static vrk_time decimal_time(double x, uint32_t scale) {
     return time_at(scale, nearest_micro(x), VRK_OUTSIDE_SPAN);
 }
 
-/* A time handed in, as a record: refused 3, 4 or 7. Callers judge 5 and 6 between 4 and 7. */
+/* A time handed in, as a record with its mark: refused 3, 4 or 7. Callers judge 5 and 6 between 4 and 7. */
 static inline vrk_time taken(vrk_handed h) {
     if (h.kind > VRK_DECIMAL || h.scale > VRK_GPS) return no_time(VRK_FIELD_OVER, VRK_TAI);
     if (h.kind == VRK_DECIMAL) return decimal_time(h.decimal, h.scale);
+    if (h.mark > VRK_CORRELATED || (h.mark == VRK_PROTEUS && h.source > 1)) return no_time(VRK_FIELD_OVER, VRK_TAI);
     if (!spans(h.scale, h.day, h.micro)) return no_time(VRK_OUTSIDE_SPAN, h.scale);
-    return a_time(h.scale, h.day, (int64_t)h.micro);
+    return marked(a_time(h.scale, h.day, (int64_t)h.micro), h.mark, h.mark == VRK_PLAIN ? 0 : h.source);
 }
 
 static inline int64_t micros_of(vrk_time t) { return t.day * DAY + (int64_t)t.micro; }

@@ -13,6 +13,7 @@ mod independent;
 
 mod laws;
 mod library;
+mod marks;
 mod season;
 mod times;
 

@@ -1,11 +1,11 @@
 //! What holds of every answer whatever the independent program says: the form of a refusal and of an answer, that what is written
 //! reads back and what is read is written again, that a wider window changes nothing but an 8 and a longer list besides nothing but
 //! an 8 or a 9, and that a list which is not used changes nothing. The parts of a call are found by their names, so that these laws
-//! hold of a new pair of functions without a line here; season.rs has what holds of the season's file.
+//! hold of a new pair of functions without a line here; marks.rs has what holds of marks, season.rs what of the season's file.
 
 use crate::calls::{refusal, Answer, Call, Function, Shape};
 use crate::library::named;
-use crate::season;
+use crate::{marks, season};
 use crate::times::{List, Time, LAST_DAY, UTC};
 
 /// A lent slice as it is left.
@@ -25,6 +25,9 @@ pub fn broken(call: &Call, answer: &Answer) -> Option<&'static str> {
     let time = Time::answered(call.function, answer);
     if time.is_some_and(|time| time.span().is_none()) {
         return Some("no scale");
+    }
+    if let Some(why) = marks::broken(call, answer) {
+        return Some(why);
     }
     if number != 0 {
         let kept = [Some(refusal), shape.gives("scale")];
@@ -250,7 +253,7 @@ fn listless(call: &Call, answer: &Answer) -> Option<Again> {
 }
 
 pub fn again(call: &Call, answer: &Answer) -> impl Iterator<Item = Again> {
-    let same = [wider(call, answer), longer(call, answer), listless(call, answer)];
+    let same = [wider(call, answer), longer(call, answer), listless(call, answer), marks::again(call, answer)];
     back(call, answer).into_iter().chain(same.into_iter().flatten()).chain(season::again(call, answer))
 }
 
@@ -258,6 +261,7 @@ impl Again {
     pub fn agrees(&self, got: &Answer) -> bool {
         let words = self.words.iter().zip(&got.words).all(|(due, got)| due.is_none_or(|due| due == *got));
         let time = self.time.zip(Time::answered(self.call.function, got));
-        words && time.is_none_or(|((due, early), got)| due.comes_back(got, early, &self.call)) && got.lent == self.lent
+        let comes_back = time.is_none_or(|((due, early), got)| due.comes_back(got, early, &self.call));
+        words && comes_back && got.lent == self.lent && marks::broken(&self.call, got).is_none()
     }
 }

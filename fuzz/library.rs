@@ -42,11 +42,10 @@ pub fn wrong(server: &mut Server, call: &Call) -> Option<String> {
     if let Some(why) = laws::broken(call, &answer) {
         return Some(format!("{why}: {answer:x?}"));
     }
-    for again in laws::again(call, &answer) {
-        let got = ask(server, &again.call);
-        if !again.agrees(&got) {
-            return Some(format!("{}: {got:x?}", again.wrong));
-        }
-    }
-    None
+    // asked at once, since each asking waits for the server
+    let again: Vec<laws::Again> = laws::again(call, &answer).collect();
+    let calls: Vec<Call> = again.iter().map(|again| again.call.clone()).collect();
+    let answers = server.ask(&calls);
+    let differs = again.iter().zip(&answers).find(|(again, got)| !again.agrees(got));
+    differs.map(|(again, got)| format!("{}: {got:x?}", again.wrong))
 }

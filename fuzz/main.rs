@@ -20,6 +20,7 @@ mod desk;
 mod kept;
 mod laws;
 mod library;
+mod marks;
 mod season;
 mod times;
 

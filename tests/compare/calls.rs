@@ -14,7 +14,7 @@ mod season;
 mod shape;
 mod text;
 
-use crate::independent::time::{Moment, Scale};
+use crate::independent::time::{Record, Scale};
 use crate::independent::Number;
 // Each program that calls uses its own part.
 #[allow(unused_imports)]
@@ -112,12 +112,13 @@ fn answered(call: &Call, words: &[u64]) -> Answer {
     Answer { words: all, lent: call.lent() }
 }
 
-/// A time of the scale, or a refusal.
-fn timed(call: &Call, scale: Scale, time: Result<Moment, Number>) -> Answer {
-    match time {
-        Ok(moment) => answered(call, &[0, scale.code(), moment.day as u64, moment.micro]),
-        Err(number) => answered(call, &[number, scale.code()]),
-    }
+/// A record, or a refusal with the empty record of the scale.
+fn timed(call: &Call, scale: Scale, time: Result<Record, Number>) -> Answer {
+    let (number, Record { scale, moment, mark }) = match time {
+        Ok(record) => (0, record),
+        Err(number) => (number, Record::empty(scale)),
+    };
+    answered(call, &[&[number, scale.code(), moment.day as u64, moment.micro], &mark.words()[..]].concat())
 }
 
 /// A count, or a refusal.

@@ -7,8 +7,8 @@ enum {
     TEXT_WRITE,
 };
 
-enum { ANSWER = 5 };
-enum { WORDS = 13, SLICES = 3 };
+enum { ANSWER = 6 };
+enum { WORDS = 15, SLICES = 3 };
 
 /* How many words and slices a function takes; the bytes of a slice's element, and whether it is written. */
 static const struct shape {
@@ -21,22 +21,22 @@ static const struct shape {
     [GOCE_READ] = {0, 1, {{1, 0}}},
     [OBET_READ] = {0, 1, {{1, 0}}},
     [SBT_READ] = {0, 1, {{1, 0}}},
-    [CUC_WRITE] = {5, 1, {{1, 1}}},
-    [CRYOSAT_WRITE] = {5, 1, {{1, 1}}},
-    [SIRAL_WRITE] = {5, 1, {{1, 1}}},
+    [CUC_WRITE] = {7, 1, {{1, 1}}},
+    [CRYOSAT_WRITE] = {7, 1, {{1, 1}}},
+    [SIRAL_WRITE] = {7, 1, {{1, 1}}},
     [GOCE_WRITE] = {1, 1, {{1, 1}}},
     [OBET_WRITE] = {1, 1, {{1, 1}}},
     [SBT_WRITE] = {1, 1, {{1, 1}}},
     [PROTEUS_READ] = {0, 1, {{1, 0}}},
-    [PROTEUS_WRITE] = {6, 1, {{1, 1}}},
+    [PROTEUS_WRITE] = {7, 1, {{1, 1}}},
     [GOCE_DATE] = {10, 2, {{8, 0}, {8, 0}}},
-    [GOCE_COUNT] = {12, 2, {{8, 0}, {8, 0}}},
+    [GOCE_COUNT] = {14, 2, {{8, 0}, {8, 0}}},
     [DECIMAL_READ] = {2, 0, {{0, 0}}},
-    [DECIMAL_WRITE] = {5, 0, {{0, 0}}},
+    [DECIMAL_WRITE] = {7, 0, {{0, 0}}},
     [SBT_DATE] = {11, 2, {{8, 0}, {8, 0}}},
-    [SBT_TICK] = {13, 2, {{8, 0}, {8, 0}}},
+    [SBT_TICK] = {15, 2, {{8, 0}, {8, 0}}},
     [LIST_ACCEPTED] = {1, 2, {{8, 0}, {8, 0}}},
-    [CHANGE] = {7, 2, {{8, 0}, {8, 0}}},
+    [CHANGE] = {9, 2, {{8, 0}, {8, 0}}},
     [CUC_FIELDS_READ] = {0, 1, {{1, 0}}},
     [CUC_FIELDS_WRITE] = {2, 1, {{1, 1}}},
     [PROTEUS_FIELDS_READ] = {0, 1, {{1, 0}}},
@@ -49,7 +49,7 @@ static const struct shape {
     [SEASON_WRITE] = {0, 2, {{8, 0}, {1, 1}}},
     [SEASON_COVERING] = {2, 1, {{1, 0}}},
     [TEXT_READ] = {1, 3, {{1, 0}, {8, 0}, {8, 0}}},
-    [TEXT_WRITE] = {7, 3, {{8, 0}, {8, 0}, {1, 1}}},
+    [TEXT_WRITE] = {9, 3, {{8, 0}, {8, 0}, {1, 1}}},
 };
 
 static uint64_t w[WORDS], answer[ANSWER];
@@ -59,7 +59,7 @@ static struct { void *at; size_t count; } slices[SLICES];
 #define LENT(type, k) (type *)slices[k].at, slices[k].count
 
 static vrk_handed handed_at(const uint64_t *a) {
-    vrk_handed made = {(uint32_t)a[0], (uint32_t)a[1], (int64_t)a[2], a[3], double_of(a[4])};
+    vrk_handed made = {(uint32_t)a[0], (uint32_t)a[1], (int64_t)a[2], a[3], double_of(a[4]), (uint32_t)a[5], a[6]};
     return made;
 }
 
@@ -74,7 +74,7 @@ static vrk_sbt_correlation sbt_correlation_at(const uint64_t *a) {
 }
 
 static void time_is(vrk_time r) {
-    answer[0] = r.refusal, answer[1] = r.scale, answer[2] = (uint64_t)r.day, answer[3] = r.micro;
+    answer[0] = r.refusal, answer[1] = r.scale, answer[2] = (uint64_t)r.day, answer[3] = r.micro, answer[4] = r.mark, answer[5] = r.source;
 }
 
 static void count_is(vrk_count r) {
@@ -83,10 +83,6 @@ static void count_is(vrk_count r) {
 
 static void written_is(vrk_written r) {
     answer[0] = r.refusal, answer[1] = r.length;
-}
-
-static void proteus_is(vrk_proteus r) {
-    answer[0] = r.refusal, answer[1] = r.scale, answer[2] = (uint64_t)r.day, answer[3] = r.micro, answer[4] = r.h3;
 }
 
 static void decimal_is(vrk_decimal r) {
@@ -127,16 +123,16 @@ static int call(uint64_t function) {
     case GOCE_WRITE: written_is(vrk_goce_write(w[0], LENT(uint8_t, 0))); return 1;
     case OBET_WRITE: written_is(vrk_obet_write(w[0], LENT(uint8_t, 0))); return 1;
     case SBT_WRITE: written_is(vrk_sbt_write((uint32_t)w[0], LENT(uint8_t, 0))); return 1;
-    case PROTEUS_READ: proteus_is(vrk_proteus_read(GIVEN(uint8_t, 0))); return 1;
-    case PROTEUS_WRITE: written_is(vrk_proteus_write(handed_at(w), (uint32_t)w[5], LENT(uint8_t, 0))); return 1;
+    case PROTEUS_READ: time_is(vrk_proteus_read(GIVEN(uint8_t, 0))); return 1;
+    case PROTEUS_WRITE: written_is(vrk_proteus_write(handed_at(w), LENT(uint8_t, 0))); return 1;
     case GOCE_DATE: time_is(vrk_goce_date(w[0], goce_correlation_at(w + 1), (int64_t)w[7], w[8], GIVEN(int64_t, 0), GIVEN(uint64_t, 1), (int64_t)w[9])); return 1;
-    case GOCE_COUNT: count_is(vrk_goce_count(handed_at(w), goce_correlation_at(w + 5), GIVEN(int64_t, 0), GIVEN(uint64_t, 1), (int64_t)w[11])); return 1;
+    case GOCE_COUNT: count_is(vrk_goce_count(handed_at(w), goce_correlation_at(w + 7), GIVEN(int64_t, 0), GIVEN(uint64_t, 1), (int64_t)w[13])); return 1;
     case DECIMAL_READ: time_is(vrk_decimal_read(double_of(w[0]), (uint32_t)w[1])); return 1;
     case DECIMAL_WRITE: decimal_is(vrk_decimal_write(handed_at(w))); return 1;
     case SBT_DATE: time_is(vrk_sbt_date((uint32_t)w[0], sbt_correlation_at(w + 1), (int64_t)w[8], w[9], GIVEN(int64_t, 0), GIVEN(uint64_t, 1), (int64_t)w[10])); return 1;
-    case SBT_TICK: count_is(vrk_sbt_tick(handed_at(w), sbt_correlation_at(w + 5), GIVEN(int64_t, 0), GIVEN(uint64_t, 1), (int64_t)w[12])); return 1;
+    case SBT_TICK: count_is(vrk_sbt_tick(handed_at(w), sbt_correlation_at(w + 7), GIVEN(int64_t, 0), GIVEN(uint64_t, 1), (int64_t)w[14])); return 1;
     case LIST_ACCEPTED: answer[0] = vrk_list_accepted(GIVEN(int64_t, 0), GIVEN(uint64_t, 1), (int64_t)w[0]); return 1;
-    case CHANGE: time_is(vrk_change(handed_at(w), (uint32_t)w[5], GIVEN(int64_t, 0), GIVEN(uint64_t, 1), (int64_t)w[6])); return 1;
+    case CHANGE: time_is(vrk_change(handed_at(w), (uint32_t)w[7], GIVEN(int64_t, 0), GIVEN(uint64_t, 1), (int64_t)w[8])); return 1;
     case CUC_FIELDS_READ: cuc_fields_is(vrk_cuc_fields_read(GIVEN(uint8_t, 0))); return 1;
     case CUC_FIELDS_WRITE: written_is(vrk_cuc_fields_write((uint32_t)w[0], (uint32_t)w[1], LENT(uint8_t, 0))); return 1;
     case PROTEUS_FIELDS_READ: proteus_fields_is(vrk_proteus_fields_read(GIVEN(uint8_t, 0))); return 1;
@@ -149,7 +145,7 @@ static int call(uint64_t function) {
     case SEASON_WRITE: written_is(vrk_season_write(GIVEN(int64_t, 0), LENT(uint8_t, 1))); return 1;
     case SEASON_COVERING: cover_is(vrk_season_covering(GIVEN(uint8_t, 0), (int64_t)w[0], w[1])); return 1;
     case TEXT_READ: time_is(vrk_text_read(GIVEN(uint8_t, 0), GIVEN(int64_t, 1), GIVEN(uint64_t, 2), (int64_t)w[0])); return 1;
-    case TEXT_WRITE: written_is(vrk_text_write(handed_at(w), GIVEN(int64_t, 0), GIVEN(uint64_t, 1), (int64_t)w[5], (uint32_t)w[6], LENT(uint8_t, 2))); return 1;
+    case TEXT_WRITE: written_is(vrk_text_write(handed_at(w), GIVEN(int64_t, 0), GIVEN(uint64_t, 1), (int64_t)w[7], (uint32_t)w[8], LENT(uint8_t, 2))); return 1;
     }
     return 0;
 }

@@ -3,7 +3,7 @@
 use crate::independent::leap::{change, List};
 use crate::independent::lines::steps;
 use crate::independent::text::spelled;
-use crate::independent::time::{Handed, Moment, Scale};
+use crate::independent::time::{Handed, Moment, Record, Scale};
 
 const DAY: u64 = 86_400_000_000;
 const SECOND: u64 = 1_000_000;
@@ -96,7 +96,8 @@ pub fn mix(seed: u64, lines: u64) -> Vec<u8> {
             1 => Moment { day: random.from_to(8000, 8100), micro: DAY + random.below(SECOND) },
             _ => Moment { day: random.from_to(scale.first_day(), 9130), micro: random.below(DAY) },
         };
-        let moment = if kind == 0 { change(Handed::Record(Scale::Utc, utc), scale, &list).unwrap_or(utc) } else { utc };
+        let record = Record::plain(Scale::Utc, utc);
+        let moment = if kind == 0 { change(Handed::Record(record), scale, &list).unwrap_or(record).moment } else { utc };
         let mut line = [prefix, &spelled(moment, micros)].concat();
         let start = prefix.len();
         match kind {

@@ -4,7 +4,7 @@ use crate::cases::Lines;
 use crate::independent::leap::{change, List};
 use crate::independent::lines::steps;
 use crate::independent::text::spelled;
-use crate::independent::time::{Handed, Moment, Scale};
+use crate::independent::time::{Handed, Moment, Record, Scale};
 
 const DAY: u64 = 86_400_000_000;
 const SECOND: u64 = 1_000_000;
@@ -35,8 +35,8 @@ pub fn lines(made: &mut Lines) {
         for (scale, prefix) in [(Scale::Tai, b"TAI="), (Scale::Gps, b"GPS=")] {
             for utc in around(step) {
                 // GPS begins in 1980.
-                if let Ok(moment) = change(Handed::Record(Scale::Utc, utc), scale, &list) {
-                    made.line([prefix.as_slice(), &spelled(moment, true)].concat());
+                if let Ok(changed) = change(Handed::Record(Record::plain(Scale::Utc, utc)), scale, &list) {
+                    made.line([prefix.as_slice(), &spelled(changed.moment, true)].concat());
                 }
             }
         }

@@ -2,7 +2,7 @@
 
 use super::clock::Clock;
 use super::leap::List;
-use super::time::{since_day_0, Handed, Moment, Scale, DAY};
+use super::time::{since_day_0, Handed, Mark, Moment, Record, Scale, DAY};
 use super::Number;
 
 pub struct Correlation {
@@ -41,10 +41,11 @@ impl Clock for Correlation {
 }
 
 impl Correlation {
-    /// 5, 6, 7, 8, 9, 10, 11 in this order, or the tick's time.
-    pub fn date(&self, tick: u32, receipt: Moment, list: &List) -> Result<Moment, Number> {
+    /// 5, 6, 7, 8, 9, 10, 11 in this order, or the tick's time, marked with the reference tick.
+    pub fn date(&self, tick: u32, receipt: Moment, list: &List) -> Result<Record, Number> {
         // two's complement: the difference in 32 bits, as a signed number
-        self.time_at(i128::from(tick.wrapping_sub(self.tick) as i32), receipt, list)
+        let moment = self.time_at(i128::from(tick.wrapping_sub(self.tick) as i32), receipt, list)?;
+        Ok(Record { scale: self.scale, moment, mark: Mark::Correlated(self.tick.into()) })
     }
 
     /// 4, 5, 6, 7, 8, 9, 10, 12 in this order, or the last tick of the window whose time is not later.

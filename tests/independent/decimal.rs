@@ -1,6 +1,6 @@
 //! Decimal days, as fractions of whole numbers.
 
-use super::time::{moment_at, since_day_0, Handed, Moment, Scale, DAY};
+use super::time::{moment_at, since_day_0, Handed, Record, Scale, DAY};
 use super::Number;
 use std::cmp::Ordering;
 
@@ -32,7 +32,7 @@ fn compare(x: f64, whole: i128) -> Ordering {
 }
 
 /// 4, 7, or the microsecond nearest the exact value, a tie going to the later.
-pub fn read(x: f64, scale: Scale) -> Result<Moment, Number> {
+pub fn read(x: f64, scale: Scale) -> Result<Record, Number> {
     if !x.is_finite() {
         return Err(4);
     }
@@ -43,7 +43,7 @@ pub fn read(x: f64, scale: Scale) -> Result<Moment, Number> {
     let signed = if negative { -i128::from(significand) } else { i128::from(significand) };
     // |x| < 2^16, so the power is below -36 for a full significand; below -90 the value is no half microsecond.
     if power < -90 {
-        return Ok(moment_at(0));
+        return Ok(Record::plain(scale, moment_at(0)));
     }
     let micros = if power >= 0 {
         (signed << power) * DAY
@@ -51,7 +51,7 @@ pub fn read(x: f64, scale: Scale) -> Result<Moment, Number> {
         // floor(value + 1/2) = floor((2 n + d) / 2 d)
         (2 * signed * DAY + (1 << -power)).div_euclid(2 << -power)
     };
-    Ok(moment_at(micros))
+    Ok(Record::plain(scale, moment_at(micros)))
 }
 
 /// The double nearest micros / 86,400,000,000, a tie going to the even significand.

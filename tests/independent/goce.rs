@@ -1,8 +1,8 @@
-//! GOCE's counts of 1/65536 s and their correlation, from document 02's first two requests and document 002, 4.2.6.
+//! GOCE's counts of 1/65536 s and their correlation, from document 02's first two requests and its sixth, and document 002, 4.2.6.
 
 use super::clock::Clock;
 use super::leap::List;
-use super::time::{Handed, Moment, Scale};
+use super::time::{Handed, Mark, Moment, Record, Scale};
 use super::Number;
 
 const WRAP: u64 = 1 << 48;
@@ -54,14 +54,15 @@ impl Correlation {
         i128::from(self.utc0) + i128::from(self.offset)
     }
 
-    /// 3, 5, 6, 7, 8, 9, 10, 11 in this order, or the count's time.
-    pub fn date(&self, obt: u64, receipt: Moment, list: &List) -> Result<Moment, Number> {
+    /// 3, 5, 6, 7, 8, 9, 10, 11 in this order, or the count's time, marked with the reference count.
+    pub fn date(&self, obt: u64, receipt: Moment, list: &List) -> Result<Record, Number> {
         if obt >= WRAP {
             return Err(3);
         }
         let (wrap, half) = (i128::from(WRAP), i128::from(WRAP / 2));
         let k = (i128::from(obt) - i128::from(self.obt0) + half).rem_euclid(wrap) - half;
-        self.time_at(k, receipt, list)
+        let moment = self.time_at(k, receipt, list)?;
+        Ok(Record { scale: self.scale(), moment, mark: Mark::Correlated(self.obt0) })
     }
 
     /// 4, 5, 6, 7, 8, 9, 10, 12 in this order, or the last count of the window whose time is not later.

@@ -1,6 +1,6 @@
 //! The seven byte layouts.
 
-use super::time::{since_day_0, Handed, Moment, Scale, DAY};
+use super::time::{since_day_0, Handed, Mark, Moment, Record, Scale, DAY};
 use super::Number;
 
 pub fn number(bytes: &[u8]) -> u64 {
@@ -16,10 +16,10 @@ fn fields(parts: &[(usize, u64)]) -> Vec<u8> {
     parts.iter().flat_map(|&(width, value)| field(width, value)).collect()
 }
 
-/// A time as days, with the microseconds beyond a day carried, in the scale's span or 7.
-fn carried(scale: Scale, day: i64, micros: i128) -> Result<Moment, Number> {
+/// A plain time as days, with the microseconds beyond a day carried, in the scale's span or 7.
+fn carried(scale: Scale, day: i64, micros: i128) -> Result<Record, Number> {
     let moment = Moment { day: day + (micros / DAY) as i64, micro: (micros % DAY) as u64 };
-    if (scale.first_day()..=scale.last_day()).contains(&moment.day) { Ok(moment) } else { Err(7) }
+    if (scale.first_day()..=scale.last_day()).contains(&moment.day) { Ok(Record::plain(scale, moment)) } else { Err(7) }
 }
 
 /// The microsecond that a fraction of 16 bits stands for: the nearest, halves upward.
@@ -56,7 +56,7 @@ pub mod cuc {
         Ok(fields(&[(4, seconds), (2, fraction)]))
     }
 
-    pub fn read(bytes: &[u8]) -> Result<Moment, Number> {
+    pub fn read(bytes: &[u8]) -> Result<Record, Number> {
         let [seconds, fraction] = split(bytes)?;
         carried(Scale::Gps, -7300, i128::from(seconds * 1_000_000 + fraction_reads(fraction)))
     }
@@ -122,20 +122,20 @@ pub mod proteus {
         Ok(fields(&[(2, week << 4 | h3), (4, second), (2, fraction)]))
     }
 
-    pub fn read(bytes: &[u8]) -> Result<(Moment, u64), Number> {
+    pub fn read(bytes: &[u8]) -> Result<Record, Number> {
         let [week, h3, second, fraction] = split(bytes)?;
         let micros = (week * WEEK + second) * 1_000_000 + fraction_reads(fraction);
-        Ok((carried(Scale::Utc, -7300, i128::from(micros))?, h3))
+        Ok(Record { mark: Mark::Proteus(h3 == 1), ..carried(Scale::Utc, -7300, i128::from(micros))? })
     }
 
-    pub fn write(handed: Handed, h3: u64) -> Result<Vec<u8>, Number> {
+    pub fn write(handed: Handed) -> Result<Vec<u8>, Number> {
         let moment = handed_in(handed, Scale::Utc)?;
         if i128::from(moment.micro) >= DAY || !(-7300..=21371).contains(&moment.day) {
             return Err(12);
         }
         let micros = (since_day_0(moment) + 7300 * DAY) as u64;
         let seconds = micros / 1_000_000;
-        image([seconds / WEEK, h3, seconds % WEEK, fraction_of(micros % 1_000_000)])
+        image([seconds / WEEK, handed.mark().h3().into(), seconds % WEEK, fraction_of(micros % 1_000_000)])
     }
 }
 
@@ -159,7 +159,7 @@ pub mod cryosat {
         Ok(fields(&[(2, day), (4, milli), (2, micro)]))
     }
 
-    pub fn read(bytes: &[u8]) -> Result<Moment, Number> {
+    pub fn read(bytes: &[u8]) -> Result<Record, Number> {
         let [day, milli, micro] = split(bytes)?;
         carried(Scale::Tai, day as i64, i128::from(milli * 1000 + micro))
     }
@@ -194,7 +194,7 @@ pub mod siral {
         Ok(bytes)
     }
 
-    pub fn read(bytes: &[u8]) -> Result<Moment, Number> {
+    pub fn read(bytes: &[u8]) -> Result<Record, Number> {
         let [day, milli, micro, extra] = split(bytes)?;
         // sixteenths of a microsecond, the whole part of the sum
         let sixteenths = i128::from(milli * 1000 + micro) * 16 + i128::from(extra) * 33;

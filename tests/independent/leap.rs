@@ -1,7 +1,7 @@
 //! The leap list and the changes of scale.
 
 use super::calendar::first_of_month;
-use super::time::{moment_at, since_day_0, Handed, Moment, Scale, DAY};
+use super::time::{moment_at, since_day_0, Handed, Moment, Record, Scale, DAY};
 use super::Number;
 
 const SECOND: i128 = 1_000_000;
@@ -76,8 +76,12 @@ impl List<'_> {
     }
 }
 
-/// 4, 5, 7, 9, 10, 11 in this order, or the time in the scale that is wanted.
-pub fn change(handed: Handed, to: Scale, list: &List) -> Result<Moment, Number> {
+/// 4, 5, 7, 9, 10, 11 in this order, or the time in the scale that is wanted, with the mark that was handed in.
+pub fn change(handed: Handed, to: Scale, list: &List) -> Result<Record, Number> {
+    Ok(Record { scale: to, moment: changed(handed, to, list)?, mark: handed.mark() })
+}
+
+fn changed(handed: Handed, to: Scale, list: &List) -> Result<Moment, Number> {
     let from = handed.scale();
     handed.finite()?;
     if (from == Scale::Utc || to == Scale::Utc) && !list.accepted() {

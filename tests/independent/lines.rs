@@ -21,9 +21,9 @@ pub fn steps() -> Vec<i64> {
 }
 
 fn dated(line: &[u8], list: &List) -> Result<Vec<u8>, Number> {
-    let (scale, moment) = read(line, list)?;
-    let tai = change(Handed::Record(scale, moment), Scale::Tai, list)?;
-    write(Handed::Record(Scale::Tai, tai), 31, list)
+    let record = read(line, list)?;
+    let tai = change(Handed::Record(record), Scale::Tai, list)?;
+    write(Handed::Record(tai), 31, list)
 }
 
 /// One line of output for each line of input.

@@ -2,7 +2,7 @@
 
 use super::calendar::{date_of, day_of, Date};
 use super::leap::List;
-use super::time::{Handed, Moment, Scale};
+use super::time::{Handed, Moment, Record, Scale};
 use super::Number;
 
 const MONTHS: [&[u8]; 12] = [b"JAN", b"FEB", b"MAR", b"APR", b"MAY", b"JUN", b"JUL", b"AUG", b"SEP", b"OCT", b"NOV", b"DEC"];
@@ -21,7 +21,7 @@ fn prefix(bytes: &[u8]) -> Result<Scale, Number> {
 }
 
 /// 1, 3, 5, 7, 9, 10 in this order, or the time.
-pub fn read(text: &[u8], list: &List) -> Result<(Scale, Moment), Number> {
+pub fn read(text: &[u8], list: &List) -> Result<Record, Number> {
     if ![20, 24, 27, 31].contains(&text.len()) {
         return Err(1);
     }
@@ -50,7 +50,7 @@ pub fn read(text: &[u8], list: &List) -> Result<(Scale, Moment), Number> {
     if scale == Scale::Utc {
         list.exists(moment)?;
     }
-    Ok((scale, moment))
+    Ok(Record::plain(scale, moment))
 }
 
 /// A time as text, without a prefix.

@@ -1,4 +1,4 @@
-//! Scales, records and what a caller hands in.
+//! Scales, marks, records and what a caller hands in.
 
 use super::{decimal, Number};
 
@@ -46,16 +46,77 @@ pub struct Moment {
     pub micro: u64,
 }
 
+/// Where a record came from.
+#[derive(Clone, Copy, PartialEq, Eq, Debug)]
+pub enum Mark {
+    Plain,
+    /// From Proteus, with its H3 bit.
+    Proteus(bool),
+    /// Correlated, with the reference tick, for GOCE the reference count.
+    Correlated(u64),
+}
+
+impl Mark {
+    /// 0 plain, 1 Proteus, 2 correlated, and the source: of Proteus its H3, 0 or 1, and of the others any number.
+    pub fn coded(code: u64, source: u64) -> Option<Mark> {
+        match (code, source) {
+            (0, _) => Some(Mark::Plain),
+            (1, 0 | 1) => Some(Mark::Proteus(source == 1)),
+            (2, _) => Some(Mark::Correlated(source)),
+            _ => None,
+        }
+    }
+
+    /// The code and the source; a plain mark has source 0.
+    pub fn words(self) -> [u64; 2] {
+        match self {
+            Mark::Plain => [0, 0],
+            Mark::Proteus(h3) => [1, h3.into()],
+            Mark::Correlated(reference) => [2, reference],
+        }
+    }
+
+    /// What writing Proteus takes from it.
+    pub fn h3(self) -> bool {
+        self == Mark::Proteus(true)
+    }
+}
+
+#[derive(Clone, Copy, Debug)]
+pub struct Record {
+    pub scale: Scale,
+    pub moment: Moment,
+    pub mark: Mark,
+}
+
+impl Record {
+    pub fn plain(scale: Scale, moment: Moment) -> Record {
+        Record { scale, moment, mark: Mark::Plain }
+    }
+
+    /// What stands beside a refusal's number.
+    pub fn empty(scale: Scale) -> Record {
+        Record::plain(scale, Moment { day: 0, micro: 0 })
+    }
+}
+
 #[derive(Clone, Copy, Debug)]
 pub enum Handed {
-    Record(Scale, Moment),
+    Record(Record),
     Decimal(Scale, f64),
 }
 
 impl Handed {
     pub fn scale(self) -> Scale {
         match self {
-            Handed::Record(scale, _) | Handed::Decimal(scale, _) => scale,
+            Handed::Record(Record { scale, .. }) | Handed::Decimal(scale, _) => scale,
+        }
+    }
+
+    pub fn mark(self) -> Mark {
+        match self {
+            Handed::Record(record) => record.mark,
+            Handed::Decimal(..) => Mark::Plain,
         }
     }
 
@@ -70,8 +131,8 @@ impl Handed {
     /// 7, and the time otherwise; of a decimal day that is finite.
     pub fn moment(self) -> Result<Moment, Number> {
         match self {
-            Handed::Record(scale, moment) => if scale.spans(moment) { Ok(moment) } else { Err(7) },
-            Handed::Decimal(scale, day) => decimal::read(day, scale),
+            Handed::Record(Record { scale, moment, .. }) => if scale.spans(moment) { Ok(moment) } else { Err(7) },
+            Handed::Decimal(scale, day) => decimal::read(day, scale).map(|record| record.moment),
         }
     }
 }

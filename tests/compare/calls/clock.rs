@@ -50,7 +50,7 @@ pub fn received(call: &Call) -> Moment {
     Moment { day: call.number("receipt_day") as i64, micro: call.number("receipt_micro") }
 }
 
-/// The five words of a vrk_handed: that moment, or anything.
+/// The seven words of a vrk_handed: that moment, or anything.
 pub fn handed(random: &mut Random, scale: u64, moment: Moment) -> Vec<u64> {
     let mut all = handed::words(random);
     if !random.one_in(4) {

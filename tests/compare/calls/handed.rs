@@ -1,7 +1,7 @@
 //! Times handed in: records and decimal days, in the span, at its edges, and beyond.
 
 use super::{Call, Random};
-use crate::independent::time::{Handed, Moment, Scale};
+use crate::independent::time::{Handed, Mark, Moment, Record, Scale};
 
 const DAY: u64 = 86_400_000_000;
 
@@ -57,10 +57,27 @@ pub fn scale_code(random: &mut Random) -> u64 {
     if random.one_in(24) { random.pick(&[3, 4, 255, u64::from(u32::MAX)]) } else { random.below(3) }
 }
 
-/// The five words of a vrk_handed.
+/// The words of a mark: all kinds, with any source where it may be any or is not looked at; or one that stands for nothing.
+fn mark(mut random: Random) -> [u64; 2] {
+    let any = random.next();
+    let source = random.pick(&[0, 1, 2, 256, u64::from(u32::MAX), 1 << 32, 1 << 32 | 1, 1 << 63, u64::MAX, any]);
+    let damaged = random.pick(&[3, 4, 256, 257, 258, 65_536, 1 << 31, u64::from(u32::MAX)]);
+    match random.below(24) {
+        0 => [damaged, source],
+        1 => [1, source],
+        2..=9 => [1, random.below(2)],
+        10..=17 => [2, source],
+        18 => [0, source],
+        _ => [0, 0],
+    }
+}
+
+/// The seven words of a vrk_handed.
 pub fn words(random: &mut Random) -> Vec<u64> {
     let kind = if random.one_in(24) { random.pick(&[2, 3, u64::from(u32::MAX)]) } else { random.below(2) };
-    vec![kind, scale_code(random), day(random) as u64, micro(random), decimal(random).to_bits()]
+    let time = [kind, scale_code(random), day(random) as u64, micro(random), decimal(random).to_bits()];
+    // aside, so that all else of a call is what it was when times had no marks: the stored answers are of the same times
+    [&time[..], &mark(random.aside())].concat()
 }
 
 /// What the time of a call stands for, if it stands for anything.
@@ -68,7 +85,10 @@ pub fn of(call: &Call) -> Option<Handed> {
     let words = call.numbers("time");
     let scale = Scale::coded(words[1])?;
     match words[0] {
-        0 => Some(Handed::Record(scale, Moment { day: words[2] as i64, micro: words[3] })),
+        0 => {
+            let moment = Moment { day: words[2] as i64, micro: words[3] };
+            Some(Handed::Record(Record { scale, moment, mark: Mark::coded(words[5], words[6])? }))
+        }
         1 => Some(Handed::Decimal(scale, f64::from_bits(words[4]))),
         _ => None,
     }

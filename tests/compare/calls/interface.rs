@@ -80,7 +80,7 @@ pub const FUNCTIONS: &[Function] = &[
 ];
 
 /// The words of every answer.
-pub const ANSWER: usize = 5;
+pub const ANSWER: usize = 6;
 
 /// The refusals that are asked for by name.
 #[allow(dead_code)]
@@ -107,21 +107,21 @@ pub const SHAPES: &[Shape] = &[
     Shape {
         name: "cuc_read",
         takes: &[given("bytes", 1)],
-        gives: &["refusal", "scale", "day", "micro"],
+        gives: &["refusal", "scale", "day", "micro", "mark", "source"],
         image: None,
         refuses: &[1, 7],
     },
     Shape {
         name: "cryosat_read",
         takes: &[given("bytes", 1)],
-        gives: &["refusal", "scale", "day", "micro"],
+        gives: &["refusal", "scale", "day", "micro", "mark", "source"],
         image: None,
         refuses: &[1, 3, 7],
     },
     Shape {
         name: "siral_read",
         takes: &[given("bytes", 1)],
-        gives: &["refusal", "scale", "day", "micro"],
+        gives: &["refusal", "scale", "day", "micro", "mark", "source"],
         image: None,
         refuses: &[1, 3, 7],
     },
@@ -148,21 +148,21 @@ pub const SHAPES: &[Shape] = &[
     },
     Shape {
         name: "cuc_write",
-        takes: &[numbers("time", &[("kind", 4), ("scale", 4), ("day", 8), ("micro", 8), ("decimal", 8)]), lent("out", 1)],
+        takes: &[numbers("time", &[("kind", 4), ("scale", 4), ("day", 8), ("micro", 8), ("decimal", 8), ("mark", 4), ("source", 8)]), lent("out", 1)],
         gives: &["refusal", "length"],
         image: Some(Image { length: 6, fixed: true, told: None }),
         refuses: &[3, 4, 7, 12, 13],
     },
     Shape {
         name: "cryosat_write",
-        takes: &[numbers("time", &[("kind", 4), ("scale", 4), ("day", 8), ("micro", 8), ("decimal", 8)]), lent("out", 1)],
+        takes: &[numbers("time", &[("kind", 4), ("scale", 4), ("day", 8), ("micro", 8), ("decimal", 8), ("mark", 4), ("source", 8)]), lent("out", 1)],
         gives: &["refusal", "length"],
         image: Some(Image { length: 8, fixed: true, told: None }),
         refuses: &[3, 4, 7, 12, 13],
     },
     Shape {
         name: "siral_write",
-        takes: &[numbers("time", &[("kind", 4), ("scale", 4), ("day", 8), ("micro", 8), ("decimal", 8)]), lent("out", 1)],
+        takes: &[numbers("time", &[("kind", 4), ("scale", 4), ("day", 8), ("micro", 8), ("decimal", 8), ("mark", 4), ("source", 8)]), lent("out", 1)],
         gives: &["refusal", "length"],
         image: Some(Image { length: 10, fixed: true, told: None }),
         refuses: &[3, 4, 7, 12, 13],
@@ -191,13 +191,13 @@ pub const SHAPES: &[Shape] = &[
     Shape {
         name: "proteus_read",
         takes: &[given("bytes", 1)],
-        gives: &["refusal", "scale", "day", "micro", "h3"],
+        gives: &["refusal", "scale", "day", "micro", "mark", "source"],
         image: None,
         refuses: &[1, 2, 3],
     },
     Shape {
         name: "proteus_write",
-        takes: &[numbers("time", &[("kind", 4), ("scale", 4), ("day", 8), ("micro", 8), ("decimal", 8)]), numbers("h3", &[("h3", 4)]), lent("out", 1)],
+        takes: &[numbers("time", &[("kind", 4), ("scale", 4), ("day", 8), ("micro", 8), ("decimal", 8), ("mark", 4), ("source", 8)]), lent("out", 1)],
         gives: &["refusal", "length"],
         image: Some(Image { length: 8, fixed: true, told: None }),
         refuses: &[3, 4, 7, 12, 13],
@@ -205,13 +205,13 @@ pub const SHAPES: &[Shape] = &[
     Shape {
         name: "goce_date",
         takes: &[numbers("obt", &[("obt", 8)]), numbers("correlation", &[("obt0", 8), ("utc0", 8), ("offset", 8), ("gradient", 8), ("back", 8), ("ahead", 8)]), numbers("receipt_day", &[("receipt_day", 8)]), numbers("receipt_micro", &[("receipt_micro", 8)]), given("days", 8), given("offsets", 8), numbers("last", &[("last", 8)])],
-        gives: &["refusal", "scale", "day", "micro"],
+        gives: &["refusal", "scale", "day", "micro", "mark", "source"],
         image: None,
         refuses: &[3, 5, 6, 7, 8, 9, 10, 11],
     },
     Shape {
         name: "goce_count",
-        takes: &[numbers("time", &[("kind", 4), ("scale", 4), ("day", 8), ("micro", 8), ("decimal", 8)]), numbers("correlation", &[("obt0", 8), ("utc0", 8), ("offset", 8), ("gradient", 8), ("back", 8), ("ahead", 8)]), given("days", 8), given("offsets", 8), numbers("last", &[("last", 8)])],
+        takes: &[numbers("time", &[("kind", 4), ("scale", 4), ("day", 8), ("micro", 8), ("decimal", 8), ("mark", 4), ("source", 8)]), numbers("correlation", &[("obt0", 8), ("utc0", 8), ("offset", 8), ("gradient", 8), ("back", 8), ("ahead", 8)]), given("days", 8), given("offsets", 8), numbers("last", &[("last", 8)])],
         gives: &["refusal", "count"],
         image: None,
         refuses: &[3, 4, 5, 6, 7, 8, 9, 10, 12],
@@ -219,13 +219,13 @@ pub const SHAPES: &[Shape] = &[
     Shape {
         name: "decimal_read",
         takes: &[numbers("day", &[("day", 8)]), numbers("scale", &[("scale", 4)])],
-        gives: &["refusal", "scale", "day", "micro"],
+        gives: &["refusal", "scale", "day", "micro", "mark", "source"],
         image: None,
         refuses: &[3, 4, 7],
     },
     Shape {
         name: "decimal_write",
-        takes: &[numbers("time", &[("kind", 4), ("scale", 4), ("day", 8), ("micro", 8), ("decimal", 8)])],
+        takes: &[numbers("time", &[("kind", 4), ("scale", 4), ("day", 8), ("micro", 8), ("decimal", 8), ("mark", 4), ("source", 8)])],
         gives: &["refusal", "day"],
         image: None,
         refuses: &[3, 4, 7, 12],
@@ -233,13 +233,13 @@ pub const SHAPES: &[Shape] = &[
     Shape {
         name: "sbt_date",
         takes: &[numbers("tick", &[("tick", 4)]), numbers("correlation", &[("tick", 4), ("scale", 4), ("day", 8), ("micro", 8), ("period", 8), ("back", 8), ("ahead", 8)]), numbers("receipt_day", &[("receipt_day", 8)]), numbers("receipt_micro", &[("receipt_micro", 8)]), given("days", 8), given("offsets", 8), numbers("last", &[("last", 8)])],
-        gives: &["refusal", "scale", "day", "micro"],
+        gives: &["refusal", "scale", "day", "micro", "mark", "source"],
         image: None,
         refuses: &[5, 6, 7, 8, 9, 10, 11],
     },
     Shape {
         name: "sbt_tick",
-        takes: &[numbers("time", &[("kind", 4), ("scale", 4), ("day", 8), ("micro", 8), ("decimal", 8)]), numbers("correlation", &[("tick", 4), ("scale", 4), ("day", 8), ("micro", 8), ("period", 8), ("back", 8), ("ahead", 8)]), given("days", 8), given("offsets", 8), numbers("last", &[("last", 8)])],
+        takes: &[numbers("time", &[("kind", 4), ("scale", 4), ("day", 8), ("micro", 8), ("decimal", 8), ("mark", 4), ("source", 8)]), numbers("correlation", &[("tick", 4), ("scale", 4), ("day", 8), ("micro", 8), ("period", 8), ("back", 8), ("ahead", 8)]), given("days", 8), given("offsets", 8), numbers("last", &[("last", 8)])],
         gives: &["refusal", "count"],
         image: None,
         refuses: &[3, 4, 5, 6, 7, 8, 9, 10, 12],
@@ -253,8 +253,8 @@ pub const SHAPES: &[Shape] = &[
     },
     Shape {
         name: "change",
-        takes: &[numbers("time", &[("kind", 4), ("scale", 4), ("day", 8), ("micro", 8), ("decimal", 8)]), numbers("to_scale", &[("to_scale", 4)]), given("days", 8), given("offsets", 8), numbers("last", &[("last", 8)])],
-        gives: &["refusal", "scale", "day", "micro"],
+        takes: &[numbers("time", &[("kind", 4), ("scale", 4), ("day", 8), ("micro", 8), ("decimal", 8), ("mark", 4), ("source", 8)]), numbers("to_scale", &[("to_scale", 4)]), given("days", 8), given("offsets", 8), numbers("last", &[("last", 8)])],
+        gives: &["refusal", "scale", "day", "micro", "mark", "source"],
         image: None,
         refuses: &[3, 4, 5, 7, 9, 10, 11],
     },
@@ -338,13 +338,13 @@ pub const SHAPES: &[Shape] = &[
     Shape {
         name: "text_read",
         takes: &[given("text", 1), given("days", 8), given("offsets", 8), numbers("last", &[("last", 8)])],
-        gives: &["refusal", "scale", "day", "micro"],
+        gives: &["refusal", "scale", "day", "micro", "mark", "source"],
         image: None,
         refuses: &[1, 3, 5, 7, 9, 10],
     },
     Shape {
         name: "text_write",
-        takes: &[numbers("time", &[("kind", 4), ("scale", 4), ("day", 8), ("micro", 8), ("decimal", 8)]), given("days", 8), given("offsets", 8), numbers("last", &[("last", 8)]), numbers("form", &[("form", 4)]), lent("out", 1)],
+        takes: &[numbers("time", &[("kind", 4), ("scale", 4), ("day", 8), ("micro", 8), ("decimal", 8), ("mark", 4), ("source", 8)]), given("days", 8), given("offsets", 8), numbers("last", &[("last", 8)]), numbers("form", &[("form", 4)]), lent("out", 1)],
         gives: &["refusal", "length"],
         image: Some(Image { length: 31, fixed: false, told: Some("form") }),
         refuses: &[3, 4, 5, 7, 9, 10, 12, 13],

@@ -1,4 +1,4 @@
-use super::{answered, counted, handed, lent, timed, written, Answer, Call, Function, Pair, Random};
+use super::{counted, handed, lent, timed, written, Answer, Call, Function, Pair, Random};
 use crate::independent::layouts::{cryosat, cuc, field, goce, obet, proteus, sbt, siral};
 use crate::independent::time::Scale;
 
@@ -141,10 +141,7 @@ fn model_siral_read(call: &Call) -> Answer {
 }
 
 fn model_proteus_read(call: &Call) -> Answer {
-    match proteus::read(call.slice("bytes")) {
-        Ok((moment, h3)) => answered(call, &[0, Scale::Utc.code(), moment.day as u64, moment.micro, h3]),
-        Err(number) => answered(call, &[number, Scale::Utc.code()]),
-    }
+    timed(call, Scale::Utc, proteus::read(call.slice("bytes")))
 }
 
 fn model_goce_read(call: &Call) -> Answer {
@@ -199,7 +196,10 @@ fn make_siral_write(function: Function, random: &mut Random) -> Call {
 
 fn make_proteus_write(function: Function, random: &mut Random) -> Call {
     let mut call = of_fraction(function, random, Scale::Utc);
-    call.words.push(if random.one_in(20) { 2 + random.below(9) } else { random.below(2) });
+    let h3 = if random.one_in(20) { 2 + random.below(9) } else { random.below(2) };
+    if random.aside().one_in(2) {
+        call.words[5..].copy_from_slice(&[1, h3]);
+    }
     call
 }
 
@@ -216,9 +216,7 @@ fn model_siral_write(call: &Call) -> Answer {
 }
 
 fn model_proteus_write(call: &Call) -> Answer {
-    let h3 = call.number("h3");
-    let handed = if h3 < 2 { handed::of(call).ok_or(3) } else { Err(3) };
-    written(call, handed.and_then(|handed| proteus::write(handed, h3)))
+    written(call, handed::of(call).ok_or(3).and_then(proteus::write))
 }
 
 fn count(function: Function, random: &mut Random, bits: u32) -> Call {

@@ -6,6 +6,11 @@ impl Random {
         Random(digest(name.bytes()) | 1)
     }
 
+    /// A run of its own, which leaves this one where it is.
+    pub fn aside(&self) -> Random {
+        Random(self.0.wrapping_mul(0x9e37_79b9_7f4a_7c15) | 1)
+    }
+
     pub fn next(&mut self) -> u64 {
         self.0 ^= self.0 << 13;
         self.0 ^= self.0 >> 7;

@@ -1,5 +1,5 @@
 use super::leap::{made, near_step, with};
-use super::{answered, handed, lent, written, Answer, Call, Function, Pair, Random};
+use super::{answered, handed, lent, timed, written, Answer, Call, Function, Pair, Random};
 use crate::independent::text::{read, spelled, write};
 use crate::independent::time::{Moment, Scale};
 
@@ -36,10 +36,7 @@ fn make_read(function: Function, random: &mut Random) -> Call {
 }
 
 fn model_read(call: &Call) -> Answer {
-    match with(call, |list| read(call.slice("text"), list)) {
-        Ok((scale, moment)) => answered(call, &[0, scale.code(), moment.day as u64, moment.micro]),
-        Err(number) => answered(call, &[number, Scale::Tai.code()]),
-    }
+    timed(call, Scale::Tai, with(call, |list| read(call.slice("text"), list)))
 }
 
 fn make_write(function: Function, random: &mut Random) -> Call {
