@@ -13,7 +13,7 @@ class Layouts(Desk):
             (vrk.cuc_write, (Gps(0, 15),), 6),
             (vrk.goce_write, (1,), 6),
             (vrk.obet_write, (1,), 8),
-            (vrk.proteus_write, (Utc(0, 0), False), 8),
+            (vrk.proteus_write, (Utc(0, 0),), 8),
             (vrk.cryosat_write, (Tai(1, 1),), 8),
             (vrk.siral_write, (Tai(1, 1),), 10),
             (vrk.sbt_write, (1,), 4),
@@ -38,16 +38,9 @@ class Layouts(Desk):
         self.assertEqual(vrk.obet_read(vrk.obet_write(9)), 9)
         self.assertEqual(vrk.sbt_read(vrk.sbt_write(0x80000001)), 0x80000001)
 
-    def test_proteus_keeps_its_bit(self):
-        for h3 in False, True:
-            self.assertEqual(vrk.proteus_read(vrk.proteus_write(Utc(6209, 500_000), h3)), (Utc(6209, 500_000), h3))
-
     def test_h3_is_a_bit(self):
-        self.refused(vrk.FieldOver, vrk.proteus_write, Utc(0, 0), 2)
-        self.refused(vrk.FieldOver, vrk.proteus_fields_write, 0, -1, 0, 0)
-        # H3 forgotten, and the lent bytes in its place
-        with self.assertRaises(TypeError):
-            vrk.proteus_write(Utc(0, 0), bytearray(8))
+        for h3 in 2, -1:
+            self.refused(vrk.FieldOver, vrk.proteus_fields_write, 0, h3, 0, 0)
 
     def test_slices_of_any_length(self):
         self.refused(vrk.LengthIsNone, vrk.cuc_read, b"")

@@ -9,7 +9,7 @@ import unittest
 
 import vrikshonem as vrk
 from desk import DAY, LIST, SECOND, Desk, correlation, goce
-from vrikshonem import Decimal, Gps, LeapList, Tai, Utc
+from vrikshonem import Decimal, Gps, LeapList, Mark, Tai, Utc
 
 
 def load_tests(loader, tests, pattern):
@@ -32,7 +32,8 @@ class Package(Desk):
         self.assertEqual(vrk.cuc_read(vrk.cuc_fields_write(3_786_479_999, 0)), Gps(36524, DAY - SECOND))
         self.refused(vrk.OutsideSpan, vrk.cuc_read, vrk.cuc_fields_write(3_786_480_000, 0))
         image = vrk.proteus_fields_write(1, True, 604_799, 0)
-        self.assertEqual(vrk.proteus_read(image), (Utc(-7287, DAY - SECOND), True))
+        read = vrk.proteus_read(image)
+        self.assertEqual((read, read.mark), (Utc(-7287, DAY - SECOND), Mark.proteus(True)))
         self.assertEqual(vrk.proteus_fields_read(image), (1, True, 604_799, 0))
         self.refused(vrk.FieldOver, vrk.proteus_fields_write, 1, True, 604_800, 0)
         self.refused(vrk.MarkerWrong, vrk.proteus_read, image[:1] + b"\2" + image[2:])
@@ -68,13 +69,16 @@ class Package(Desk):
             (goce().date, 0, Utc(0, 0), None),
             (goce().count_of, (0, 0), LIST),
             (vrk.cuc_write, Gps(0, 0), memoryview(bytearray(6))),
+            (vrk.proteus_write, Utc(0, 0), True),
+            (Utc, 0, 0, True),
+            (Utc(0, 0).with_mark, None),
         ]:
             with self.assertRaises(TypeError, msg=str(given)):
                 function(*given)
 
     def test_values_are_pickled(self):
         held = correlation(7, Gps(0, 0), 0, 0)
-        for value in Tai(1, 2), Decimal(0.5, Utc), LIST, held, goce(), vrk.siral_fields_read(bytes(10)):
+        for value in Tai(1, 2), Decimal(0.5, Utc), LIST, held, goce(), vrk.siral_fields_read(bytes(10)), Mark.proteus(False):
             again = pickle.loads(pickle.dumps(value))
             self.assertEqual((type(again), again), (type(value), value))
 

@@ -12,8 +12,8 @@ reading is that time or the last not later, and each refusal the first that appl
     Traceback (most recent call last):
     vrikshonem.LengthIsNone: refused 1: input length is none of the layout's
 
-Times are Tai, Utc and Gps; none is accepted where another is due. A refusal is raised as the exception of its name, such as
-NotInForce; each is a Refused, which has .number and .words.
+Times are Tai, Utc and Gps; none is accepted where another is due. The Mark of each says where it came from. A refusal is raised
+as the exception of its name, such as NotInForce; each is a Refused, which has .number and .words.
 
     >>> utc = vrikshonem.Utc(640, 36_000_000_000)
     >>> autumn = vrikshonem.SbtCorrelation(tick=7, reference=utc, period=3_906_250_000, back=0, ahead=663_552_000)
@@ -24,7 +24,7 @@ NotInForce; each is a Refused, which has .number and .words.
     ...         print("a new correlation is needed")
     ...     except vrikshonem.Refused as refused:
     ...         print("refused with", refused.number)
-    Utc(day=640, micro=36000003906)
+    Utc(day=640, micro=36000003906, mark=Mark.correlated(7))
     a new correlation is needed
     refused with 3
 
@@ -32,18 +32,20 @@ A reader takes bytes of any length. A writer hands its image back; where a bytea
 onto its front, leaves every byte after it, and refuses with 13 where it is too short. A refusal leaves every byte.
 """
 
-from . import _correlations, _layouts, _refusals, _season, _times
+from . import _correlations, _layouts, _marks, _refusals, _season, _times
 from ._correlations import *
 from ._layouts import *
+from ._marks import *
 from ._refusals import *
 from ._season import *
 from ._times import *
 
-__version__ = "0.4.3"
+__version__ = "0.5.0"
 # Each module lists its own names, and in this form a checker of types can add them up.
 __all__: list[str] = []
 __all__ += _correlations.__all__
 __all__ += _layouts.__all__
+__all__ += _marks.__all__
 __all__ += _refusals.__all__
 __all__ += _season.__all__
 __all__ += _times.__all__

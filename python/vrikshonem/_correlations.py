@@ -29,8 +29,8 @@ class SbtCorrelation(Generic[T]):
     >>> night = SbtCorrelation(7, Utc(6209, 86_399_000_000), 3_906_250_000, back=2_000, ahead=2_000)
     >>> for tick in 263, 519:
     ...     night.date(tick, night.reference, LeapList.PUBLISHED)
-    Utc(day=6209, micro=86400000000)
-    Utc(day=6210, micro=0)
+    Utc(day=6209, micro=86400000000, mark=Mark.correlated(7))
+    Utc(day=6210, micro=0, mark=Mark.correlated(7))
     >>> night.tick_of(Utc(6209, 86_400_000_000), LeapList.PUBLISHED)
     263
     """
@@ -56,10 +56,10 @@ class SbtCorrelation(Generic[T]):
         )
 
     def date(self, tick: int, receipt: T, leap_list: LeapList) -> T:
-        """The time of a tick whose packet was received at `receipt`, rounded down. The list is looked at only where the scale is
-        Utc. Refused: 3 where the number is no tick; 5; 6; 7 for the receipt; 8 where the tick lies outside the window or the
-        receipt outside the window's times, which in Utc is judged only where reference and receipt are both known; 9 for
-        reference, receipt or result; 10 for the receipt; 11."""
+        """The time of a tick whose packet was received at `receipt`, rounded down, and marked Mark.correlated with the reference
+        tick. The list is looked at only where the scale is Utc. Refused: 3 where the number is no tick; 5; 6; 7 for the receipt;
+        8 where the tick lies outside the window or the receipt outside the window's times, which in Utc is judged only where
+        reference and receipt are both known; 9 for reference, receipt or result; 10 for the receipt; 11."""
         scale, correlation = type(self.reference), self._given()
         due(receipt, scale, f"a receipt in {scale.__name__}")
         given = narrow(tick), correlation, signed(receipt.day), unsigned(receipt.micro)
@@ -90,7 +90,7 @@ class GoceCorrelation:
     >>> utc0, month = (3363 * 86_400 + 57_601) * 65_536, 30 * 86_400 * 65_536
     >>> launch = GoceCorrelation(0xFFFFFFFF0000, utc0, -65_536, 1_000_000_021, back=0, ahead=month)
     >>> launch.date(1, Utc(3363, 57_660_000_000), LeapList.PUBLISHED)
-    Utc(day=3363, micro=57601000015)
+    Utc(day=3363, micro=57601000015, mark=Mark.correlated(281474976645120))
     >>> launch.count_of(Utc(3363, 57_601_000_015), LeapList.PUBLISHED)
     1
     >>> try:
@@ -118,10 +118,10 @@ class GoceCorrelation:
         )
 
     def date(self, obt: int, receipt: Utc, leap_list: LeapList) -> Utc:
-        """The time of a count whose packet was received at `receipt`, rounded down once. Refused: 3 where the number is no count
-        of 48 bits; 5; 6; 7 for the receipt; 8 where the count lies outside the window or the receipt outside the window's times,
-        which is judged only where reference and receipt are both known; 9 for reference, receipt or result; 10 for the receipt;
-        11."""
+        """The time of a count whose packet was received at `receipt`, rounded down once, and marked Mark.correlated with obt0.
+        Refused: 3 where the number is no count of 48 bits; 5; 6; 7 for the receipt; 8 where the count lies outside the window or
+        the receipt outside the window's times, which is judged only where reference and receipt are both known; 9 for reference,
+        receipt or result; 10 for the receipt; 11."""
         due(receipt, Utc, "a receipt in Utc")
         given = unsigned(obt), self._given(), signed(receipt.day), unsigned(receipt.micro)
         return Utc._of(library().vrk_goce_date(*given, *listed(leap_list)))

@@ -149,17 +149,25 @@ def obet_write(count: int, out: Lent = None) -> bytes:
     return _write("vrk_obet_write", out, unsigned(count))
 
 
-def proteus_read(data: Bytes) -> Tuple[Utc, bool]:
-    """Proteus, SMOS, 8 bytes: a UTC time in weeks of 604,800 s, without a leap list, and H3. Its fraction of a second is read as
-    the nearest microsecond, halves upward. Refused: 1; 2; 3."""
-    read = _read("vrk_proteus_read", data)
-    return Utc._of(read), read.h3 == 1
+def proteus_read(data: Bytes) -> Utc:
+    """Proteus, SMOS, 8 bytes: a UTC time in weeks of 604,800 s, without a leap list, marked Mark.proteus with its H3. Its fraction
+    of a second is read as the nearest microsecond, halves upward. Refused: 1; 2; 3.
+
+    >>> proteus_read(bytes.fromhex("0001000000010000"))
+    Utc(day=-7300, micro=1000000, mark=Mark.proteus(True))
+    """
+    return Utc._of(_read("vrk_proteus_read", data))
 
 
-def proteus_write(time: Handed, h3: bool, out: Lent = None) -> bytes:
-    """The last image whose reading is not later, with H3. Refused: 3 an H3 that is no bit; 4; 7; 12 a scale other than UTC,
-    second 60, a day outside -7300 to 21371; 13."""
-    return _write("vrk_proteus_write", out, handed(time), narrow(h3))
+def proteus_write(time: Handed, out: Lent = None) -> bytes:
+    """The last image whose reading is not later, with the H3 of a time that is marked Mark.proteus, and 0 for any other. Refused:
+    4; 7; 12 a scale other than UTC, second 60, a day outside -7300 to 21371; 13.
+
+    >>> time = Utc(-7300, 1_000_000)
+    >>> proteus_write(time).hex(), proteus_write(time.with_mark(Mark.proteus(True))).hex()
+    ('0000000000010000', '0001000000010000')
+    """
+    return _write("vrk_proteus_write", out, handed(time))
 
 
 def proteus_fields_read(data: Bytes) -> ProteusFields:

@@ -7,23 +7,13 @@ import ctypes
 from typing import Any, Dict, Tuple
 
 # The library's file carries the first two numbers of its version.
-LIBRARY = "libvrikshonem.so.0.4"
+LIBRARY = "libvrikshonem.so.0.5"
 
 
 class VrkWritten(ctypes.Structure):
     _fields_ = [
         ("refusal", ctypes.c_uint32),
         ("length", ctypes.c_uint64),
-    ]
-
-
-class VrkProteus(ctypes.Structure):
-    _fields_ = [
-        ("refusal", ctypes.c_uint32),
-        ("scale", ctypes.c_uint32),
-        ("day", ctypes.c_int64),
-        ("micro", ctypes.c_uint64),
-        ("h3", ctypes.c_uint32),
     ]
 
 
@@ -45,6 +35,8 @@ class VrkHanded(ctypes.Structure):
         ("day", ctypes.c_int64),
         ("micro", ctypes.c_uint64),
         ("decimal", ctypes.c_double),
+        ("mark", ctypes.c_uint32),
+        ("source", ctypes.c_uint64),
     ]
 
 
@@ -54,6 +46,8 @@ class VrkTime(ctypes.Structure):
         ("scale", ctypes.c_uint32),
         ("day", ctypes.c_int64),
         ("micro", ctypes.c_uint64),
+        ("mark", ctypes.c_uint32),
+        ("source", ctypes.c_uint64),
     ]
 
 
@@ -142,8 +136,8 @@ FUNCTIONS: Dict[str, Tuple[Any, Tuple[Any, ...]]] = {
     "vrk_goce_write": (VrkWritten, (ctypes.c_uint64, ctypes.POINTER(ctypes.c_uint8), ctypes.c_size_t)),
     "vrk_obet_write": (VrkWritten, (ctypes.c_uint64, ctypes.POINTER(ctypes.c_uint8), ctypes.c_size_t)),
     "vrk_sbt_write": (VrkWritten, (ctypes.c_uint32, ctypes.POINTER(ctypes.c_uint8), ctypes.c_size_t)),
-    "vrk_proteus_read": (VrkProteus, (ctypes.POINTER(ctypes.c_uint8), ctypes.c_size_t)),
-    "vrk_proteus_write": (VrkWritten, (VrkHanded, ctypes.c_uint32, ctypes.POINTER(ctypes.c_uint8), ctypes.c_size_t)),
+    "vrk_proteus_read": (VrkTime, (ctypes.POINTER(ctypes.c_uint8), ctypes.c_size_t)),
+    "vrk_proteus_write": (VrkWritten, (VrkHanded, ctypes.POINTER(ctypes.c_uint8), ctypes.c_size_t)),
     "vrk_goce_date": (VrkTime, (ctypes.c_uint64, VrkGoceCorrelation, ctypes.c_int64, ctypes.c_uint64, ctypes.POINTER(ctypes.c_int64), ctypes.c_size_t, ctypes.POINTER(ctypes.c_uint64), ctypes.c_size_t, ctypes.c_int64)),
     "vrk_goce_count": (VrkCount, (VrkHanded, VrkGoceCorrelation, ctypes.POINTER(ctypes.c_int64), ctypes.c_size_t, ctypes.POINTER(ctypes.c_uint64), ctypes.c_size_t, ctypes.c_int64)),
     "vrk_decimal_read": (VrkTime, (ctypes.c_double, ctypes.c_uint32)),

@@ -9,6 +9,7 @@ from typing import Any, ClassVar, Sequence, Tuple, Type, TypeVar, Union
 
 from . import _sys
 from ._library import library
+from ._marks import Mark
 from ._refusals import FieldOver, Refused
 
 __all__ = ["Decimal", "Gps", "Handed", "LeapList", "Tai", "Time", "Utc", "change"]
@@ -60,17 +61,30 @@ def narrow(value: int) -> int:
     return index(value)
 
 
-@dataclass(frozen=True, order=True)
+@dataclass(frozen=True, order=True, repr=False)
 class _Time:
-    """A time of one scale: days from 1 January 2000, and the microsecond of that day. Any can be built; one outside its
-    span is refused with 7 by the function that is given it. The order is that of time."""
+    """A time of one scale: days from 1 January 2000, the microsecond of that day, and its mark, which is plain where none is
+    given. Any can be built; one outside its span is refused with 7 by the function that is given it. The order is that of time,
+    and the mark is no part of it."""
 
     day: int
     micro: int
+    mark: Mark = field(default=Mark.PLAIN, compare=False)
     CODE: ClassVar[int]
     FIRST_DAY: ClassVar[int]
     LAST_DAY: ClassVar[int] = 36524
     BOUND: ClassVar[int]
+
+    def __post_init__(self) -> None:
+        due(self.mark, Mark, "a Mark")
+
+    def __repr__(self) -> str:
+        marked = "" if self.mark == Mark.PLAIN else f", mark={self.mark}"
+        return f"{type(self).__qualname__}(day={self.day!r}, micro={self.micro!r}{marked})"
+
+    def with_mark(self: T, mark: Mark) -> T:
+        """The same time with this mark."""
+        return type(self)(self.day, self.micro, mark)
 
     @classmethod
     def from_decimal(cls: Type[T], day: float) -> T:
@@ -84,7 +98,7 @@ class _Time:
     @classmethod
     def _of(cls: Type[T], answer: Any) -> T:
         answered(answer)
-        return cls(answer.day, answer.micro)
+        return cls(answer.day, answer.micro, Mark(answer.mark, answer.source))
 
 
 T = TypeVar("T", bound=_Time)
@@ -140,7 +154,8 @@ class Gps(_Time):
 
 @dataclass(frozen=True)
 class Decimal:
-    """A decimal day from 1 January 2000, and its scale: Decimal(6209.5, Utc)."""
+    """A decimal day from 1 January 2000, and its scale: Decimal(6209.5, Utc). It has no mark; the time that it stands for is
+    plain."""
 
     day: float
     scale: Type[_Time]
@@ -163,7 +178,7 @@ def handed(time: Handed) -> _sys.VrkHanded:
     if isinstance(time, Decimal):
         return _sys.VrkHanded(1, code(time.scale), 0, 0, double(time.day))
     due(time, SCALES, "a Tai, Utc, Gps or Decimal")
-    return _sys.VrkHanded(0, time.CODE, signed(time.day), unsigned(time.micro), 0.0)
+    return _sys.VrkHanded(0, time.CODE, signed(time.day), unsigned(time.micro), 0.0, time.mark.code, time.mark.source)
 
 
 @dataclass(frozen=True)
@@ -219,8 +234,8 @@ LeapList.PUBLISHED = LeapList(
 
 
 def change(time: Handed, scale: Type[T], leap_list: LeapList) -> T:
-    """The same instant in another scale; in its own scale a time stays as it is. The list is looked at only where UTC is one
-    of the two. Refused: 4; 5; 7; 9; 10; 11.
+    """The same instant in another scale, with the same mark; in its own scale a time stays as it is. The list is looked at only
+    where UTC is one of the two. Refused: 4; 5; 7; 9; 10; 11.
 
     >>> change(Decimal(6209.5, Utc), Tai, LeapList.PUBLISHED)
     Tai(day=6209, micro=43236000000)

@@ -73,7 +73,8 @@ impl<T: Scaled> SbtCorrelation<T> {
         }
     }
 
-    /// The time of a tick whose packet was received at `receipt`, rounded down. The list is looked at only where `T` is [`Utc`].
+    /// The time of a tick whose packet was received at `receipt`, rounded down, and marked
+    /// [`Mark::Correlated`](crate::Mark::Correlated) with the reference tick. The list is looked at only where `T` is [`Utc`].
     /// Refused: 5; 6; 7 for the receipt; 8 where the tick lies outside the window or the receipt outside the window's times, which
     /// of UTC is judged only where reference and receipt are both known; 9 for reference, receipt or result; 10 for the receipt;
     /// 11.
@@ -136,9 +137,10 @@ impl GoceCorrelation {
         sys::VrkGoceCorrelation { obt0, utc0, offset, gradient, back, ahead }
     }
 
-    /// The time of a count whose packet was received at `receipt`, rounded down once. Refused: 3 from 2^48 on; 5; 6; 7 for the
-    /// receipt; 8 where the count lies outside the window or the receipt outside the window's times, which is judged only where
-    /// reference and receipt are both known; 9 for reference, receipt or result; 10 for the receipt; 11.
+    /// The time of a count whose packet was received at `receipt`, rounded down once, and marked
+    /// [`Mark::Correlated`](crate::Mark::Correlated) with `obt0`. Refused: 3 from 2^48 on; 5; 6; 7 for the receipt; 8 where the count
+    /// lies outside the window or the receipt outside the window's times, which is judged only where reference and receipt are both
+    /// known; 9 for reference, receipt or result; 10 for the receipt; 11.
     pub fn date(&self, obt: u64, receipt: Utc, list: &LeapList<'_>) -> Result<Utc, Error> {
         at(sys::goce_date(obt, self.given(), receipt.day, receipt.micro, list.days, list.offsets, list.last))
     }

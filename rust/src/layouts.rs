@@ -86,10 +86,10 @@ pub mod obet {
 }
 
 /// Proteus, SMOS, 8 bytes: week, H3, second of week and fraction; UTC in weeks of 604,800 s, without a leap list. A fraction is
-/// read as the nearest microsecond, halves upward, as in [`cuc`].
+/// read as the nearest microsecond, halves upward, as in [`cuc`]. H3 is kept in the time's [`Mark`](crate::Mark).
 pub mod proteus {
     use super::*;
-    use crate::time::{Handed, Utc};
+    use crate::time::{at, Handed, Utc};
 
     /// The bytes of an image.
     pub const LENGTH: usize = sys::image::PROTEUS_WRITE;
@@ -104,16 +104,15 @@ pub mod proteus {
         pub fraction: u32,
     }
 
-    /// The time that the bytes stand for, and H3. Refused: 1; 2; 3.
-    pub fn read(bytes: &[u8]) -> Result<(Utc, bool), Error> {
-        let read = sys::proteus_read(bytes);
-        answered(read.refusal, (Utc::new(read.day, read.micro), read.h3 == 1))
+    /// The time that the bytes stand for, marked [`Mark::Proteus`](crate::Mark::Proteus) with their H3. Refused: 1; 2; 3.
+    pub fn read(bytes: &[u8]) -> Result<Utc, Error> {
+        at(sys::proteus_read(bytes))
     }
 
-    /// Writes the last image whose reading is not later, with H3. Refused: 4; 7; 12 a scale other than UTC, second 60, a day
-    /// outside -7300 to 21371; 13.
-    pub fn write(time: impl Into<Handed>, h3: bool, out: &mut [u8]) -> Result<usize, Error> {
-        written(sys::proteus_write(time.into().given(), u32::from(h3), out))
+    /// Writes the last image whose reading is not later, with the H3 of a time marked [`Mark::Proteus`](crate::Mark::Proteus), and 0
+    /// for any other. Refused: 4; 7; 12 a scale other than UTC, second 60, a day outside -7300 to 21371; 13.
+    pub fn write(time: impl Into<Handed>, out: &mut [u8]) -> Result<usize, Error> {
+        written(sys::proteus_write(time.into().given(), out))
     }
 
     /// The fields of the bytes, exactly. Refused: 1; 2; 3.

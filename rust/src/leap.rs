@@ -44,8 +44,8 @@ impl LeapList<'_> {
     }
 }
 
-/// The same instant in another scale; in its own scale a time stays as it is. The list is looked at only where UTC is one of
-/// the two. Refused: 4; 5; 7; 9; 10; 11.
+/// The same instant in another scale, with the same mark; in its own scale a time stays as it is. The list is looked at only
+/// where UTC is one of the two. Refused: 4; 5; 7; 9; 10; 11.
 ///
 /// ```
 /// use vrikshonem::{change, Handed, LeapList, Scale, Tai};

@@ -2,8 +2,8 @@
 //!
 //! The library behind this crate is proved: each reading is the exact time to the microsecond, each writing the bytes whose
 //! reading is that time or the last not later, and each refusal the first that applies, in a fixed order. The crate adds
-//! types: [`Tai`], [`Utc`] and [`Gps`] times cannot be mistaken for each other, a [`LeapList`] is borrowed, and a refusal is
-//! an [`Error`] that has a name and a number, and says in words what is wrong.
+//! types: [`Tai`], [`Utc`] and [`Gps`] times cannot be mistaken for each other, and the [`Mark`] of each says where it came from; a
+//! [`LeapList`] is borrowed; a refusal is an [`Error`] that has a name and a number, and says in words what is wrong.
 //!
 //! ```
 //! use vrikshonem::{cuc, text, Error, Form, LeapList};
@@ -34,6 +34,7 @@ mod correlation;
 mod error;
 mod layouts;
 mod leap;
+mod mark;
 mod refusals;
 pub mod season;
 mod sys;
@@ -44,5 +45,6 @@ pub use correlation::{GoceCorrelation, SbtCorrelation, Tick};
 pub use error::Error;
 pub use layouts::{cryosat, cuc, goce, obet, proteus, sbt, siral};
 pub use leap::{change, LeapList};
+pub use mark::Mark;
 pub use text::Form;
 pub use time::{Gps, Handed, Scale, Scaled, Tai, Time, Utc};

@@ -14,16 +14,6 @@ pub struct VrkWritten {
 
 #[repr(C)]
 #[derive(Clone, Copy)]
-pub struct VrkProteus {
-    pub refusal: u32,
-    pub scale: u32,
-    pub day: i64,
-    pub micro: u64,
-    pub h3: u32,
-}
-
-#[repr(C)]
-#[derive(Clone, Copy)]
 pub struct VrkGoceCorrelation {
     pub obt0: u64,
     pub utc0: u64,
@@ -41,6 +31,8 @@ pub struct VrkHanded {
     pub day: i64,
     pub micro: u64,
     pub decimal: f64,
+    pub mark: u32,
+    pub source: u64,
 }
 
 #[repr(C)]
@@ -50,6 +42,8 @@ pub struct VrkTime {
     pub scale: u32,
     pub day: i64,
     pub micro: u64,
+    pub mark: u32,
+    pub source: u64,
 }
 
 #[repr(C)]
@@ -136,8 +130,8 @@ extern "C" {
     pub fn vrk_goce_write(count: u64, out: *mut u8, out_count: usize) -> VrkWritten;
     pub fn vrk_obet_write(count: u64, out: *mut u8, out_count: usize) -> VrkWritten;
     pub fn vrk_sbt_write(tick: u32, out: *mut u8, out_count: usize) -> VrkWritten;
-    pub fn vrk_proteus_read(bytes: *const u8, bytes_count: usize) -> VrkProteus;
-    pub fn vrk_proteus_write(time: VrkHanded, h3: u32, out: *mut u8, out_count: usize) -> VrkWritten;
+    pub fn vrk_proteus_read(bytes: *const u8, bytes_count: usize) -> VrkTime;
+    pub fn vrk_proteus_write(time: VrkHanded, out: *mut u8, out_count: usize) -> VrkWritten;
     pub fn vrk_goce_date(obt: u64, correlation: VrkGoceCorrelation, receipt_day: i64, receipt_micro: u64, days: *const i64, days_count: usize, offsets: *const u64, offsets_count: usize, last: i64) -> VrkTime;
     pub fn vrk_goce_count(time: VrkHanded, correlation: VrkGoceCorrelation, days: *const i64, days_count: usize, offsets: *const u64, offsets_count: usize, last: i64) -> VrkCount;
     pub fn vrk_decimal_read(day: f64, scale: u32) -> VrkTime;
@@ -227,12 +221,12 @@ pub(crate) fn sbt_write(tick: u32, out: &mut [u8]) -> VrkWritten {
     unsafe { vrk_sbt_write(tick, out.as_mut_ptr(), out.len()) }
 }
 
-pub(crate) fn proteus_read(bytes: &[u8]) -> VrkProteus {
+pub(crate) fn proteus_read(bytes: &[u8]) -> VrkTime {
     unsafe { vrk_proteus_read(bytes.as_ptr(), bytes.len()) }
 }
 
-pub(crate) fn proteus_write(time: VrkHanded, h3: u32, out: &mut [u8]) -> VrkWritten {
-    unsafe { vrk_proteus_write(time, h3, out.as_mut_ptr(), out.len()) }
+pub(crate) fn proteus_write(time: VrkHanded, out: &mut [u8]) -> VrkWritten {
+    unsafe { vrk_proteus_write(time, out.as_mut_ptr(), out.len()) }
 }
 
 pub(crate) fn goce_date(obt: u64, correlation: VrkGoceCorrelation, receipt_day: i64, receipt_micro: u64, days: &[i64], offsets: &[u64], last: i64) -> VrkTime {

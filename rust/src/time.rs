@@ -2,7 +2,10 @@
 
 use crate::error::{answered, Error};
 use crate::leap::{change, LeapList};
+use crate::mark::Mark;
 use crate::sys;
+use std::cmp::Ordering;
+use std::hash::{Hash, Hasher};
 
 /// A scale, where it is known only when the program runs.
 #[derive(Clone, Copy, PartialEq, Eq, Hash, Debug)]
@@ -33,25 +36,32 @@ mod sealed {
 pub trait Scaled: sealed::Sealed + Copy + Into<Handed> {
     /// The scale.
     const SCALE: Scale;
-    /// The time at a day and a microsecond of that day.
+    /// The time at a day and a microsecond of that day, plain.
     fn at(day: i64, micro: u64) -> Self;
+    /// The same time with this mark.
+    fn with_mark(self, mark: Mark) -> Self;
     /// Days from 1 January 2000.
     fn day(self) -> i64;
     /// Microsecond of the day.
     fn micro(self) -> u64;
+    /// Where the time came from.
+    fn mark(self) -> Mark;
 }
 
 macro_rules! scale {
     ($name:ident, $first:expr, $bound:expr, $what:expr) => {
         #[doc = $what]
         ///
-        /// The order is that of time. A value outside the scale's span can be built; every function refuses it with 7.
-        #[derive(Clone, Copy, PartialEq, Eq, PartialOrd, Ord, Hash, Debug)]
+        /// The order is that of time, and the mark is no part of it. A value outside the scale's span can be built; every function
+        /// refuses it with 7.
+        #[derive(Clone, Copy, Debug)]
         pub struct $name {
             /// Days from 1 January 2000.
             pub day: i64,
             /// Microsecond of that day.
             pub micro: u64,
+            /// Where the time came from. Equality, order and hash do not look at it.
+            pub mark: Mark,
         }
 
         impl $name {
@@ -62,9 +72,14 @@ macro_rules! scale {
             /// A microsecond of day is below this.
             pub const BOUND: u64 = $bound;
 
-            /// The time at a day and a microsecond of that day. It is judged by the function that is given it.
+            /// The time at a day and a microsecond of that day, plain. It is judged by the function that is given it.
             pub const fn new(day: i64, micro: u64) -> Self {
-                $name { day, micro }
+                $name { day, micro, mark: Mark::Plain }
+            }
+
+            /// The same time with this mark.
+            pub const fn with_mark(self, mark: Mark) -> Self {
+                $name { mark, ..self }
             }
 
             /// The microsecond nearest a decimal day, ties to the later. Refused: 4; 7.
@@ -78,18 +93,50 @@ macro_rules! scale {
             }
         }
 
+        impl PartialEq for $name {
+            fn eq(&self, other: &Self) -> bool {
+                self.cmp(other).is_eq()
+            }
+        }
+
+        impl Eq for $name {}
+
+        impl PartialOrd for $name {
+            fn partial_cmp(&self, other: &Self) -> Option<Ordering> {
+                Some(self.cmp(other))
+            }
+        }
+
+        impl Ord for $name {
+            fn cmp(&self, other: &Self) -> Ordering {
+                (self.day, self.micro).cmp(&(other.day, other.micro))
+            }
+        }
+
+        impl Hash for $name {
+            fn hash<H: Hasher>(&self, state: &mut H) {
+                (self.day, self.micro).hash(state);
+            }
+        }
+
         impl sealed::Sealed for $name {}
 
         impl Scaled for $name {
             const SCALE: Scale = Scale::$name;
             fn at(day: i64, micro: u64) -> Self {
-                $name { day, micro }
+                $name::new(day, micro)
+            }
+            fn with_mark(self, mark: Mark) -> Self {
+                $name { mark, ..self }
             }
             fn day(self) -> i64 {
                 self.day
             }
             fn micro(self) -> u64 {
                 self.micro
+            }
+            fn mark(self) -> Mark {
+                self.mark
             }
         }
 
@@ -182,6 +229,13 @@ impl Time {
             Time::Tai(Tai { micro, .. }) | Time::Utc(Utc { micro, .. }) | Time::Gps(Gps { micro, .. }) => micro,
         }
     }
+
+    /// Where the time came from.
+    pub fn mark(self) -> Mark {
+        match self {
+            Time::Tai(Tai { mark, .. }) | Time::Utc(Utc { mark, .. }) | Time::Gps(Gps { mark, .. }) => mark,
+        }
+    }
 }
 
 /// What a caller hands in: either a record or a decimal day. Every writer takes it, and every time turns into it.
@@ -194,9 +248,9 @@ impl Time {
 /// ```
 #[derive(Clone, Copy, PartialEq, Debug)]
 pub enum Handed {
-    /// A record: a scale, a day and a microsecond of that day.
+    /// A record: a scale, a day, a microsecond of that day, and its mark.
     Record(Time),
-    /// A decimal day from 1 January 2000, and its scale. Refused with 4 where it is infinite or not a number.
+    /// A decimal day from 1 January 2000, and its scale; its mark is plain. Refused with 4 where it is infinite or not a number.
     Decimal(f64, Scale),
 }
 
@@ -216,9 +270,12 @@ impl Handed {
     pub(crate) fn given(self) -> sys::VrkHanded {
         match self {
             Handed::Record(time) => {
-                sys::VrkHanded { kind: 0, scale: time.scale().code(), day: time.day(), micro: time.micro(), decimal: 0.0 }
+                let (scale, (mark, source)) = (time.scale().code(), time.mark().given());
+                sys::VrkHanded { kind: 0, scale, day: time.day(), micro: time.micro(), decimal: 0.0, mark, source }
             }
-            Handed::Decimal(decimal, scale) => sys::VrkHanded { kind: 1, scale: scale.code(), day: 0, micro: 0, decimal },
+            Handed::Decimal(decimal, scale) => {
+                sys::VrkHanded { kind: 1, scale: scale.code(), day: 0, micro: 0, decimal, mark: 0, source: 0 }
+            }
         }
     }
 }
@@ -226,16 +283,15 @@ impl Handed {
 /// The answer of a function whose scale is known.
 pub(crate) fn at<T: Scaled>(time: sys::VrkTime) -> Result<T, Error> {
     debug_assert_eq!(time.scale, T::SCALE.code());
-    answered(time.refusal, T::at(time.day, time.micro))
+    answered(time.refusal, T::at(time.day, time.micro).with_mark(Mark::of(time)))
 }
 
 /// The answer of a function whose scale comes with it.
 pub(crate) fn timed(time: sys::VrkTime) -> Result<Time, Error> {
-    let record = match time.scale {
-        0 => Time::Tai(Tai::new(time.day, time.micro)),
-        1 => Time::Utc(Utc::new(time.day, time.micro)),
-        2 => Time::Gps(Gps::new(time.day, time.micro)),
+    match time.scale {
+        0 => at(time).map(Time::Tai),
+        1 => at(time).map(Time::Utc),
+        2 => at(time).map(Time::Gps),
         code => unreachable!("the library has no scale {code}"),
-    };
-    answered(time.refusal, record)
+    }
 }

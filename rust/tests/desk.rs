@@ -2,6 +2,8 @@
 
 #[path = "desk/correlations.rs"]
 mod correlations;
+#[path = "desk/marks.rs"]
+mod marks;
 #[path = "desk/season.rs"]
 mod season_file;
 
@@ -40,7 +42,8 @@ fn marked_cases() {
     let fields = proteus::Fields { week: 1, h3: true, second: 604_799, fraction: 0 };
     assert_eq!(proteus::write_fields(fields, &mut bytes), Ok(8));
     assert_eq!(proteus::read_fields(&bytes), Ok(fields));
-    assert_eq!(proteus::read(&bytes), Ok((Utc::new(-7287, DAY - SECOND), true)));
+    let read = proteus::read(&bytes).map(|time| (time, time.mark));
+    assert_eq!(read, Ok((Utc::new(-7287, DAY - SECOND), Mark::Proteus(true))));
     assert_eq!(proteus::write_fields(proteus::Fields { second: 604_800, ..fields }, &mut bytes), Err(Error::FIELD_OVER));
     bytes[1] = 2;
     assert_eq!(proteus::read(&bytes), Err(Error::MARKER_WRONG));
@@ -98,7 +101,7 @@ fn writers_leave_the_bytes_after_the_image() {
     check("cuc", cuc::LENGTH, &|out| cuc::write(Gps::new(0, 15), out));
     check("goce", goce::LENGTH, &|out| goce::write(1, out));
     check("obet", obet::LENGTH, &|out| obet::write(1, out));
-    check("proteus", proteus::LENGTH, &|out| proteus::write(Utc::new(0, 0), false, out));
+    check("proteus", proteus::LENGTH, &|out| proteus::write(Utc::new(0, 0), out));
     check("cryosat", cryosat::LENGTH, &|out| cryosat::write(Tai::new(1, 1), out));
     check("siral", siral::LENGTH, &|out| siral::write(Tai::new(1, 1), out));
     check("sbt", sbt::LENGTH, &|out| sbt::write(Tick(1), out));
@@ -134,15 +137,6 @@ fn writings_read_back() {
     assert_eq!(utc.to_decimal().and_then(Utc::from_decimal), Ok(utc));
     let held = correlation(5, Utc::new(0, 0), 10, 10);
     assert_eq!(held.date(Tick(9), held.reference, &LIST).and_then(|time| held.tick_of(time, &LIST)), Ok(Tick(9)));
-}
-
-#[test]
-fn proteus_keeps_its_bit() {
-    let mut out = [0; proteus::LENGTH];
-    for h3 in [false, true] {
-        assert_eq!(proteus::write(Utc::new(6209, 500_000), h3, &mut out), Ok(8));
-        assert_eq!(proteus::read(&out), Ok((Utc::new(6209, 500_000), h3)));
-    }
 }
 
 #[test]

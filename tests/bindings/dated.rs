@@ -7,7 +7,7 @@ mod independent;
 use independent::correlation::Correlation;
 use independent::layouts::{cryosat, cuc, goce, number, proteus, sbt, siral};
 use independent::leap::{change, List};
-use independent::time::{Handed, Moment, Scale};
+use independent::time::{Handed, Moment, Record, Scale};
 use independent::{text, Number};
 
 // January and July firsts of document 01, as days from 1 January 2000.
@@ -29,7 +29,7 @@ fn day_of(year: i64, month: u64) -> i64 {
     independent::calendar::day_of(&independent::calendar::Date { day: 1, month, year }).expect("a date")
 }
 
-fn dated(layout: u8, time: &[u8], receipt: Moment, list: &List) -> Result<(Scale, Moment), Number> {
+fn dated(layout: u8, time: &[u8], receipt: Moment, list: &List) -> Result<Record, Number> {
     let mut ticks = Correlation {
         tick: 0xFFFF_F000,
         scale: Scale::Utc,
@@ -54,12 +54,12 @@ fn dated(layout: u8, time: &[u8], receipt: Moment, list: &List) -> Result<(Scale
         counts = independent::goce::Correlation { obt0: 7, utc0, offset: 1, gradient: 1_000_000_000, back: window, ahead: window };
     }
     match layout {
-        1 => Ok((Scale::Gps, cuc::read(time)?)),
-        2 => Ok((Scale::Utc, proteus::read(time)?.0)),
-        3 => Ok((Scale::Tai, cryosat::read(time)?)),
-        4 => Ok((Scale::Tai, siral::read(time)?)),
-        5 => Ok((Scale::Utc, ticks.date(sbt::read(time)? as u32, receipt, list)?)),
-        _ => Ok((Scale::Utc, counts.date(goce::read(time)?, receipt, list)?)),
+        1 => cuc::read(time),
+        2 => proteus::read(time),
+        3 => cryosat::read(time),
+        4 => siral::read(time),
+        5 => ticks.date(sbt::read(time)? as u32, receipt, list),
+        _ => counts.date(goce::read(time)?, receipt, list),
     }
 }
 
@@ -77,8 +77,8 @@ fn main() {
         }
         let receipt = Moment { day: i64::from(number(&packet[12..16]) as i32), micro: number(&packet[16..]) };
         let line = dated(layout, &packet[2..2 + count], receipt, &list)
-            .and_then(|(scale, moment)| change(Handed::Record(scale, moment), Scale::Utc, &list))
-            .and_then(|utc| text::write(Handed::Record(Scale::Utc, utc), 31, &list));
+            .and_then(|record| change(Handed::Record(record), Scale::Utc, &list))
+            .and_then(|utc| text::write(Handed::Record(utc), 31, &list));
         let said = match line {
             Ok(text) => String::from_utf8(text).expect("letters"),
             Err(refusal) => format!("refused {refusal}: {}", words_of(refusal)),

@@ -118,27 +118,55 @@ def interrupted():
     tally.expect("Ctrl-C in a Python program leaves the library alive", (ready, out, err) == (b"ready\n", b"True\n", b""), str(err))
 
 
-def block(language):
-    return re.findall(rf"^```{language}\n(.*?)^```", read("docs/USE.md"), re.M | re.S)
+def below(heading):
+    """What stands below a heading of docs/USE.md."""
+    return re.search(rf"^## {heading}\n(.*?)(?=^## |\Z)", read("docs/USE.md"), re.M | re.S)[1]
 
 
-def own(what, rust, python, shown):
-    """A program of docs/USE.md in both languages, which prints the same in both."""
-    for typed in python:
-        status, said = run(sys.executable, written("own.py", typed), **PYTHON)
-        tally.expect(f"docs/USE.md: {what} in Python", (status, said) == (0, shown), said)
-    for typed in rust if CARGO else []:
-        manifest = '[package]\nname = "own"\nversion = "0.1.0"\nedition = "2021"\n[workspace]\n[dependencies]\n'
-        written("own/Cargo.toml", manifest + f'vrikshonem = {{ path = "{ROOT}/rust" }}\n')
-        written("own/src/main.rs", typed)
-        status, said = run("cargo", "run", "--quiet", "--offline", "--manifest-path", f"{ROOM}/own/Cargo.toml")
-        tally.expect(f"docs/USE.md: {what} in Rust", (status, said) == (0, shown), said)
+def block(language, page):
+    return re.findall(rf"^```{language}\n(.*?)^```", page, re.M | re.S)
+
+
+def in_c(typed):
+    words = ["-std=c99", *WARNINGS, "-I", "target/host/include", "-o", f"{ROOM}/own_c", written("own.c", typed)]
+    status, said = run("gcc", *words, "target/host/lib/libvrikshonem.a", "-pthread")
+    return (status, said) if status else run(f"{ROOM}/own_c")
+
+
+def in_rust(typed):
+    manifest = '[package]\nname = "own"\nversion = "0.1.0"\nedition = "2021"\n[workspace]\n[dependencies]\n'
+    written("own/Cargo.toml", manifest + f'vrikshonem = {{ path = "{ROOT}/rust" }}\n')
+    written("own/src/main.rs", typed)
+    return run("cargo", "run", "--quiet", "--offline", "--manifest-path", f"{ROOM}/own/Cargo.toml")
+
+
+def in_python(typed):
+    return run(sys.executable, written("own.py", typed), **PYTHON)
+
+
+RUN = {"c": in_c, "rust": in_rust, "python": in_python}
+
+
+def own(heading, shown, *languages):
+    """The program below a heading of docs/USE.md, one in each of the languages, prints what is shown."""
+    for language in languages:
+        programs = block(language, below(heading))
+        tally.expect(f"docs/USE.md: '{heading}' has a program, {language}", len(programs) == 1, str(len(programs)))
+        for typed in programs if CARGO or language != "rust" else []:
+            status, said = RUN[language](typed)
+            tally.expect(f"docs/USE.md: the program of '{heading}', {language}", (status, said) == (0, shown), said)
+
+
+def in_every_language(heading):
+    """The programs below a heading, and what is said there that each prints."""
+    lines = re.search(r"Each prints\n\n((?:    .*\n)+)", below(heading))[1]
+    own(heading, "".join(f"{line[4:]}\n" for line in lines.splitlines()), *RUN)
 
 
 def season_page():
     """The bytes that docs/SEASON.md shows are the file that the programs of docs/USE.md write."""
     shown = bytes.fromhex("".join(re.findall(r"^\| \d+ \| `([0-9A-F ]+)` \|", read("docs/SEASON.md"), re.M)))
-    typed = block("python")[1].partition("cover =")[0] + "print(file.hex())\n"
+    typed = block("python", below("The season's file"))[0].partition("cover =")[0] + "print(file.hex())\n"
     status, said = run(sys.executable, written("page.py", typed), **PYTHON)
     tally.expect("docs/SEASON.md shows the file's bytes", (status, said) == (0, f"{len(shown)} bytes\n{shown.hex()}\n"), said)
 
@@ -147,8 +175,9 @@ def use():
     """docs/USE.md, as a reader would type it."""
     expected, installed = read(LINES), f"{ROOM}/prefix"
     good("docs/USE.md: the folder is copied", "sh", "-euc", f"rm -rf {installed} && cp -R target/host/. {installed}/")
-    tally.expect("docs/USE.md has blocks for C, Rust and Python", len(block("sh")) == 4, str(len(block("sh"))))
-    for typed in block("sh"):
+    commands = block("sh", read("docs/USE.md"))
+    tally.expect("docs/USE.md has blocks for C, Rust and Python", len(commands) == 4, str(len(commands)))
+    for typed in commands:
         title = typed.strip().splitlines()[-1]
         if "pkg-config" in typed and not shutil.which("pkg-config"):
             skipped(title, "there is no pkg-config")
@@ -156,12 +185,10 @@ def use():
         for each in dict.fromkeys([typed, typed.replace("target/host", installed)]):
             status, said = run("sh", "-euc", each)
             tally.expect(f"docs/USE.md: {each}", (status, said) == (0, expected), said)
-    season = "".join(f"{line[4:]}\n" for line in re.search(r"Each prints\n\n((?:    .*\n)+)", read("docs/USE.md"))[1].splitlines())
-    own("the program", block("rust")[:1], block("python")[:1], SHOWN)
-    own("the season's file", block("rust")[1:], block("python")[1:], season)
-    built = ["-std=c99", *WARNINGS, "-I", "target/host/include", "-o", f"{ROOM}/season", written("season.c", "".join(block("c")))]
-    if good("docs/USE.md: the season's file in C, compiled", "gcc", *built, "target/host/lib/libvrikshonem.a", "-pthread"):
-        tally.expect("docs/USE.md: the season's file in C", run(f"{ROOM}/season") == (0, season))
+    own("Rust", SHOWN, "rust")
+    own("Python", SHOWN, "python")
+    in_every_language("Where a time came from")
+    in_every_language("The season's file")
     lines = [line[4:] for line in re.search(r"packets.txt`:\n\n(.*?)\n\n", read("docs/USE.md"), re.S)[1].split("\n")]
     tally.expect("docs/USE.md shows lines of packets.txt", lines and set(lines) <= set(expected.split("\n")), str(lines))
 
