@@ -55,7 +55,7 @@ static vrk_time correlated(const uint8_t *packet) {
     int64_t day = (int32_t)number(packet + 12, 4);
     uint64_t micro = number(packet + 16, 8);
     if (read.refusal) {
-        vrk_time refused = {read.refusal, VRK_UTC, 0, 0};
+        vrk_time refused = {.refusal = read.refusal, .scale = VRK_UTC};
         return refused;
     }
     int which = day < NEWER_FROM ? OLDER : NEWER;
@@ -69,11 +69,7 @@ static vrk_time dated(const uint8_t *packet) {
     size_t count = packet[1];
     switch (packet[0]) {
     case CUC: return vrk_cuc_read(time, count);
-    case PROTEUS: {
-        vrk_proteus read = vrk_proteus_read(time, count);
-        vrk_time plain = {read.refusal, read.scale, read.day, read.micro};
-        return plain;
-    }
+    case PROTEUS: return vrk_proteus_read(time, count);
     case CRYOSAT: return vrk_cryosat_read(time, count);
     case SIRAL: return vrk_siral_read(time, count);
     default: return correlated(packet);
@@ -81,7 +77,8 @@ static vrk_time dated(const uint8_t *packet) {
 }
 
 static vrk_handed handed(vrk_time time) {
-    vrk_handed record = {VRK_RECORD, time.scale, time.day, time.micro, 0};
+    vrk_handed record = {.kind = VRK_RECORD, .scale = time.scale, .day = time.day, .micro = time.micro,
+                         .mark = time.mark, .source = time.source};
     return record;
 }
 

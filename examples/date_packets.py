@@ -59,7 +59,7 @@ def dated(layout: int, time: bytes, receipt: vrk.Utc) -> vrk.Utc:
     if layout == 1:
         return vrk.cuc_read(time).to_utc(LIST)
     if layout == 2:
-        return vrk.proteus_read(time)[0]
+        return vrk.proteus_read(time)
     if layout == 3:
         return vrk.cryosat_read(time).to_utc(LIST)
     if layout == 4:

@@ -23,14 +23,14 @@ const NEWER_FROM: i64 = 6209;
 const SBT_CORRELATIONS: [SbtCorrelation<Utc>; 2] = [
     SbtCorrelation {
         tick: Tick(0xFFFF_F000),
-        reference: Utc { day: 640, micro: 36_000_000_000 },
+        reference: Utc::new(640, 36_000_000_000),
         period: 3_906_250_000,
         back: 86_400 * 256,
         ahead: 30 * 86_400 * 256,
     },
     SbtCorrelation {
         tick: Tick(7),
-        reference: Utc { day: 6209, micro: 86_399_000_000 },
+        reference: Utc::new(6209, 86_399_000_000),
         period: 3_906_250_000,
         back: 2_000,
         ahead: 2_000,
@@ -68,7 +68,7 @@ fn dated(packet: &[u8]) -> Result<Utc, Error> {
     let which = usize::from(receipt.day >= NEWER_FROM);
     match packet[0] {
         1 => cuc::read(time)?.to_utc(&LIST),
-        2 => Ok(proteus::read(time)?.0),
+        2 => proteus::read(time),
         3 => cryosat::read(time)?.to_utc(&LIST),
         4 => siral::read(time)?.to_utc(&LIST),
         5 => SBT_CORRELATIONS[which].date(sbt::read(time)?, receipt, &LIST),
