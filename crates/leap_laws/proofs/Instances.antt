@@ -6,7 +6,7 @@ use Rattle.scales.specs.declared.Scale.the-variants as S
 use Rattle.scales.specs.declared.Mark.the-variants as M
 use Rattle.leap.specs.Meaning.{through, isStep, publishedDays, publishedOffsets, publishedLast}
 use Rattle.leap.specs.Published.{published}
-use Rattle.changes.specs.Meaning.{utcToTai}
+use Rattle.changes.specs.Meaning.{utcToTai, changeOf}
 use Rattle.leap_laws.proofs.Functions.{utcTai, taiUtc, named, handed, function, answered, undoes, only, later, UtcOf, the-one}
 
 -- ---- UTC day 6209, 86,400,000,000 (second 60), the TAI time of it, and the next UTC day with its TAI time
@@ -33,6 +33,14 @@ midnight-changes = rw published
 -- there and back
 pub sixty-back : function named taiUtc publishedDays publishedOffsets publishedLast sixtyTai ≡ answered named S.Utc sixty
 sixty-back = undoes publishedDays publishedOffsets publishedLast published named utcTai sixty sixtyTai sixty-changes
+
+-- and of a correlated record, mark included
+correlated-changes : function (handed (M.Correlated 9)) utcTai publishedDays publishedOffsets publishedLast sixty ≡ answered (handed (M.Correlated 9)) S.Tai sixtyTai
+unfolding changeOf through isStep
+correlated-changes = rw published
+
+pub correlated-back : function (handed (M.Correlated 9)) taiUtc publishedDays publishedOffsets publishedLast sixtyTai ≡ answered (handed (M.Correlated 9)) S.Utc sixty
+correlated-back = undoes publishedDays publishedOffsets publishedLast published (handed (M.Correlated 9)) utcTai sixty sixtyTai correlated-changes
 
 -- later stays later, from second 60 to the next day
 pub sixty-first : sixtyTai < midnightTai

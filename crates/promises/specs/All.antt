@@ -5,6 +5,7 @@ use Rattle.calendar_laws.specs.Undo.{date-of-day, day-of-date, has-date}
 use Rattle.decimal_laws.proofs.Trip.{later as decimal-laws-trip-later, trip as decimal-laws-trip-trip}
 use Rattle.decimal_laws.proofs.Unique.{wrote-one}
 use Rattle.leap_laws.proofs.Functions.{later as leap-laws-functions-later, only, the-one, undoes}
+use Rattle.leap_laws.proofs.Instances.{correlated-back}
 use Rattle.leap_laws.proofs.Marks.{change-ignores, judged-ignores, keeps-mark, keeps-mark-instance}
 use Rattle.sbt_laws.proofs.Answers.{dates as sbt-laws-answers-dates, exact as sbt-laws-answers-exact, turns as sbt-laws-answers-turns}
 use Rattle.sbt_laws.proofs.Cases.{date-marked as sbt-laws-cases-date-marked, night, receipt-covered as sbt-laws-cases-receipt-covered, receipt-received as sbt-laws-cases-receipt-received}
@@ -30,6 +31,7 @@ use Rattle.season_laws.proofs.Trips.{read-back as season-laws-trips-read-back, 
 use Rattle.season_laws.proofs.Written.{written-read}
 use Rattle.layout_laws.proofs.Back.{cryosat-again, cuc-again, proteus-again, siral-again}
 use Rattle.layout_laws.proofs.Fields.{cryosat-exact, cuc-exact, goce-exact, obet-exact, proteus-exact, sbt-exact, siral-exact}
+use Rattle.layout_laws.proofs.Meets.{again-meets, times-meet}
 use Rattle.layout_laws.proofs.Times.{cryosat-same, cuc-last, proteus-kept, proteus-last, siral-same}
 use Rattle.text_laws.specs.Back.{none-refused, read-back as text-laws-back-read-back}
 use Rattle.lines_laws.specs.Calls.{dated, kept-for}
