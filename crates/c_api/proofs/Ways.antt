@@ -61,10 +61,10 @@ unfolding namedBy
 named-good c s e = taken N.Scale N.Unknown unnamed (λ a b q. cc) (knownScale c) (scaleAt c) s e
 
 -- ---- marks by code and source
-module _ (c x : ℕ) where
-  unmarked : (m : Mark) → K.Mark m ≡ K.Unknown → ⊥
-  unmarked m e = let z : _≡_ {A = ℕ} 0 1 = cc in omega arith
+unmarked : (m : Mark) → K.Mark m ≡ K.Unknown → ⊥
+unmarked m e = let z : _≡_ {A = ℕ} 0 1 = cc in omega arith
 
+module _ (c x : ℕ) where
   marked-bad : markedBy c x ≡ K.Unknown → knownMark c x ≡ false
   unfolding markedBy
   marked-bad e = dropped K.Mark K.Unknown unmarked (knownMark c x) (markAt c x) e
@@ -73,7 +73,7 @@ module _ (c x : ℕ) where
   unfolding markedBy
   marked-good m e = taken K.Mark K.Unknown unmarked (λ a b q. cc) (knownMark c x) (markAt c x) m e
 
-  -- ---- a record of a known scale
+  -- a record of a known scale
   module _ (s : Scale) (d : ℤ) (u : ℕ) where
     pub record-known : (m : Mark) → markedBy c x ≡ K.Mark m → G.Handed (H.Record (markedRecord m (recordOf s d u))) ≡ recordGiven s d u c x
     unfolding recordGiven
