@@ -51,16 +51,16 @@ module _ (s : Scale) (n : ℕ) (ds : List ℤ) (os : List ℕ) {z e : ℤ} (q : 
   move-out g = way-out w to next g ∙ ap moved q
 
 -- none of its refusals has the number of an answer
-moving-numbered : (s to : Scale) (ds : List ℤ) (os : List ℕ) (e : ℤ) (n : ℕ) → numbered (ofCount s n (moving s to ds os e)) ≡ true
-moving-numbered S.Tai S.Tai ds os e n = refl
-moving-numbered S.Tai S.Utc ds os e n = refl
-moving-numbered S.Tai S.Gps ds os e n = refl
-moving-numbered S.Utc S.Tai ds os e n = refl
-moving-numbered S.Utc S.Utc ds os e n = refl
-moving-numbered S.Utc S.Gps ds os e n = refl
-moving-numbered S.Gps S.Tai ds os e n = refl
-moving-numbered S.Gps S.Utc ds os e n = refl
-moving-numbered S.Gps S.Gps ds os e n = refl
+pub moving-numbered : (s to : Scale) (ds : List ℤ) (os : List ℕ) (e : ℤ) (inside : Bool) (m : Moment) → numbered (moving s to ds os e inside m) ≡ true
+moving-numbered S.Tai S.Tai ds os e inside m = refl
+moving-numbered S.Tai S.Utc ds os e inside m = refl
+moving-numbered S.Tai S.Gps ds os e inside m = refl
+moving-numbered S.Utc S.Tai ds os e inside m = refl
+moving-numbered S.Utc S.Utc ds os e inside m = refl
+moving-numbered S.Utc S.Gps ds os e inside m = refl
+moving-numbered S.Gps S.Tai ds os e inside m = refl
+moving-numbered S.Gps S.Utc ds os e inside m = refl
+moving-numbered S.Gps S.Gps ds os e inside m = refl
 
 -- ---- what is judged before
 pub having : (u a : Bool) → (u && not a) ≡ false → (not u || a) ≡ true
@@ -94,7 +94,7 @@ module _ (h : Handed) (to : Scale) (ds : List ℤ) (os : List ℕ) (e : ℤ) whe
       → remark (markOf h) (dated to (outcome (ofCount (timeScale t) (timeCount t) (moving (timeScale t) to ds os e)))) ≡ changeOf h to ds os e
   unfolding changeOf
   change-at t w l =
-      remark-is (markOf h) to (ofCount (timeScale t) (timeCount t) (moving (timeScale t) to ds os e)) (moving-numbered (timeScale t) to ds os e (timeCount t))
+      remark-is (markOf h) to (ofCount (timeScale t) (timeCount t) (moving (timeScale t) to ds os e)) (moving-numbered (timeScale t) to ds os e _ _)
       ∙ ap₂ (λ (s : Scale) (m : Moment). datedAs (markOf h) to (outcome (moving s to ds os e (inSpan s (m .day) (m .micro)) m))) (told-scale h t w) (told-moment h t w)
       ∙ ap (λ (b : Bool). datedAs (markOf h) to (outcome (moving (scaleOf h) to ds os e b (momentIn h)))) (w .kept ∙ sym (w .inside))
       ∙ sym (rw (w .finite, having (changeUsesList (scaleOf h) to) (accepted ds os e) l))

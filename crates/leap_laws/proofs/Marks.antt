@@ -19,23 +19,13 @@ use Rattle.handed.specs.declared.Handed.{Handed}
 use Rattle.handed.specs.declared.Handed.the-variants as H
 use Rattle.leap.specs.Meaning.{through, isStep, publishedDays, publishedOffsets, publishedLast}
 use Rattle.leap.specs.Published.{published}
-use Rattle.changes.specs.Meaning.{moving, changing, changeOf}
+use Rattle.changes.specs.Meaning.{changing, changeOf}
+use Rattle.changes.specs.General.{moving-numbered}
 use Rattle.changes.specs.Asked.{sound}
 
 module _ (ds : List ℤ) (os : List ℕ) (e : ℤ) where
   changing-numbered : (h : Handed) (to : Scale) → numbered (changing h to ds os e) ≡ true
-  changing-numbered h to = go (scaleOf h) to
-    where
-      go : (s t : Scale) → numbered (moving s t ds os e (isInSpan h) (momentIn h)) ≡ true
-      go S.Tai S.Tai = refl
-      go S.Tai S.Utc = refl
-      go S.Tai S.Gps = refl
-      go S.Utc S.Tai = refl
-      go S.Utc S.Utc = refl
-      go S.Utc S.Gps = refl
-      go S.Gps S.Tai = refl
-      go S.Gps S.Utc = refl
-      go S.Gps S.Gps = refl
+  changing-numbered h to = moving-numbered (scaleOf h) to ds os e (isInSpan h) (momentIn h)
 
   -- "Scale changes keep the mark"
   pub keeps-mark : (h : Handed) (to : Scale) → changeOf h to ds os e .number ≡ 0 → changeOf h to ds os e .mark ≡ markOf h
