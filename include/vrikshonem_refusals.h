@@ -12,6 +12,7 @@ enum {
     VRK_MARKER_WRONG = 2, /* marker byte or zero bits wrong */
     VRK_FIELD_OVER = 3, /* a field over its limit, bad character, date not in the calendar */
     VRK_SEASON_BROKEN = 14, /* a rule of the season file broken */
+    VRK_NOT_ONE_SECOND = 16, /* a run's three fields differ, or a total above 484,848 units */
     VRK_DECIMAL_NOT_FINITE = 4, /* decimal day infinite or not a number */
     VRK_LIST_NOT_ACCEPTED = 5, /* leap list not accepted */
     VRK_CORRELATION_NOT_ACCEPTED = 6, /* correlation not accepted */
@@ -33,6 +34,7 @@ static inline const char *vrk_words(uint32_t refusal) {
     case VRK_MARKER_WRONG: return "marker byte or zero bits wrong";
     case VRK_FIELD_OVER: return "a field over its limit, bad character, date not in the calendar";
     case VRK_SEASON_BROKEN: return "a rule of the season file broken";
+    case VRK_NOT_ONE_SECOND: return "a run's three fields differ, or a total above 484,848 units";
     case VRK_DECIMAL_NOT_FINITE: return "decimal day infinite or not a number";
     case VRK_LIST_NOT_ACCEPTED: return "leap list not accepted";
     case VRK_CORRELATION_NOT_ACCEPTED: return "correlation not accepted";

@@ -63,6 +63,14 @@ class SeasonBroken(Refused):
     words = "a rule of the season file broken"
 
 
+class NotOneSecond(Refused):
+    """16: a run's three fields differ, or a total above 484,848 units."""
+
+    __module__ = "vrikshonem"
+    number = 16
+    words = "a run's three fields differ, or a total above 484,848 units"
+
+
 class DecimalNotFinite(Refused):
     """4: decimal day infinite or not a number."""
 
@@ -156,6 +164,7 @@ REFUSALS: Dict[int, Type[Refused]] = {
     2: MarkerWrong,
     3: FieldOver,
     14: SeasonBroken,
+    16: NotOneSecond,
     4: DecimalNotFinite,
     5: ListNotAccepted,
     6: CorrelationNotAccepted,
@@ -175,6 +184,7 @@ __all__ = [
     "MarkerWrong",
     "FieldOver",
     "SeasonBroken",
+    "NotOneSecond",
     "DecimalNotFinite",
     "ListNotAccepted",
     "CorrelationNotAccepted",

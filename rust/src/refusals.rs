@@ -12,6 +12,8 @@ impl Error {
     pub const FIELD_OVER: Error = Error { number: 3 };
     /// 14: a rule of the season file broken.
     pub const SEASON_BROKEN: Error = Error { number: 14 };
+    /// 16: a run's three fields differ, or a total above 484,848 units.
+    pub const NOT_ONE_SECOND: Error = Error { number: 16 };
     /// 4: decimal day infinite or not a number.
     pub const DECIMAL_NOT_FINITE: Error = Error { number: 4 };
     /// 5: leap list not accepted.
@@ -42,6 +44,7 @@ impl Error {
             Error::MARKER_WRONG => "marker byte or zero bits wrong",
             Error::FIELD_OVER => "a field over its limit, bad character, date not in the calendar",
             Error::SEASON_BROKEN => "a rule of the season file broken",
+            Error::NOT_ONE_SECOND => "a run's three fields differ, or a total above 484,848 units",
             Error::DECIMAL_NOT_FINITE => "decimal day infinite or not a number",
             Error::LIST_NOT_ACCEPTED => "leap list not accepted",
             Error::CORRELATION_NOT_ACCEPTED => "correlation not accepted",

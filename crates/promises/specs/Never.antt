@@ -121,7 +121,7 @@ module _ (ds : List ℤ) (os : List ℕ) (e : ℤ) where
 
 -- ---- 5 where no list is used: "leap list not accepted, where one is used"
 pub without-list-never-5 : (h : Handed) (to : Scale) (ds : List ℤ) (os : List ℕ) (e : ℤ) → changeUsesList (scaleOf h) to ≡ false → changeOf h to ds os e .number ≡ 5 → ⊥
-without-list-never-5 h to ds os e u q = absurd (go (scaleOf h) to u (exactly (change h to ds os e) (1 ∷ 2 ∷ 3 ∷ 14 ∷ 4 ∷ []) (drop 6 order) 5 refl .0 q .1))
+without-list-never-5 h to ds os e u q = absurd (go (scaleOf h) to u (exactly (change h to ds os e) (1 ∷ 2 ∷ 3 ∷ 14 ∷ 16 ∷ 4 ∷ []) (drop 7 order) 5 refl .0 q .1))
   where
     go : (s to : Scale) → changeUsesList s to ≡ false
         → applies ((4, C.decimalNotFinite h) ∷ (5, C.listNotAccepted (changeUsesList s to) ds os e) ∷ Rows.moving s to ds os e (C.timeOutside h) (momentIn h)) 5 ≡ true → ⊥

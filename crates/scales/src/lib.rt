@@ -79,6 +79,7 @@ pub enum Refusal {
     OutputShorter,
     SeasonBroken,
     NoEntry,
+    NotOneSecond,
 }
 
 impl Refusal {
@@ -101,6 +102,7 @@ impl Refusal {
             Refusal::OutputShorter => 13,
             Refusal::SeasonBroken => 14,
             Refusal::NoEntry => 15,
+            Refusal::NotOneSecond => 16,
         }
     }
 }
