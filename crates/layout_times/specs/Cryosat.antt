@@ -18,8 +18,11 @@ abbrev pub epoch : ℤ
 epoch = pos 0
 
 -- ---- bytes to a record
+abbrev pub microsIn : ℕ → ℕ → ℕ → ℕ
+microsIn day milli micro = day * 86400000000 + milli * 1000 + micro
+
 abbrev pub microsOf : Fields → ℕ
-microsOf f = f .day * 86400000000 + f .millisecond * 1000 + f .microsecond
+microsOf f = microsIn (f .day) (f .millisecond) (f .microsecond)
 
 abbrev pub reading : List ℕ → Judged Moment
 reading s = andThen (F.reading s) (λ (f : Fields). judged S.Tai (momentFrom epoch (microsOf f)))

@@ -1,6 +1,6 @@
 // CryoSat general: TAI days, milliseconds and microseconds from 1 January 2000.
 ghost use mathlib.Core.Path.{_≡_};
-ghost use Prim.Native.Nat.{_+_, _*_, _<_};
+ghost use Prim.Native.Nat.{_<_};
 ghost use Rattle.scales.specs.Meaning.{outcome, slip, wrote, valued, countSlip};
 ghost use Rattle.layout_times.specs.Due.{since2000};
 ghost use Rattle.layout_times.specs.Cryosat.{fieldsAt, read, write};
@@ -13,13 +13,6 @@ use scales::Refusal;
 use scales::Scale;
 use scales::Written;
 
-// The microseconds of the three fields.
-pub(crate) fn micros(day: u16, millisecond: u32, microsecond: u16) -> u64
-    ensures { λ r. ⌜ r ≡ day * 86400000000 + millisecond * 1000 + microsecond ⌝ }
-{
-    (day as u64) * 86_400_000_000 + (millisecond as u64) * 1000 + (microsecond as u64)
-}
-
 pub fn read(b: &[u8]) -> Dated
     ensures { λ r. ⌜ slip r ≡ read (now (b .entry)) ⌝ }
 {
@@ -28,7 +21,7 @@ pub fn read(b: &[u8]) -> Dated
         CryosatParted::Fields(f) => crate::since(
             Scale::Tai,
             40000,
-            micros(f.day, f.millisecond, f.microsecond),
+            crate::inner::micros(f.day, f.millisecond, f.microsecond),
         ),
         CryosatParted::Refused(r) => Dated::Refused(r, Scale::Tai),
     }

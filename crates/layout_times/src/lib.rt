@@ -16,6 +16,7 @@ use scales::Time;
 
 pub mod cryosat;
 pub mod cuc;
+pub mod inner;
 pub mod proteus;
 pub mod siral;
 

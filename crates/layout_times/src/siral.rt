@@ -16,7 +16,7 @@ pub fn read(b: &[u8]) -> Dated
 {
     match layout_fields::siral::read(b) {
         SiralParted::Fields(f) => {
-            let n = crate::cryosat::micros(f.day, f.millisecond, f.microsecond);
+            let n = crate::inner::micros(f.day, f.millisecond, f.microsecond);
             // day 0
             crate::since(Scale::Tai, 40000, n + (f.extra as u64) * 33 / 16)
         }

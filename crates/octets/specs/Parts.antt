@@ -1,11 +1,11 @@
 -- Laws of the parts of a byte string, over their widths: an image is cut into its fields, parts are joined again, and two
 -- fields side by side are one. Assumes nothing.
 use mathlib.Core.Path.{_≡_, sym, ap, ap₂, subst, _∙_}
-use mathlib.Core.List.{List, _++_}
-use Prim.Native.Nat.{ℕ, _+_, _-_, _*_, _^_, _≤_, _<_}
+use mathlib.Core.List.{List, [], _∷_, _++_}
+use Prim.Native.Nat.{ℕ, zero, suc, _+_, _-_, _*_, _^_, _≤_, _<_}
 use native.Mathlib.Omega.{arith}
 use lib.ListN.{length, take, drop, length-append, length-drop, take-append-drop}
-use lib.Seq.{length-take-le, take-all, take-at, drop-at, drop-drop}
+use lib.Seq.{length-take-le, take-all, take-at, drop-at, drop-drop, take-add, take-take, take-nil, drop-nil}
 use Rattle.octets.specs.Meaning.{number, word, field, part, PartIs}
 use Rattle.octets.specs.Field.{Bytes, none, more, number-lt, number-append, number-field-small, field-number, length-field, field-bytes, bytes-take, bytes-drop, word-small}
 
@@ -35,6 +35,23 @@ module _ (s : List ℕ) (from n : ℕ) (h : from + n ≤ length s) where
 
     pub join-last : from + n ≡ length s → field n (part s from n) ≡ drop from s
     join-last e = field-part ∙ take-all n (drop from s) (omega (arith, length-drop from s))
+
+-- two parts side by side are one
+pub part-two : (s : List ℕ) (from n m : ℕ) → from + n + m ≤ length s → part s from (n + m) ≡ part s from n * 256 ^ m + part s (from + n) m
+part-two s from n m h =
+    ap number (take-add n m (drop from s) ∙ ap (λ (l : List ℕ). take n (drop from s) ++ take m l) (drop-drop n from s))
+    ∙ number-append (take n (drop from s)) (take m (drop (from + n) s))
+    ∙ ap (λ (l : ℕ). part s from n * 256 ^ l + part s (from + n) m) (part-length s (from + n) m h)
+
+-- what stands behind the first bytes does not show in a part of them
+pub part-take : (s : List ℕ) (from n m : ℕ) → from + n ≤ m → part (take m s) from n ≡ part s from n
+part-take s from n m h = ap number (go from m s h)
+  where
+    go : (from m : ℕ) (s : List ℕ) → from + n ≤ m → take n (drop from (take m s)) ≡ take n (drop from s)
+    go zero m s h = take-take n m s (omega arith)
+    go (suc from) zero s h = absurd (omega arith)
+    go (suc from) (suc m) [] h = ap (λ (l : List ℕ). take n (drop (suc from) l)) (take-nil (suc m))
+    go (suc from) (suc m) (b ∷ s) h = go from m s (omega arith)
 
 -- no two numbers are one part
 pub part-one : (s : List ℕ) (from n a b : ℕ) → PartIs s from n a → PartIs s from n b → a ≡ b

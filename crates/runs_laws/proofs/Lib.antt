@@ -1,0 +1,9 @@
+pub mod Parts
+pub mod Answered
+pub mod Cut
+pub mod Right
+pub mod Back
+pub mod One
+pub mod Cases
+pub mod Meets
+pub mod Wrong
