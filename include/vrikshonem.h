@@ -360,6 +360,32 @@ vrk_time vrk_siral_read(const uint8_t *bytes, size_t count);
  * Refused   3 unknown kind, scale or mark; 4; 7; 12 a scale other than TAI, a day before 0; 13. */
 vrk_written vrk_siral_write(vrk_handed time, uint8_t *out, size_t count);
 
+/* SIRAL later in the second. Day, millisecond and microsecond stand still from one second's pulse to the next; only the extra
+ * counter counts on, and it rolls over after 65536 units, which are 135168 microseconds. vrk_siral_read takes it as it stands,
+ * and so dates a packet after the first roll too early. A run of packets of one second, dated together, tells how often it
+ * rolled: the first packet's total is its extra counter, and each next total is the least number not below the one before that
+ * is its packet's extra counter modulo 65536. The dates are right where the first packet lies before the first roll and
+ * neighbours are less than one roll apart. They never fall within a run. */
+
+/* How many dates were written, and the last packet's total. */
+typedef struct {
+    uint32_t refusal;
+    uint64_t count;
+    uint64_t last;
+} vrk_run;
+
+/* A run that comes in parts is told from part to part: with the `last` of the part before as `told`, the parts together have
+ * the dates of the whole. An empty run is answered with no dates and `last` as told.
+ *
+ * Given     the bytes of packets, ten each, in the order in which they were made; `told`, 0, or the `last` of the part before;
+ *           and `dates`, which is lent as `out` is.
+ * Written   onto the front of `dates` a date for each packet: the microseconds since the beginning of day 0, in TAI.
+ * Returned  the number of packets, and the last total.
+ * Refused   1 a number of bytes that is no multiple of ten; 3 a millisecond or microsecond over its limit in any packet;
+ *           16 packets that differ in day, millisecond or microsecond, a total above 484848, which is the last below a second;
+ *           7 a date; 13 fewer dates than packets. */
+vrk_run vrk_siral_run(const uint8_t *bytes, size_t count, uint64_t told, int64_t *dates, size_t date_count);
+
 /* SBT, 4 bytes: the tick.
  *
  * Given     4 bytes.    Returned  the tick, below 2^32.    Refused  1. */

@@ -3,8 +3,8 @@ enum {
     CUC_READ, CRYOSAT_READ, SIRAL_READ, GOCE_READ, OBET_READ, SBT_READ, CUC_WRITE, CRYOSAT_WRITE, SIRAL_WRITE, GOCE_WRITE,
     OBET_WRITE, SBT_WRITE, PROTEUS_READ, PROTEUS_WRITE, GOCE_DATE, GOCE_COUNT, DECIMAL_READ, DECIMAL_WRITE, SBT_DATE, SBT_TICK,
     LIST_ACCEPTED, CHANGE, CUC_FIELDS_READ, CUC_FIELDS_WRITE, PROTEUS_FIELDS_READ, PROTEUS_FIELDS_WRITE, CRYOSAT_FIELDS_READ,
-    CRYOSAT_FIELDS_WRITE, SIRAL_FIELDS_READ, SIRAL_FIELDS_WRITE, SEASON_READ, SEASON_WRITE, SEASON_COVERING, TEXT_READ,
-    TEXT_WRITE,
+    CRYOSAT_FIELDS_WRITE, SIRAL_FIELDS_READ, SIRAL_FIELDS_WRITE, SIRAL_RUN, SEASON_READ, SEASON_WRITE, SEASON_COVERING,
+    TEXT_READ, TEXT_WRITE,
 };
 
 enum { ANSWER = 6 };
@@ -265,6 +265,15 @@ vrk_written vrk_siral_fields_write(uint32_t day, uint32_t millisecond, uint32_t 
     const struct slice the_slices[] = {{out, out_count, 1, 1}};
     ask(SIRAL_FIELDS_WRITE, the_words, 4, the_slices, 1, the_answer);
     vrk_written the_result = {.refusal = (uint32_t)the_answer[0], .length = the_answer[1]};
+    return the_result;
+}
+
+vrk_run vrk_siral_run(const uint8_t *bytes, size_t bytes_count, uint64_t told, int64_t *dates, size_t dates_count) {
+    uint64_t the_answer[ANSWER];
+    const uint64_t the_words[] = {told};
+    const struct slice the_slices[] = {{bytes, bytes_count, 1, 0}, {dates, dates_count, 8, 1}};
+    ask(SIRAL_RUN, the_words, 1, the_slices, 2, the_answer);
+    vrk_run the_result = {.refusal = (uint32_t)the_answer[0], .count = the_answer[1], .last = the_answer[2]};
     return the_result;
 }
 

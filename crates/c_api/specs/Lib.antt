@@ -6,3 +6,4 @@ pub mod Same
 pub mod Texts
 pub mod Counts
 pub mod Seasons
+pub mod Runs

@@ -17,6 +17,7 @@ pub mod bytes;
 pub mod counts;
 mod marks;
 pub mod parts;
+pub mod run;
 pub mod seasons;
 pub mod texts;
 

@@ -33,6 +33,11 @@ use Rattle.layout_laws.proofs.Back.{cryosat-again, cuc-again, proteus-again, si
 use Rattle.layout_laws.proofs.Fields.{cryosat-exact, cuc-exact, goce-exact, obet-exact, proteus-exact, sbt-exact, siral-exact}
 use Rattle.layout_laws.proofs.Meets.{again-meets, times-meet}
 use Rattle.layout_laws.proofs.Times.{cryosat-same, cuc-last, proteus-kept, proteus-last, siral-same}
+use Rattle.runs_laws.proofs.Back.{never-back}
+use Rattle.runs_laws.proofs.Cut.{cut}
+use Rattle.runs_laws.proofs.Meets.{cut-met, never-back-met, right-met, run-of-one-met, true-dates-met}
+use Rattle.runs_laws.proofs.One.{run-of-one}
+use Rattle.runs_laws.proofs.Right.{right, true-dates}
 use Rattle.text_laws.specs.Back.{none-refused, read-back as text-laws-back-read-back}
 use Rattle.lines_laws.specs.Calls.{dated, kept-for}
 use Rattle.lines_laws.specs.Each.{one-each}
@@ -47,6 +52,7 @@ use Rattle.promises.specs.Marks.{mark-ignored as promises-marks-mark-ign
 use Rattle.promises.specs.Never.{gps-to-utc-never-11, handed-gps-to-utc-never-11, line-never-5, proteus-read-never-7, without-list-never-5}
 use Rattle.promises.specs.One.{answer-returns-0, change as promises-one-change, cryosat-fields-read as promises-one-cryosat-fields-read, cryosat-fields-write as promises-one-cryosat-fields-write, cryosat-read as promises-one-cryosat-read, cryosat-write as promises-one-cryosat-write, cuc-fields-read as promises-one-cuc-fields-read, cuc-fields-write as promises-one-cuc-fields-write, cuc-read as promises-one-cuc-read, cuc-write as promises-one-cuc-write, date-of, day-of, decimal-read as promises-one-decimal-read, decimal-write as promises-one-decimal-write, goce-count as promises-one-goce-count, goce-date as promises-one-goce-date, goce-read as promises-one-goce-read, goce-write, gps-to-tai, gps-to-utc, line, obet-read as promises-one-obet-read, obet-write, proteus-fields-read as promises-one-proteus-fields-read, proteus-fields-write as promises-one-proteus-fields-write, proteus-read as promises-one-proteus-read, proteus-write as promises-one-proteus-write, record-judged, rest-stays, sbt-date as promises-one-sbt-date, sbt-read as promises-one-sbt-read, sbt-tick as promises-one-sbt-tick, sbt-write, siral-fields-read as promises-one-siral-fields-read, siral-fields-write as promises-one-siral-fields-write, siral-read as promises-one-siral-read, siral-write as promises-one-siral-write, tai-to-gps, tai-to-utc, take, text-read as promises-one-text-read, text-write as promises-one-text-write, utc-to-gps, utc-to-tai}
 use Rattle.promises.specs.OneForC.{answer-returns-0-for-c, change as promises-one-for-c-change, cryosat-fields-read as promises-one-for-c-cryosat-fields-read, cryosat-fields-write as promises-one-for-c-cryosat-fields-write, cryosat-read as promises-one-for-c-cryosat-read, cryosat-write as promises-one-for-c-cryosat-write, cuc-fields-read as promises-one-for-c-cuc-fields-read, cuc-fields-write as promises-one-for-c-cuc-fields-write, cuc-read as promises-one-for-c-cuc-read, cuc-write as promises-one-for-c-cuc-write, decimal-read as promises-one-for-c-decimal-read, decimal-write as promises-one-for-c-decimal-write, goce-count as promises-one-for-c-goce-count, goce-date as promises-one-for-c-goce-date, goce-read as promises-one-for-c-goce-read, obet-read as promises-one-for-c-obet-read, proteus-fields-read as promises-one-for-c-proteus-fields-read, proteus-fields-write as promises-one-for-c-proteus-fields-write, proteus-read as promises-one-for-c-proteus-read, proteus-write as promises-one-for-c-proteus-write, sbt-date as promises-one-for-c-sbt-date, sbt-read as promises-one-for-c-sbt-read, sbt-tick as promises-one-for-c-sbt-tick, siral-fields-read as promises-one-for-c-siral-fields-read, siral-fields-write as promises-one-for-c-siral-fields-write, siral-read as promises-one-for-c-siral-read, siral-write as promises-one-for-c-siral-write, text-read as promises-one-for-c-text-read, text-write as promises-one-for-c-text-write}
+use Rattle.promises.specs.OneRun.{siral-run}
 use Rattle.promises.specs.OneSeason.{season-covering, season-covering-for-c, season-read, season-write}
 use Rattle.promises.specs.Three.{change-for-c, date-for-c, goce-count-for-c, goce-date-for-c, old-dates-stay, text-read-for-c, text-write-for-c, tick-for-c}
 use Rattle.promises.specs.Two.{cryosat-time, cuc-time, proteus-time, siral-time}

@@ -26,6 +26,8 @@ use Rattle.goce.specs.Meaning as Goce
 use Rattle.goce.specs.declared.Correlation as GoceDeclared
 use Rattle.season.specs.Meaning as Season
 use Rattle.octets.specs.Meaning.{part}
+use Rattle.layout_fields.specs.declared.siral.Fields.{Fields}
+use Rattle.runs.specs.Meaning as Runs
 use Rattle.text_read.specs.Meaning.{isPrefixRight, scaleIn, bodyIn, hasMarks, stampIn, inLimits, stampMoment}
 use Rattle.text_write.specs.Meaning.{showsScale, hasMicros}
 use Rattle.text_write.specs.declared.Form.{Form}
@@ -38,6 +40,10 @@ lengthIsNone n s = not (eqb (length s) n)
 -- "(20 characters), with .uuuuuu (27), with RRR= before either (24, 31)"
 abbrev pub textLengthIsNone : List ℕ → Bool
 textLengthIsNone s = not ((eqb (length s) 24 || eqb (length s) 31) || (eqb (length s) 20 || eqb (length s) 27))
+
+-- "1 for a length not a multiple of ten"
+abbrev pub packetsBroken : List ℕ → Bool
+packetsBroken s = not (eqb (length s % 10) 0)
 
 -- ---- "2 marker byte or zero bits wrong"
 -- "one byte equal to 66 hexadecimal"
@@ -59,6 +65,10 @@ weekOver week second = not (ltb week (2 ^ 12) && leb second 604799)
 -- "millisecond .. (below 86,400,000), microsecond .. (below 1,000)"
 abbrev pub dayTimeOver : ℕ → ℕ → Bool
 dayTimeOver milli micro = not (ltb milli 86400000 && ltb micro 1000)
+
+-- the same of any packet of a run
+abbrev pub packetOver : List ℕ → Bool
+packetOver s = not (Runs.all (λ (f : Fields). ltb (f .millisecond) 86400000 && ltb (f .microsecond) 1000) (Runs.packets s))
 
 -- "kept as a 48-bit count", "kept as a 56-bit count"
 abbrev pub countOver : ℕ → ℕ → Bool
@@ -121,6 +131,12 @@ contentsBroken s = not (Season.contentsKept s)
 abbrev pub wordsBroken : List ℤ → Bool
 wordsBroken ws = not (Season.isWritable ws)
 
+-- ---- "16 a run's three fields differ, or a total above 484,848 units", by the bytes and the told count
+abbrev pub notOneSecond : List ℕ → ℕ → Bool
+notOneSecond s told =
+    let fs = Runs.packets s in
+    not (Runs.areAlike fs && Runs.all (λ (t : ℕ). leb t 484848) (Runs.totals told fs))
+
 -- ---- "4 decimal day infinite or not a number"
 abbrev pub notFinite : Float → Bool
 notFinite x = not (finite x)
@@ -155,6 +171,10 @@ dayOutside d = not (leZ (first S.Tai) d && leZ d (last S.Tai))
 
 abbrev pub yearOutside : Date → Bool
 yearOutside t = not (leb 1972 (t .year) && leb (t .year) 2099)
+
+-- any date of a run, carry included
+abbrev pub dateOutside : List ℕ → ℕ → Bool
+dateOutside s told = not (Runs.all Runs.isInSpan (Runs.datesIn s told))
 
 -- "a real date outside the span gets 7": one outside the calendar's has no day
 abbrev pub textOutside : List ℕ → Bool

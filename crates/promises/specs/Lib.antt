@@ -6,6 +6,7 @@ pub mod Judging
 pub mod One
 pub mod OneForC
 pub mod OneSeason
+pub mod OneRun
 pub mod Refusals
 pub mod Never
 pub mod Two

@@ -18,6 +18,7 @@ use Rattle.promises.specs.Meaning.{Promise, refusals}
 use Rattle.promises.specs.One.{Allows}
 use Rattle.promises.specs.One as One
 use Rattle.promises.specs.OneForC as OneForC
+use Rattle.promises.specs.OneRun as OneRun
 use Rattle.promises.specs.OneSeason as OneSeason
 
 -- the rows that a theorem of demand 1 names
@@ -94,6 +95,9 @@ siral-read s = refl
 
 pub siral-write : (h : VrkHanded) (out : List ℕ) → refusals (rowsOf (OneForC.siral-write h out)) ≡ 3 ∷ 4 ∷ 7 ∷ 12 ∷ 13 ∷ []
 siral-write h out = refl
+
+pub siral-run : (s : List ℕ) (told : ℕ) (out : List ℤ) → refusals (rowsOf (OneRun.siral-run s told out)) ≡ 1 ∷ 3 ∷ 16 ∷ 7 ∷ 13 ∷ []
+siral-run s told out = refl
 
 pub sbt-read : (s : List ℕ) → refusals (rowsOf (OneForC.sbt-read s)) ≡ 1 ∷ []
 sbt-read s = refl

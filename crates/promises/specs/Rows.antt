@@ -20,6 +20,7 @@ use Rattle.sbt.specs.declared.Correlation.{Correlation}
 use Rattle.goce.specs.Meaning as Goce
 use Rattle.goce.specs.declared.Correlation as GoceDeclared
 use Rattle.season.specs.Meaning as Season
+use Rattle.runs.specs.Meaning as Runs
 use Rattle.octets.specs.Meaning.{part}
 use Rattle.layout_fields.specs.Cuc as CucFields
 use Rattle.layout_fields.specs.Proteus as ProteusFields
@@ -152,6 +153,16 @@ abbrev pub seasonCovering : List ℕ → ℤ → ℕ → List (ℕ × Bool)
 seasonCovering s d u =
     let m : Moment = record { day = d; micro = u } in
     (14, C.contentsBroken s) ∷ (7, C.outsideSpan S.Tai m) ∷ (15, C.noEntry s m) ∷ []
+
+-- ---- a run of SIRAL's packets
+abbrev pub siralRun : List ℕ → ℕ → List ℤ → List (ℕ × Bool)
+siralRun s told out =
+    (1, C.packetsBroken s)
+    ∷ (3, C.packetOver s)
+    ∷ (16, C.notOneSecond s told)
+    ∷ (7, C.dateOutside s told)
+    ∷ (13, C.outputShorter (length (Runs.packets s)) out)
+    ∷ []
 
 -- ---- bytes and fields
 abbrev pub cucFieldsRead : List ℕ → List (ℕ × Bool)
