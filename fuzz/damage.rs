@@ -1,4 +1,4 @@
-//! Damage to words, to slices and to leap lists: flipped, cut, doubled, spliced with those of another call.
+//! Damage to words, to slices, to leap lists and to runs: flipped, cut, doubled, spliced with those of another call.
 
 use crate::calls::{bytes_of, words_of, Call, Function, Random};
 use crate::library::lengths;
@@ -7,6 +7,9 @@ use crate::library::lengths;
 const MOST: usize = 1 << 15;
 const NEW: usize = 8192;
 const WORDS: usize = 3600;
+/// The bytes of a packet of a run, and where its extra counter stands.
+const PACKET: usize = 10;
+const EXTRA: usize = 8;
 
 fn range(random: &mut Random, length: usize) -> std::ops::Range<usize> {
     let begin = random.below(length as u64 + 1) as usize;
@@ -81,9 +84,9 @@ pub fn bytes(random: &mut Random, mut all: Vec<u8>, other: &[u8]) -> Vec<u8> {
 }
 
 /// Where rules begin or end, and where arithmetic could.
-const EDGES: [u64; 22] = [
-    0, 1, 2, 3, 999, 1000, 65_535, 65_536, 86_400_000_000, 86_399_999_999, 86_401_000_000, 36_524, 36_525, 1 << 31, u32::MAX as u64,
-    1 << 32, 5_662_310_400, 1 << 47, 1 << 48, 1 << 56, i64::MAX as u64, 1 << 63,
+const EDGES: [u64; 24] = [
+    0, 1, 2, 3, 999, 1000, 65_535, 65_536, 484_848, 484_849, 86_400_000_000, 86_399_999_999, 86_401_000_000, 36_524, 36_525,
+    1 << 31, u32::MAX as u64, 1 << 32, 5_662_310_400, 1 << 47, 1 << 48, 1 << 56, i64::MAX as u64, 1 << 63,
 ];
 
 fn word(random: &mut Random, old: u64, other: u64) -> u64 {
@@ -177,11 +180,27 @@ impl List {
     }
 }
 
-/// What is damaged by itself: a word, the leap list, any other slice.
+/// Two packets of a run exchanged, one in the place of another, or one with another extra counter: the run stays of one second.
+fn packets(random: &mut Random, all: &mut [u8]) {
+    let count = (all.len() / PACKET) as u64;
+    if count == 0 {
+        return;
+    }
+    let [at, other] = [0; 2].map(|_| random.below(count) as usize * PACKET);
+    match random.below(4) {
+        0 => (0..PACKET).for_each(|byte| all.swap(at + byte, other + byte)),
+        1 => all.copy_within(other..other + PACKET, at),
+        2 => stepped(random, &mut all[at + EXTRA..at + PACKET], 0),
+        _ => all[at + EXTRA..at + PACKET].copy_from_slice(&any(random, PACKET - EXTRA)),
+    }
+}
+
+/// What is damaged by itself: a word, the leap list, the packets of a run, any other slice.
 #[derive(Clone, Copy)]
 enum Part {
     Word,
     List(List),
+    Packets { at: usize },
     Slice { at: usize, width: usize, is_lent: bool },
 }
 
@@ -203,6 +222,9 @@ fn parts(function: Function) -> Vec<Part> {
         if list.is_none_or(|list| ![list.days, list.offsets].contains(&at)) {
             all.push(Part::Slice { at, width, is_lent });
         }
+        if function == Function::SiralRun && !is_lent {
+            all.push(Part::Packets { at });
+        }
     }
     all
 }
@@ -219,6 +241,7 @@ fn once(random: &mut Random, parts: &[Part], call: &mut Call, other: &Call) {
             call.words[at] = word(random, call.words[at], other.words[at]) & u64::MAX >> (64 - 8 * width);
         }
         Part::List(list) => list.damage(random, call, other),
+        Part::Packets { at } => packets(random, &mut call.slices[at]),
         Part::Slice { at, width, is_lent: true } => {
             let image = call.function.shape().image.as_ref();
             let image = image.map_or(0, |image| if image.is_known() { image.length } else { image.length >> random.below(14) });

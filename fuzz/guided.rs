@@ -14,6 +14,7 @@ mod independent;
 mod laws;
 mod library;
 mod marks;
+mod runs;
 mod season;
 mod times;
 
@@ -44,9 +45,9 @@ fn stop(why: &str) -> ! {
 }
 
 /// Numbers of the rules: of a range that is tested as one, libFuzzer sees no end.
-const RULES: [u64; 14] = [
+const RULES: [u64; 15] = [
     3_906_000_000, 3_906_500_000, 86_400_000_000, 86_401_000_000, 1 << 31, 36_525, (-10_227i64) as u64, (-7_300i64) as u64,
-    999_000_000, 1_001_000_000, 5_662_310_400, (-5_662_310_400i64) as u64, 1 << 47, 206_815_887_360_000,
+    999_000_000, 1_001_000_000, 5_662_310_400, (-5_662_310_400i64) as u64, 1 << 47, 206_815_887_360_000, 484_848,
 ];
 
 struct Bytes<'a>(&'a [u8]);

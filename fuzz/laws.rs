@@ -1,11 +1,12 @@
 //! What holds of every answer whatever the independent program says: the form of a refusal and of an answer, that what is written
 //! reads back and what is read is written again, that a wider window changes nothing but an 8 and a longer list besides nothing but
 //! an 8 or a 9, and that a list which is not used changes nothing. The parts of a call are found by their names, so that these laws
-//! hold of a new pair of functions without a line here; marks.rs has what holds of marks, season.rs what of the season's file.
+//! hold of a new pair of functions without a line here; marks.rs has what holds of marks, runs.rs what of SIRAL's runs,
+//! season.rs what of the season's file.
 
-use crate::calls::{refusal, Answer, Call, Function, Shape};
+use crate::calls::{refusal, Answer, Call, Function, Shape, ANSWER};
 use crate::library::named;
-use crate::{marks, season};
+use crate::{marks, runs, season};
 use crate::times::{List, Time, LAST_DAY, UTC};
 
 /// A lent slice as it is left.
@@ -26,7 +27,7 @@ pub fn broken(call: &Call, answer: &Answer) -> Option<&'static str> {
     if time.is_some_and(|time| time.span().is_none()) {
         return Some("no scale");
     }
-    if let Some(why) = marks::broken(call, answer) {
+    if let Some(why) = marks::broken(call, answer).or_else(|| runs::broken(call, answer)) {
         return Some(why);
     }
     if number != 0 {
@@ -206,6 +207,13 @@ fn back(call: &Call, answer: &Answer) -> Option<Again> {
     Some(Again { call, words, time, lent, wrong: "it does not come back" })
 }
 
+/// An answer of these words, and zeroes behind them.
+pub fn due(words: &[u64], lent: Vec<Vec<u8>>) -> Answer {
+    let mut words = words.to_vec();
+    words.resize(ANSWER, 0);
+    Answer { words, lent }
+}
+
 /// The same answer to another call.
 pub fn stays(call: Call, answer: &Answer, wrong: &'static str) -> Again {
     let words = answer.words.iter().map(|&word| Some(word)).collect();
@@ -254,7 +262,8 @@ fn listless(call: &Call, answer: &Answer) -> Option<Again> {
 
 pub fn again(call: &Call, answer: &Answer) -> impl Iterator<Item = Again> {
     let same = [wider(call, answer), longer(call, answer), listless(call, answer), marks::again(call, answer)];
-    back(call, answer).into_iter().chain(same.into_iter().flatten()).chain(season::again(call, answer))
+    let own = runs::again(call, answer).into_iter().chain(season::again(call, answer));
+    back(call, answer).into_iter().chain(same.into_iter().flatten()).chain(own)
 }
 
 impl Again {

@@ -21,6 +21,7 @@ mod kept;
 mod laws;
 mod library;
 mod marks;
+mod runs;
 mod season;
 mod times;
 

@@ -1,8 +1,8 @@
 //! What holds of the season's file: both trips come back, the question agrees with the reader, looks at the contents alone, and is
 //! not changed by an entry that it does not give.
 
-use crate::calls::{bytes_of, refusal, words_of, Answer, Call, Function, ANSWER};
-use crate::laws::{stays, Again};
+use crate::calls::{bytes_of, refusal, words_of, Answer, Call, Function};
+use crate::laws::{due, stays, Again};
 
 /// The bytes of an entry of the contents and of a body; the words of an entry that is read and of a correlation that is written.
 const ENTRY: usize = 20;
@@ -47,12 +47,6 @@ pub fn broken(call: &Call, answer: &Answer) -> Option<&'static str> {
         }
         _ => None,
     }
-}
-
-fn due(words: &[u64], lent: Vec<Vec<u8>>) -> Answer {
-    let mut words = words.to_vec();
-    words.resize(ANSWER, 0);
-    Answer { words, lent }
 }
 
 /// What was read is written as the same bytes.

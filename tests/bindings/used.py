@@ -187,6 +187,7 @@ def use():
             tally.expect(f"docs/USE.md: {each}", (status, said) == (0, expected), said)
     own("Rust", SHOWN, "rust")
     own("Python", SHOWN, "python")
+    in_every_language("SIRAL's runs")
     in_every_language("Where a time came from")
     in_every_language("The season's file")
     lines = [line[4:] for line in re.search(r"packets.txt`:\n\n(.*?)\n\n", read("docs/USE.md"), re.S)[1].split("\n")]

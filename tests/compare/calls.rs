@@ -10,6 +10,7 @@ mod interface;
 mod layouts;
 mod leap;
 mod random;
+mod runs;
 mod season;
 mod shape;
 mod text;
@@ -45,8 +46,10 @@ type Model = fn(&Call) -> Answer;
 type Pair = (Function, Make, Model);
 
 /// Each module lists the functions whose inputs it makes, and what the independent program says of each.
-const PAIRS: &[&[Pair]] =
-    &[correlation::PAIRS, decimal::PAIRS, fields::PAIRS, goce::PAIRS, layouts::PAIRS, leap::PAIRS, season::PAIRS, text::PAIRS];
+const PAIRS: &[&[Pair]] = &[
+    correlation::PAIRS, decimal::PAIRS, fields::PAIRS, goce::PAIRS, layouts::PAIRS, leap::PAIRS, runs::PAIRS, season::PAIRS,
+    text::PAIRS,
+];
 
 impl Function {
     fn pair(self) -> &'static Pair {
@@ -129,12 +132,12 @@ fn counted(call: &Call, count: Result<u64, Number>) -> Answer {
     }
 }
 
-/// An image, and how much it is told as, on the front of a lent slice, or 13 where it has no room; every byte stays on a refusal.
-fn laid(call: &Call, slice: &str, image: Result<(u64, Vec<u8>), Number>) -> Answer {
-    let fits = image.and_then(|(told, image)| if image.len() <= call.slice(slice).len() { Ok((told, image)) } else { Err(13) });
+/// An image, and the values beside it, on the front of a lent slice, or 13 where it has no room; every byte stays on a refusal.
+fn laid<const N: usize>(call: &Call, slice: &str, image: Result<([u64; N], Vec<u8>), Number>) -> Answer {
+    let fits = image.and_then(|both| if both.1.len() <= call.slice(slice).len() { Ok(both) } else { Err(13) });
     match fits {
-        Ok((told, image)) => {
-            let mut answer = answered(call, &[0, told]);
+        Ok((values, image)) => {
+            let mut answer = answered(call, &[&[0], &values[..]].concat());
             answer.lent[0][..image.len()].copy_from_slice(&image);
             answer
         }
@@ -144,7 +147,7 @@ fn laid(call: &Call, slice: &str, image: Result<(u64, Vec<u8>), Number>) -> Answ
 
 /// An image of bytes.
 fn written(call: &Call, image: Result<Vec<u8>, Number>) -> Answer {
-    laid(call, "out", image.map(|image| (image.len() as u64, image)))
+    laid(call, "out", image.map(|image| ([image.len() as u64], image)))
 }
 
 /// Bytes that are lent for an image: too few, as many, or any number.
@@ -155,5 +158,32 @@ fn lent(function: Function, random: &mut Random) -> Vec<u8> {
         1 => image,
         _ => random.below(41),
     };
-    (0..length).map(|_| random.next() as u8).collect()
+    any(random, length as usize)
+}
+
+fn any(random: &mut Random, count: usize) -> Vec<u8> {
+    (0..count).map(|_| random.next() as u8).collect()
+}
+
+/// Room for so many elements: just as many, more, or too few.
+fn room(random: &mut Random, due: usize) -> usize {
+    match random.below(6) {
+        0 => random.below(due as u64 + 1) as usize,
+        1 => due.saturating_sub(1),
+        2 | 3 => due,
+        _ => due + random.below(20) as usize,
+    }
+}
+
+/// One byte is another, or the length is.
+fn damaged(random: &mut Random, mut bytes: Vec<u8>) -> Vec<u8> {
+    let at = random.below(bytes.len() as u64) as usize;
+    match random.below(8) {
+        0 => bytes.truncate(at),
+        1 => bytes.truncate(random.below(3) as usize),
+        2 => bytes.resize(bytes.len() + 1 + random.below(48) as usize, random.next() as u8),
+        3 => bytes[at] = random.next() as u8,
+        _ => bytes[at] ^= 1 << random.below(8),
+    }
+    bytes
 }

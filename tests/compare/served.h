@@ -3,8 +3,8 @@ enum {
     CUC_READ, CRYOSAT_READ, SIRAL_READ, GOCE_READ, OBET_READ, SBT_READ, CUC_WRITE, CRYOSAT_WRITE, SIRAL_WRITE, GOCE_WRITE,
     OBET_WRITE, SBT_WRITE, PROTEUS_READ, PROTEUS_WRITE, GOCE_DATE, GOCE_COUNT, DECIMAL_READ, DECIMAL_WRITE, SBT_DATE, SBT_TICK,
     LIST_ACCEPTED, CHANGE, CUC_FIELDS_READ, CUC_FIELDS_WRITE, PROTEUS_FIELDS_READ, PROTEUS_FIELDS_WRITE, CRYOSAT_FIELDS_READ,
-    CRYOSAT_FIELDS_WRITE, SIRAL_FIELDS_READ, SIRAL_FIELDS_WRITE, SEASON_READ, SEASON_WRITE, SEASON_COVERING, TEXT_READ,
-    TEXT_WRITE,
+    CRYOSAT_FIELDS_WRITE, SIRAL_FIELDS_READ, SIRAL_FIELDS_WRITE, SIRAL_RUN, SEASON_READ, SEASON_WRITE, SEASON_COVERING,
+    TEXT_READ, TEXT_WRITE,
 };
 
 enum { ANSWER = 6 };
@@ -45,6 +45,7 @@ static const struct shape {
     [CRYOSAT_FIELDS_WRITE] = {3, 1, {{1, 1}}},
     [SIRAL_FIELDS_READ] = {0, 1, {{1, 0}}},
     [SIRAL_FIELDS_WRITE] = {4, 1, {{1, 1}}},
+    [SIRAL_RUN] = {1, 2, {{1, 0}, {8, 1}}},
     [SEASON_READ] = {0, 2, {{1, 0}, {8, 1}}},
     [SEASON_WRITE] = {0, 2, {{8, 0}, {1, 1}}},
     [SEASON_COVERING] = {2, 1, {{1, 0}}},
@@ -105,6 +106,10 @@ static void siral_fields_is(vrk_siral_fields r) {
     answer[0] = r.refusal, answer[1] = r.day, answer[2] = r.millisecond, answer[3] = r.microsecond, answer[4] = r.extra;
 }
 
+static void run_is(vrk_run r) {
+    answer[0] = r.refusal, answer[1] = r.count, answer[2] = r.last;
+}
+
 static void cover_is(vrk_cover r) {
     answer[0] = r.refusal, answer[1] = (uint64_t)r.first, answer[2] = (uint64_t)r.last;
 }
@@ -141,6 +146,7 @@ static int call(uint64_t function) {
     case CRYOSAT_FIELDS_WRITE: written_is(vrk_cryosat_fields_write((uint32_t)w[0], (uint32_t)w[1], (uint32_t)w[2], LENT(uint8_t, 0))); return 1;
     case SIRAL_FIELDS_READ: siral_fields_is(vrk_siral_fields_read(GIVEN(uint8_t, 0))); return 1;
     case SIRAL_FIELDS_WRITE: written_is(vrk_siral_fields_write((uint32_t)w[0], (uint32_t)w[1], (uint32_t)w[2], (uint32_t)w[3], LENT(uint8_t, 0))); return 1;
+    case SIRAL_RUN: run_is(vrk_siral_run(GIVEN(uint8_t, 0), w[0], LENT(int64_t, 1))); return 1;
     case SEASON_READ: count_is(vrk_season_read(GIVEN(uint8_t, 0), LENT(int64_t, 1))); return 1;
     case SEASON_WRITE: written_is(vrk_season_write(GIVEN(int64_t, 0), LENT(uint8_t, 1))); return 1;
     case SEASON_COVERING: cover_is(vrk_season_covering(GIVEN(uint8_t, 0), (int64_t)w[0], w[1])); return 1;

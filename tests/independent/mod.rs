@@ -12,6 +12,7 @@ pub mod goce;
 pub mod layouts;
 pub mod leap;
 pub mod lines;
+pub mod runs;
 pub mod season;
 pub mod text;
 pub mod time;

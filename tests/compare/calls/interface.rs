@@ -34,6 +34,7 @@ pub enum Function {
     CryosatFieldsWrite,
     SiralFieldsRead,
     SiralFieldsWrite,
+    SiralRun,
     SeasonRead,
     SeasonWrite,
     SeasonCovering,
@@ -72,6 +73,7 @@ pub const FUNCTIONS: &[Function] = &[
     Function::CryosatFieldsWrite,
     Function::SiralFieldsRead,
     Function::SiralFieldsWrite,
+    Function::SiralRun,
     Function::SeasonRead,
     Function::SeasonWrite,
     Function::SeasonCovering,
@@ -89,6 +91,7 @@ pub mod refusal {
     pub const MARKER_WRONG: u64 = 2;
     pub const FIELD_OVER: u64 = 3;
     pub const SEASON_BROKEN: u64 = 14;
+    pub const NOT_ONE_SECOND: u64 = 16;
     pub const DECIMAL_NOT_FINITE: u64 = 4;
     pub const LIST_NOT_ACCEPTED: u64 = 5;
     pub const CORRELATION_NOT_ACCEPTED: u64 = 6;
@@ -313,6 +316,13 @@ pub const SHAPES: &[Shape] = &[
         gives: &["refusal", "length"],
         image: Some(Image { length: 10, fixed: true, told: None }),
         refuses: &[3, 13],
+    },
+    Shape {
+        name: "siral_run",
+        takes: &[given("bytes", 1), numbers("told", &[("told", 8)]), lent("dates", 8)],
+        gives: &["refusal", "count", "last"],
+        image: None,
+        refuses: &[1, 3, 16, 7, 13],
     },
     Shape {
         name: "season_read",

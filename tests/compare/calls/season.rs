@@ -1,7 +1,7 @@
 //! The season's file and the correlations that it is written of: as they should be, with one rule broken, with bytes damaged; and
 //! receipts at and beside the ends of its covers.
 
-use super::{answered, bytes_of, clock, laid, written, Answer, Call, Function, Pair, Random};
+use super::{answered, any, bytes_of, clock, damaged, laid, room, written, Answer, Call, Function, Pair, Random};
 use crate::independent::clock::Clock;
 use crate::independent::correlation::Correlation;
 use crate::independent::layouts::field;
@@ -149,33 +149,6 @@ impl File {
     }
 }
 
-/// One byte is another, or the length is.
-fn damaged(random: &mut Random, mut bytes: Vec<u8>) -> Vec<u8> {
-    let at = random.below(bytes.len() as u64) as usize;
-    match random.below(8) {
-        0 => bytes.truncate(at),
-        1 => bytes.truncate(random.below(3) as usize),
-        2 => bytes.resize(bytes.len() + 1 + random.below(48) as usize, random.next() as u8),
-        3 => bytes[at] = random.next() as u8,
-        _ => bytes[at] ^= 1 << random.below(8),
-    }
-    bytes
-}
-
-/// Room for so many elements: just as many, more, or too few.
-fn room(random: &mut Random, due: usize) -> usize {
-    match random.below(6) {
-        0 => random.below(due as u64 + 1) as usize,
-        1 => due.saturating_sub(1),
-        2 | 3 => due,
-        _ => due + random.below(20) as usize,
-    }
-}
-
-fn any(random: &mut Random, count: usize) -> Vec<u8> {
-    (0..count).map(|_| random.next() as u8).collect()
-}
-
 fn make_read(function: Function, random: &mut Random) -> Call {
     let count = many(random);
     let mut all = rising(random, count);
@@ -205,7 +178,7 @@ fn correlation_words(one: &Correlation) -> [u64; 7] {
 
 fn model_read(call: &Call) -> Answer {
     let entries = season::read(call.slice("bytes"));
-    laid(call, "words", entries.map(|all| (all.len() as u64, bytes_of(&all.iter().flat_map(entry_words).collect::<Vec<_>>()))))
+    laid(call, "words", entries.map(|all| ([all.len() as u64], bytes_of(&all.iter().flat_map(entry_words).collect::<Vec<_>>()))))
 }
 
 /// One word is another, or there are more or fewer of them.
