@@ -17,6 +17,7 @@ class Refusals(Desk):
         self.refused(vrk.FieldOver, vrk.text_read, "31-FEB-2000 00:00:00", LIST)
         self.refused(vrk.FieldOver, vrk.text_write, Utc(0, 0), 25, LIST, out)
         self.refused(vrk.SeasonBroken, vrk.season_write, [correlation(0, Utc(0, 0), 1, 1)], out)
+        self.refused(vrk.NotOneSecond, vrk.siral_run, bytes(10), 484_849)
         self.refused(vrk.DecimalNotFinite, Gps.from_decimal, float("inf"))
         self.refused(vrk.ListNotAccepted, Tai(0, 0).to_utc, NONE)
         slow = correlation(0, Tai(0, 0), 1, 1, 3_906_500_001)

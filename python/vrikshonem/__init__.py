@@ -32,20 +32,22 @@ A reader takes bytes of any length. A writer hands its image back; where a bytea
 onto its front, leaves every byte after it, and refuses with 13 where it is too short. A refusal leaves every byte.
 """
 
-from . import _correlations, _layouts, _marks, _refusals, _season, _times
+from . import _correlations, _layouts, _marks, _refusals, _runs, _season, _times
 from ._correlations import *
 from ._layouts import *
 from ._marks import *
 from ._refusals import *
+from ._runs import *
 from ._season import *
 from ._times import *
 
-__version__ = "0.5.0"
+__version__ = "0.5.1"
 # Each module lists its own names, and in this form a checker of types can add them up.
 __all__: list[str] = []
 __all__ += _correlations.__all__
 __all__ += _layouts.__all__
 __all__ += _marks.__all__
 __all__ += _refusals.__all__
+__all__ += _runs.__all__
 __all__ += _season.__all__
 __all__ += _times.__all__

@@ -203,7 +203,8 @@ def cryosat_fields_write(day: int, millisecond: int, microsecond: int, out: Lent
 
 
 def siral_read(data: Bytes) -> Tai:
-    """SIRAL, 10 bytes: CryoSat general's, and an extra counter of 33/16 microsecond, which is added. Refused: 1; 3; 7."""
+    """SIRAL, 10 bytes: CryoSat general's, and an extra counter of 33/16 microsecond, which is added. siral_run dates packets
+    after the counter has rolled over. Refused: 1; 3; 7."""
     return Tai._of(_read("vrk_siral_read", data))
 
 

@@ -114,6 +114,14 @@ class VrkSiralFields(ctypes.Structure):
     ]
 
 
+class VrkRun(ctypes.Structure):
+    _fields_ = [
+        ("refusal", ctypes.c_uint32),
+        ("count", ctypes.c_uint64),
+        ("last", ctypes.c_uint64),
+    ]
+
+
 class VrkCover(ctypes.Structure):
     _fields_ = [
         ("refusal", ctypes.c_uint32),
@@ -154,6 +162,7 @@ FUNCTIONS: Dict[str, Tuple[Any, Tuple[Any, ...]]] = {
     "vrk_cryosat_fields_write": (VrkWritten, (ctypes.c_uint32, ctypes.c_uint32, ctypes.c_uint32, ctypes.POINTER(ctypes.c_uint8), ctypes.c_size_t)),
     "vrk_siral_fields_read": (VrkSiralFields, (ctypes.POINTER(ctypes.c_uint8), ctypes.c_size_t)),
     "vrk_siral_fields_write": (VrkWritten, (ctypes.c_uint32, ctypes.c_uint32, ctypes.c_uint32, ctypes.c_uint32, ctypes.POINTER(ctypes.c_uint8), ctypes.c_size_t)),
+    "vrk_siral_run": (VrkRun, (ctypes.POINTER(ctypes.c_uint8), ctypes.c_size_t, ctypes.c_uint64, ctypes.POINTER(ctypes.c_int64), ctypes.c_size_t)),
     "vrk_season_read": (VrkCount, (ctypes.POINTER(ctypes.c_uint8), ctypes.c_size_t, ctypes.POINTER(ctypes.c_int64), ctypes.c_size_t)),
     "vrk_season_write": (VrkWritten, (ctypes.POINTER(ctypes.c_int64), ctypes.c_size_t, ctypes.POINTER(ctypes.c_uint8), ctypes.c_size_t)),
     "vrk_season_covering": (VrkCover, (ctypes.POINTER(ctypes.c_uint8), ctypes.c_size_t, ctypes.c_int64, ctypes.c_uint64)),

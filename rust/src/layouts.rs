@@ -167,9 +167,11 @@ pub mod cryosat {
     }
 }
 
-/// SIRAL, 10 bytes: CryoSat general's, and an extra counter of 33/16 microsecond, which is added.
+/// SIRAL, 10 bytes: CryoSat general's, and an extra counter of 33/16 microsecond, which is added. [`run`](siral::run) dates
+/// packets after the counter has rolled over.
 pub mod siral {
     use super::*;
+    pub use crate::runs::{run, Run};
     use crate::time::{at, Handed, Tai};
 
     /// The bytes of an image.

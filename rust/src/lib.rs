@@ -36,6 +36,7 @@ mod layouts;
 mod leap;
 mod mark;
 mod refusals;
+mod runs;
 pub mod season;
 mod sys;
 pub mod text;

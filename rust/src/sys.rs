@@ -111,6 +111,14 @@ pub struct VrkSiralFields {
 
 #[repr(C)]
 #[derive(Clone, Copy)]
+pub struct VrkRun {
+    pub refusal: u32,
+    pub count: u64,
+    pub last: u64,
+}
+
+#[repr(C)]
+#[derive(Clone, Copy)]
 pub struct VrkCover {
     pub refusal: u32,
     pub first: i64,
@@ -148,6 +156,7 @@ extern "C" {
     pub fn vrk_cryosat_fields_write(day: u32, millisecond: u32, microsecond: u32, out: *mut u8, out_count: usize) -> VrkWritten;
     pub fn vrk_siral_fields_read(bytes: *const u8, bytes_count: usize) -> VrkSiralFields;
     pub fn vrk_siral_fields_write(day: u32, millisecond: u32, microsecond: u32, extra: u32, out: *mut u8, out_count: usize) -> VrkWritten;
+    pub fn vrk_siral_run(bytes: *const u8, bytes_count: usize, told: u64, dates: *mut i64, dates_count: usize) -> VrkRun;
     pub fn vrk_season_read(bytes: *const u8, bytes_count: usize, words: *mut i64, words_count: usize) -> VrkCount;
     pub fn vrk_season_write(words: *const i64, words_count: usize, out: *mut u8, out_count: usize) -> VrkWritten;
     pub fn vrk_season_covering(bytes: *const u8, bytes_count: usize, receipt_day: i64, receipt_micro: u64) -> VrkCover;
@@ -291,6 +300,10 @@ pub(crate) fn siral_fields_read(bytes: &[u8]) -> VrkSiralFields {
 
 pub(crate) fn siral_fields_write(day: u32, millisecond: u32, microsecond: u32, extra: u32, out: &mut [u8]) -> VrkWritten {
     unsafe { vrk_siral_fields_write(day, millisecond, microsecond, extra, out.as_mut_ptr(), out.len()) }
+}
+
+pub(crate) fn siral_run(bytes: &[u8], told: u64, dates: &mut [i64]) -> VrkRun {
+    unsafe { vrk_siral_run(bytes.as_ptr(), bytes.len(), told, dates.as_mut_ptr(), dates.len()) }
 }
 
 pub(crate) fn season_read(bytes: &[u8], words: &mut [i64]) -> VrkCount {

@@ -4,6 +4,8 @@
 mod correlations;
 #[path = "desk/marks.rs"]
 mod marks;
+#[path = "desk/runs.rs"]
+mod runs;
 #[path = "desk/season.rs"]
 mod season_file;
 
@@ -70,6 +72,7 @@ fn every_refusal() {
     assert_eq!(goce::write(1 << 48, &mut out), Err(Error::FIELD_OVER));
     assert_eq!(text::read("31-FEB-2000 00:00:00", &LIST), Err(Error::FIELD_OVER));
     assert_eq!(season::read(&[0]), Err(Error::SEASON_BROKEN));
+    assert_eq!(siral::run(&[0; 10], 484_849, &mut [0]), Err(Error::NOT_ONE_SECOND));
     assert_eq!(Gps::from_decimal(f64::INFINITY), Err(Error::DECIMAL_NOT_FINITE));
     assert!(!NONE.is_accepted());
     assert_eq!(Tai::new(0, 0).to_utc(&NONE), Err(Error::LIST_NOT_ACCEPTED));
