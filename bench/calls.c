@@ -19,13 +19,15 @@ enum { MONOTONIC = 1 };
 #include "inputs_times.c"
 
 #include "inputs_bytes.c"
+#include "inputs_runs.c"
 #include "inputs_text.c"
 #include "inputs_uses.c"
 #include "inputs_season.c"
 
 #define EACH_ROW(FUNCTION, USE)                                \
     ROWS_OF_USES(FUNCTION, USE) ROWS_OF_SEASONS(FUNCTION, USE) \
-    ROWS_OF_BYTES(FUNCTION, USE) ROWS_OF_TEXTS(FUNCTION, USE)
+    ROWS_OF_BYTES(FUNCTION, USE) ROWS_OF_RUNS(FUNCTION, USE)   \
+    ROWS_OF_TEXTS(FUNCTION, USE)
 
 static struct input inputs[INPUTS];
 static uint64_t answers[INPUTS][5], expected[INPUTS][5];

@@ -5,7 +5,7 @@
 #include "vrikshonem.h"
 
 enum { INPUTS = 4096, LENT = 32, MOST = 64 };
-/* What is lent for a season is wider: the inputs whose files are the same share it. */
+/* What is lent for a season or a run is wider: the inputs whose files or packets are the same share it. */
 enum { FILES = 16, WIDE = 9 * 512 };
 
 struct leap_list {
@@ -15,12 +15,21 @@ struct leap_list {
     int64_t last;
 };
 
+/* A run's packets and what it is told; the first of the dates that are lent, and how many they are. */
+struct run {
+    const uint8_t *bytes;
+    size_t count;
+    uint64_t told;
+    size_t first, date_count;
+};
+
 /* One call's arguments; a function takes those that it has. */
 struct input {
     vrk_handed time; /* also a receipt's day and microsecond, and a decimal day with its scale */
     union {
         vrk_sbt_correlation correlation;
         vrk_goce_correlation goce;
+        struct run run;
         uint8_t bytes[48];
         uint32_t part[4];
         uint64_t value;

@@ -33,6 +33,7 @@
     F(cryosat_fields_write) \
     F(siral_fields_read) \
     F(siral_fields_write) \
+    F(siral_run) \
     F(season_read) \
     F(season_write) \
     F(season_covering) \
@@ -49,6 +50,7 @@ enum {
     halves_vrk_proteus_fields = 0x1F,
     halves_vrk_cryosat_fields = 0x0F,
     halves_vrk_siral_fields = 0x1F,
+    halves_vrk_run = 0x3D,
     halves_vrk_cover = 0x3D,
 };
 

@@ -7,6 +7,7 @@
 #include "plain_bytes.c"
 #include "plain_change.c"
 #include "plain_goce.c"
+#include "plain_runs.c"
 #include "plain_sbt.c"
 #include "plain_season.c"
 #include "plain_text.c"

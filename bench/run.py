@@ -6,6 +6,7 @@ measured alone, and one without a row is not; both are told by name.
     bench/run.py [REPEATS]     15 unless said otherwise, at each of four places of the code; the best time counts"""
 
 import os
+import re
 import shutil
 import subprocess
 import sys
@@ -113,13 +114,11 @@ def told_ratio(figures, who="desk"):
     return f"{figures[who] / figures['plain']:.2f}" if {who, "plain"} <= figures.keys() else ""
 
 
-def cells(told):
+def cells(told, digits=(1, 0)):
     """Nanoseconds and instructions of both, and their ratios."""
-    nanos, counts = told["ns"], told.get("instructions", {})
-    yield from (f"{nanos[who]:.1f}" if who in nanos else "" for who in SAME)
-    yield told_ratio(nanos)
-    yield from (f"{counts[who]:.0f}" if who in counts else "" for who in SAME)
-    yield told_ratio(counts)
+    for figures, places in zip((told["ns"], told.get("instructions", {})), digits):
+        yield from (f"{figures[who]:.{places}f}" if who in figures else "" for who in SAME)
+        yield told_ratio(figures)
 
 
 def told_refusals(told):
@@ -144,6 +143,18 @@ def show_all(rows):
         ["call", *MEASURES, "refused, with"],
         ([told["name"], *cells(told), told_refusals(told)] for (_, steps), told in rows.items() if steps == "0"),
     )
+
+
+def divided(told, size):
+    """The figures of a row, each by so many."""
+    return {kind: {who: one / size for who, one in told.get(kind, {}).items()} for kind in ("ns", "instructions")}
+
+
+def show_each(rows):
+    """An entry or a packet, where the row's name says how many a call has."""
+    sizes = ((told, re.fullmatch(r"\w+, (\d+).*", told["name"])) for told in rows.values())
+    lines = ([told["name"], *cells(divided(told, int(size[1])), (2, 1))] for told, size in sizes if size)
+    table(["call", *MEASURES], lines)
 
 
 def show_missing(rows, functions):
@@ -200,6 +211,8 @@ def main():
     print("A call's loop is in every figure; the row 'nothing' is the loop with a function that does nothing.\n")
     show_all(rows)
     show_missing(rows, functions)
+    print("An entry or a packet, where the name says how many a call has:\n")
+    show_each(rows)
     print("Contenders that do less, over the same inputs; they are held to the answers, not to the refusals:\n")
     show_less(rows, absent)
     print("Growth with the number of steps, every list accepted and every time answered:\n")
