@@ -5,7 +5,7 @@ use mathlib.Core.List.{List, [], _∷_, _++_}
 use Prim.Native.Nat.{ℕ, zero, suc, _+_, _-_, _*_, _^_, _≤_, _<_}
 use native.Mathlib.Omega.{arith}
 use lib.ListN.{length, take, drop, length-append, length-drop, take-append-drop}
-use lib.Seq.{length-take-le, take-all, take-at, drop-at, drop-drop, take-add, take-take, take-nil, drop-nil}
+use lib.Seq.{length-take-le, take-all, take-at, drop-at, drop-drop, take-add, take-take, take-nil}
 use Rattle.octets.specs.Meaning.{number, word, field, part, PartIs}
 use Rattle.octets.specs.Field.{Bytes, none, more, number-lt, number-append, number-field-small, field-number, length-field, field-bytes, bytes-take, bytes-drop, word-small}
 

@@ -1,19 +1,19 @@
 -- Packets whose three fields are the first's: the pass compares eight bytes, limits are judged once, and dates are told by the totals.
 -- Assumes nothing.
 use mathlib.Core.Path.{_≡_, refl, sym, ap, ap₂, _∙_}
-use mathlib.Core.Bool.{Bool, true, false, cond, _&&_, false≢true}
+use mathlib.Core.Bool.{Bool, true, false, cond, _&&_, false≢true, and-true, and-false}
 use mathlib.Core.List.{List, [], _∷_, map}
 use Prim.Native.Nat.{ℕ, zero, suc, _+_, _*_, _/_, _≤_, _<_}
 use native.Mathlib.Omega.{arith}
 use lib.Dec.{eqb, leb}
 use lib.IntN.{ℤ}
 use lib.ListN.{length, take, drop, length-drop}
-use borrow.Author.Tests.{eqb-true, eqb-false, eq-eqb, ne-eqb}
+use borrow.Author.Tests.{eqb-true, eq-eqb, ne-eqb}
 use Rattle.axis.specs.Meaning.{heldMicrosAt}
 use Rattle.octets.specs.Meaning.{part}
 use Rattle.octets.specs.Field.{Bytes, bytes-drop}
 use Rattle.octets.specs.Parts.{part-lt, part-two, part-take}
-use Rattle.scales.specs.Place.{and-both, and-false}
+use Rattle.scales.specs.Place.{and-both}
 use Rattle.layout_fields.specs.Cryosat.{inLimits}
 use Rattle.layout_fields.specs.Siral.{fieldsOf}
 use Rattle.layout_fields.specs.declared.siral.Fields.{Fields}
@@ -129,11 +129,7 @@ module _ (f : Fields) where
       ∙ ap (λ (u : ℕ). sixteenths (f .day) (f .millisecond) u t / 16) (sym (q .micro))
 
   pub limits-alike : (gs : List Fields) → all (alike f) gs ≡ true → (isInLimits f && all isInLimits gs) ≡ isInLimits f
-  limits-alike [] e = go (isInLimits f)
-    where
-      go : (b : Bool) → (b && true) ≡ b
-      go true = refl
-      go false = refl
+  limits-alike [] e = and-true (isInLimits f)
   limits-alike (g ∷ gs) e =
       let q = and-both (alike f g) (all (alike f) gs) e in
       ap (λ (b : Bool). isInLimits f && (b && all isInLimits gs)) (limits-same g (q .0)) ∙ go (isInLimits f) (limits-alike gs (q .1))

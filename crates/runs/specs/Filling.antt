@@ -1,18 +1,17 @@
 -- The pass that writes: what is written before packet i, and that it is again after. Assumes nothing.
 use mathlib.Core.Path.{_≡_, refl, sym, ap, ap₂, subst, _∙_}
-use mathlib.Core.List.{List, [], _∷_, _++_, append-nil}
-use Prim.Native.Nat.{ℕ, suc, _+_, _-_, _*_, _/_, _≤_, _<_}
-use native.Mathlib.Numerals.{add-one}
+use mathlib.Core.List.{List, _∷_, _++_}
+use Prim.Native.Nat.{ℕ, _+_, _-_, _*_, _/_, _≤_, _<_}
 use native.Mathlib.Omega.{arith}
 use lib.IntN.{ℤ, pos}
-use lib.ListN.{length, take, drop, getD, set, length-append, length-drop, length-take}
+use lib.ListN.{length, take, drop, getD, set, length-append, length-drop}
 use lib.Seq.{drop-drop, getD-drop, take-all, length-take-le}
 use Rattle.axis.specs.Meaning.{heldMicrosAt}
 use Rattle.octets.specs.Meaning.{part}
 use Rattle.octets.specs.Place.{onto-next}
 use Rattle.runs.specs.Meaning.{ahead}
 use Rattle.runs.specs.Passes.{lastFrom, datesFrom, Filling}
-use Rattle.runs.specs.Turns.{none-passed, all-passed, last-on, dates-on, last-from, length-dates}
+use Rattle.runs.specs.Turns.{none-passed, last-on, dates-on, last-from, length-dates}
 
 pub record Filled (s : List ℕ) (n from told : ℕ) (out now : List ℤ) (total i : ℕ) : Type 0 where
   pub below : i ≤ n

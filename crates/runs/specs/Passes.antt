@@ -1,6 +1,6 @@
 -- What the private functions answer, by their passes over the bytes. Assumes nothing.
 use mathlib.Core.Bool.{Bool, cond}
-use mathlib.Core.List.{List, [], _∷_, _++_}
+use mathlib.Core.List.{List, [], _∷_}
 use Prim.Native.Nat.{ℕ, zero, suc, _+_, _*_, _/_, _≤_}
 use lib.Dec.{leb, ltb, eqb}
 use lib.IntN.{ℤ}

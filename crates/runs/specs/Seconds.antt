@@ -1,11 +1,11 @@
 -- What `judge` finds is what the meaning's tests come to: all of the limits, of one second, and of the span. Assumes nothing.
 use mathlib.Core.Path.{_≡_, refl, sym, ap, ap₂, _∙_}
-use mathlib.Core.Bool.{Bool, true, false, cond, _&&_}
+use mathlib.Core.Bool.{Bool, true, false, cond, _&&_, and-false}
 use mathlib.Core.List.{List, [], _∷_, map}
 use Prim.Native.Nat.{ℕ, zero, suc, _+_, _*_, _/_, _%_, _≤_, _<_}
 use native.Mathlib.Omega.{arith}
 use lib.Dec.{leb, ltb, eqb}
-use lib.IntN.{ℤ, pos}
+use lib.IntN.{ℤ}
 use lib.ListN.{length, take, drop}
 use borrow.Author.Tests.{ltb-true, leb-true, lt-ltb, le-ltb, le-leb, lt-leb, eq-eqb}
 use Rattle.axis.specs.Meaning.{dayAt}
@@ -13,13 +13,13 @@ use Rattle.axis.specs.Diff.{Way, way, below, above}
 use Rattle.octets.specs.Meaning.{part}
 use Rattle.octets.specs.Field.{Bytes}
 use Rattle.scales.specs.Meaning.{inSpan}
-use Rattle.scales.specs.Place.{and-both, and-false, span-in, span-late}
+use Rattle.scales.specs.Place.{and-both, span-in, span-late}
 use Rattle.scales.specs.declared.Scale.the-variants as S
 use Rattle.scales.specs.declared.Refusal.the-variants as R
 use Rattle.layout_fields.specs.Siral.{fieldsOf}
 use Rattle.layout_fields.specs.declared.siral.Fields.{Fields}
 use Rattle.layout_times.specs.Days.{day-is}
-use Rattle.runs.specs.Meaning.{packetsIn, all, ahead, extras, unrolled, totals, lastOf, isInLimits, alike, areAlike, most, isOneSecond, dateOf, datesOf, isInSpan}
+use Rattle.runs.specs.Meaning.{packetsIn, all, extras, totals, lastOf, isInLimits, alike, areAlike, most, isOneSecond, dateOf, datesOf, isInSpan}
 use Rattle.runs.specs.Passes.{unrolledIn, limitsIn, placeOf, secondBy, secondOf}
 use Rattle.runs.specs.Totals.{last-up, last-decides}
 use Rattle.runs.specs.Alike.{frontOf, front-of, within, unroll-is, fronts-alike, limits-alike, dates-alike}
@@ -76,10 +76,13 @@ verdict place last limits one spans =
 alike-self : (f : Fields) → alike f f ≡ true
 alike-self f = rw (eq-eqb (f .day) (f .day) refl, eq-eqb (f .millisecond) (f .millisecond) refl, eq-eqb (f .microsecond) (f .microsecond) refl)
 
--- the first is alike itself
+-- so all are alike the first, and it itself
+pub alike-all : (f : Fields) (gs : List Fields) → areAlike (f ∷ gs) ≡ true → all (alike f) (f ∷ gs) ≡ true
+alike-all f gs e = rw (alike-self f, e)
+
 pub all-alike : (n : ℕ) (s : List ℕ) → areAlike (packetsIn n s) ≡ true → all (alike (fieldsOf (take 10 s))) (packetsIn n s) ≡ true
 all-alike zero s e = refl
-all-alike (suc n) s e = rw (alike-self (fieldsOf (take 10 s)), e)
+all-alike (suc n) s e = alike-all (fieldsOf (take 10 s)) (packetsIn n (drop 10 s)) e
 
 -- the span of packets that are alike
 pub spans-are : (f : Fields) (gs : List Fields) (told : ℕ) → all (alike f) gs ≡ true →
@@ -91,7 +94,7 @@ spans-are f gs told e =
 
 module _ (f : Fields) (gs : List Fields) (told : ℕ) where
   span-last : all (alike f) gs ≡ true → all isInSpan (datesOf (f ∷ gs) (totals told (f ∷ gs))) ≡ before f (lastOf told (totals told (f ∷ gs)))
-  span-last e = spans-are f (f ∷ gs) told (rw (alike-self f, e)) ∙ last-decides (before f) (before-down f) told (f .extra) (extras gs)
+  span-last e = spans-are f (f ∷ gs) told (alike-all f gs e) ∙ last-decides (before f) (before-down f) told (f .extra) (extras gs)
 
   most-last : all (λ (t : ℕ). leb t most) (totals told (f ∷ gs)) ≡ leb (lastOf told (totals told (f ∷ gs))) most
   most-last = last-decides (λ (t : ℕ). leb t most) most-down told (f .extra) (extras gs)

@@ -1,10 +1,9 @@
 -- Totals never fall, so that the last of them decides. Assumes nothing.
 use mathlib.Core.Path.{_≡_, refl, ap, _∙_}
-use mathlib.Core.Bool.{Bool, true, false, _&&_}
+use mathlib.Core.Bool.{Bool, true, false, _&&_, and-true, and-false}
 use mathlib.Core.List.{List, [], _∷_}
 use Prim.Native.Nat.{ℕ, _≤_}
 use native.Mathlib.Omega.{arith}
-use Rattle.scales.specs.Place.{and-false}
 use Rattle.runs.specs.Meaning.{all, ahead, unrolled, lastOf}
 
 pub last-up : (t : ℕ) (xs : List ℕ) → t ≤ lastOf t (unrolled t xs)
@@ -14,11 +13,7 @@ last-up t (x ∷ xs) = omega (arith, last-up (ahead t x) xs)
 -- ---- what holds of a total holds of each before it
 module _ (p : ℕ → Bool) (down : (a b : ℕ) → a ≤ b → p b ≡ true → p a ≡ true) where
   told-and : (t : ℕ) (xs : List ℕ) → (p t && all p (unrolled t xs)) ≡ p (lastOf t (unrolled t xs))
-  told-and t [] = go (p t)
-    where
-      go : (b : Bool) → (b && true) ≡ b
-      go true = refl
-      go false = refl
+  told-and t [] = and-true (p t)
   told-and t (x ∷ xs) = ap (λ (b : Bool). p t && b) (told-and (ahead t x) xs) ∙ go (p last) refl
     where
       last : ℕ

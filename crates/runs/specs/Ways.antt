@@ -1,24 +1,24 @@
 -- The ways out of a run, each with what it hands back. Assumes nothing.
 use mathlib.Core.Path.{_≡_, refl, sym, ap, ap₂, _∙_}
-use mathlib.Core.Bool.{Bool, true, false, cond, _&&_, false≢true}
+use mathlib.Core.Bool.{Bool, true, false, cond}
 use mathlib.Core.List.{List, [], _∷_, _++_, map}
 use Prim.Native.Nat.{ℕ, zero, suc, _+_, _*_, _/_, _%_, _≤_, _<_, min}
 use native.Mathlib.Omega.{arith}
-use lib.Dec.{leb, ltb, eqb}
-use lib.IntN.{ℤ, pos, subℕ}
+use lib.Dec.{leb}
+use lib.IntN.{ℤ, pos}
 use lib.ListN.{length, take, drop}
-use borrow.Author.Tests.{ltb-true, leb-true, eqb-true, le-leb, lt-leb, eq-eqb, ne-eqb}
+use borrow.Author.Tests.{ltb-true, le-leb, lt-leb, eq-eqb, ne-eqb}
 use Rattle.axis.specs.Meaning.{heldMicrosAt, microsAt}
 use Rattle.axis.specs.Diff.{is-pos, sub-eq}
 use Rattle.octets.specs.Field.{Bytes}
-use Rattle.scales.specs.Meaning.{Outcome, refused, answer, outcome, numberOf}
+use Rattle.scales.specs.Meaning.{Outcome, refused, answer, numberOf}
 use Rattle.scales.specs.Same.{no-zero}
 use Rattle.scales.specs.Place.{and-both}
 use Rattle.scales.specs.declared.Refusal.{Refusal}
 use Rattle.layout_fields.specs.Siral.{fieldsOf}
 use Rattle.layout_fields.specs.declared.siral.Fields.{Fields}
-use Rattle.runs.specs.Meaning.{packetsIn, packets, all, ahead, totals, lastOf, isInLimits, alike, areAlike, most, isOneSecond, dateOf, datesOf, datesIn, isInSpan, running, Run, ran, siral}
-use Rattle.runs.specs.Passes.{placeOf, secondOf, lastFrom, datesFrom, Filling, runSlip}
+use Rattle.runs.specs.Meaning.{packetsIn, packets, all, ahead, totals, lastOf, isInLimits, areAlike, most, isOneSecond, dateOf, datesIn, isInSpan, ran, siral}
+use Rattle.runs.specs.Passes.{placeOf, secondOf, datesFrom, Filling, runSlip}
 use Rattle.runs.specs.Turns.{length-dates}
 use Rattle.runs.specs.Alike.{last-is, dates-are, dates-alike}
 use Rattle.runs.specs.Seconds.{before, date-is, verdict, all-alike, spans-are, last-most, second-is}

@@ -1,17 +1,17 @@
 -- A run is answered exactly where every test holds, and then with the meaning's dates. Assumes nothing.
-use mathlib.Core.Path.{_≡_, refl, sym, ap, _∙_}
-use mathlib.Core.Bool.{Bool, true, false, cond, _&&_}
+use mathlib.Core.Path.{_≡_, refl, ap, _∙_}
+use mathlib.Core.Bool.{Bool, true, false, cond}
 use mathlib.Core.List.{List, _++_, map}
 use Prim.Native.Nat.{ℕ, _/_, _%_, _≤_}
 use native.Mathlib.Omega.{arith}
 use lib.Dec.{leb, eqb}
 use lib.IntN.{ℤ, pos}
-use lib.ListN.{length, take, drop}
+use lib.ListN.{length, drop}
 use lib.Seq.{take-at}
 use borrow.Author.Tests.{eqb-true, leb-true, eq-eqb, le-leb}
-use Rattle.scales.specs.Meaning.{Outcome, refused, answer, outcome}
+use Rattle.scales.specs.Meaning.{Outcome, refused, answer}
 use Rattle.scales.specs.Place.{and-both}
-use Rattle.runs.specs.Meaning.{packets, all, extras, totals, lastOf, isInLimits, areAlike, most, isOneSecond, datesIn, isInSpan, running, Run, ran, siral}
+use Rattle.runs.specs.Meaning.{packets, all, extras, totals, lastOf, isInLimits, areAlike, most, isOneSecond, datesIn, isInSpan, ran, siral}
 use Rattle.runs.specs.Ways.{length-packets}
 use Rattle.runs_laws.specs.Meaning.{dates}
 use Rattle.runs_laws.proofs.Parts.{length-map, length-dates, length-unrolled}

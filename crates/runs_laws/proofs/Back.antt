@@ -1,8 +1,8 @@
 -- Dates never go back within a run. Assumes nothing.
-use mathlib.Core.Path.{_≡_, refl, sym, ap, ap₂, _∙_}
-use mathlib.Core.Bool.{Bool, true, _&&_}
+use mathlib.Core.Path.{_≡_, refl, ap, _∙_}
+use mathlib.Core.Bool.{true}
 use mathlib.Core.List.{List, [], _∷_, map}
-use Prim.Native.Nat.{ℕ, _+_, _*_, _/_, _≤_}
+use Prim.Native.Nat.{ℕ, _/_, _≤_}
 use native.Mathlib.Omega.{arith}
 use lib.IntN.{ℤ, pos}
 use lib.ListN.{length, take}
@@ -10,7 +10,7 @@ use lib.Signed.{leZ}
 use borrow.Author.Tests.{le-leb}
 use Rattle.layout_fields.specs.Siral.{fieldsOf}
 use Rattle.layout_fields.specs.declared.siral.Fields.{Fields}
-use Rattle.runs.specs.Meaning.{packets, all, ahead, extras, unrolled, totals, dateOf, datesIn, siral}
+use Rattle.runs.specs.Meaning.{packets, all, ahead, extras, unrolled, dateOf, siral}
 use Rattle.runs.specs.Alike.{dates-alike}
 use Rattle.runs.specs.Seconds.{all-alike}
 use Rattle.runs_laws.specs.Meaning.{dates, neverBack}

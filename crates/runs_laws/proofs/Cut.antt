@@ -1,10 +1,10 @@
 -- A run cut after any packet gives the same dates. Assumes nothing.
 use mathlib.Core.Path.{_≡_, refl, sym, ap, ap₂, _∙_}
-use mathlib.Core.Bool.{Bool, true, _&&_}
+use mathlib.Core.Bool.{true}
 use mathlib.Core.List.{List, [], _∷_, _++_, map}
 use Prim.Native.Nat.{ℕ, _+_, _-_, _*_, _/_, _%_, _≤_}
 use native.Mathlib.Omega.{arith}
-use lib.Dec.{leb, eqb}
+use lib.Dec.{leb}
 use lib.IntN.{ℤ, pos}
 use lib.ListN.{length, take, drop, length-drop}
 use lib.Seq.{length-take-le, take-nil, drop-nil}
@@ -13,7 +13,8 @@ use Rattle.scales.specs.Place.{and-both}
 use Rattle.layout_fields.specs.declared.siral.Fields.{Fields}
 use Rattle.runs.specs.Meaning.{packetsIn, packets, all, extras, unrolled, totals, lastOf, isInLimits, alike, areAlike, most, datesOf, datesIn, isInSpan, Run, siral}
 use Rattle.runs.specs.Alike.{same}
-use Rattle.runs_laws.specs.Meaning.{dates, Cut}
+use Rattle.runs.specs.Seconds.{alike-all}
+use Rattle.runs_laws.specs.Meaning.{Cut}
 use Rattle.runs_laws.proofs.Parts.{all-take, all-drop, map-take, map-drop, packets-take, packets-drop, unrolled-take, unrolled-drop, last-drop, dates-take, dates-drop}
 use Rattle.runs_laws.proofs.Answered.{Passes, passes, answered, dates-are}
 
@@ -37,16 +38,13 @@ are-alike f (g ∷ gs) e = let q = and-both (alike f g) (all (alike f) gs) e in 
     go d (h ∷ hs) e = let q = and-both (alike f h) (all (alike f) hs) e in rw (alike-both f g h d (q .0), go d hs (q .1))
 
 -- a front and a rest of packets that are alike
-alike-self : (f : Fields) (gs : List Fields) → areAlike (f ∷ gs) ≡ true → all (alike f) (f ∷ gs) ≡ true
-alike-self f gs e = rw (eq-eqb (f .day) (f .day) refl, eq-eqb (f .millisecond) (f .millisecond) refl, eq-eqb (f .microsecond) (f .microsecond) refl, e)
-
 alike-take : (k : ℕ) (fs : List Fields) → areAlike fs ≡ true → areAlike (take k fs) ≡ true
 alike-take k [] e = ap areAlike (take-nil k)
-alike-take k (f ∷ fs) e = are-alike f (take k (f ∷ fs)) (all-take (alike f) k (f ∷ fs) (alike-self f fs e))
+alike-take k (f ∷ fs) e = are-alike f (take k (f ∷ fs)) (all-take (alike f) k (f ∷ fs) (alike-all f fs e))
 
 alike-drop : (k : ℕ) (fs : List Fields) → areAlike fs ≡ true → areAlike (drop k fs) ≡ true
 alike-drop k [] e = ap areAlike (drop-nil k)
-alike-drop k (f ∷ fs) e = are-alike f (drop k (f ∷ fs)) (all-drop (alike f) k (f ∷ fs) (alike-self f fs e))
+alike-drop k (f ∷ fs) e = are-alike f (drop k (f ∷ fs)) (all-drop (alike f) k (f ∷ fs) (alike-all f fs e))
 
 -- a run that is answered
 run : ℕ → ℕ → List ℤ → List ℤ → Run

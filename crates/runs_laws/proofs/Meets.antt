@@ -1,10 +1,9 @@
 -- Each theorem at an input that meets its hypotheses. Assumes nothing.
-use mathlib.Core.Path.{_≡_, refl, _∙_}
+use mathlib.Core.Path.{_≡_, refl}
 use mathlib.Core.Bool.{true}
-use mathlib.Core.List.{List, [], _∷_, map}
-use Prim.Native.Nat.{ℕ, _%_}
+use mathlib.Core.List.{[], _∷_, map}
 use lib.Dec.{lit<, lit≤}
-use lib.IntN.{ℤ, pos}
+use lib.IntN.{pos}
 use lib.ListN.{take, drop}
 use Rattle.octets.specs.Meaning.{number}
 use Rattle.octets.specs.Field.{Bytes, none, more}
@@ -16,7 +15,7 @@ use Rattle.runs_laws.proofs.Cut.{cut}
 use Rattle.runs_laws.proofs.Right.{right, true-dates}
 use Rattle.runs_laws.proofs.Back.{never-back}
 use Rattle.runs_laws.proofs.One.{run-of-one}
-use Rattle.runs_laws.proofs.Cases.{packet, rolls, sevens, answeredAs, rolled}
+use Rattle.runs_laws.proofs.Cases.{packet, rolls, sevens, answeredAs}
 
 -- the run of three is answered
 answered : siral rolls 0 sevens .number ≡ 0

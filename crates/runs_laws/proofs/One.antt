@@ -1,15 +1,15 @@
 -- A run of one packet, nothing told, is document 01's reading. Assumes nothing.
 use mathlib.Core.Path.{_≡_, refl, sym, ap, ap₂, _∙_}
-use mathlib.Core.Bool.{Bool, true, false, cond, _&&_}
+use mathlib.Core.Bool.{Bool, true, false, cond, and-true}
 use mathlib.Core.List.{List, [], _∷_, map}
-use Prim.Native.Nat.{ℕ, _+_, _*_, _/_, _%_, _≤_, _<_}
+use Prim.Native.Nat.{ℕ, _+_, _*_, _/_, _%_, _<_}
 use native.Mathlib.Omega.{arith}
-use lib.Dec.{leb, eqb}
+use lib.Dec.{leb}
 use lib.IntN.{ℤ, pos}
-use lib.ListN.{length, take}
+use lib.ListN.{length}
 use lib.Seq.{take-all}
 use borrow.Author.Tests.{eq-eqb, le-leb}
-use Rattle.axis.specs.Meaning.{since, dayAt, dayMicros, microsAt}
+use Rattle.axis.specs.Meaning.{since}
 use Rattle.axis.specs.Axis.{since-at}
 use Rattle.axis.specs.Diff.{is-pos, sub-eq}
 use Rattle.octets.specs.Meaning.{part}
@@ -37,10 +37,6 @@ since-moment n =
     ∙ since-at (40000 + n / 86400000000) (n % 86400000000)
     ∙ sub-eq ((40000 + n / 86400000000) * 86400000000 + n % 86400000000) 3456000000000000 n 0 (omega arith)
     ∙ sym (is-pos n)
-
-and-true : (b : Bool) → (b && true) ≡ b
-and-true true = refl
-and-true false = refl
 
 -- by the packets, and by what is told of the length
 runBy : List ℤ → List Fields → Bool → Run

@@ -1,11 +1,11 @@
 -- A front and a rest of packets, of totals and of dates. Assumes nothing.
 use mathlib.Core.Path.{_≡_, refl, sym, ap, ap₂, _∙_}
-use mathlib.Core.Bool.{Bool, true, _&&_}
-use mathlib.Core.List.{List, [], _∷_, _++_, map}
+use mathlib.Core.Bool.{Bool, true}
+use mathlib.Core.List.{List, [], _∷_, map}
 use Prim.Native.Nat.{ℕ, zero, suc, _+_, _-_, _*_, _≤_}
 use native.Mathlib.Omega.{arith}
 use lib.ListN.{length, take, drop, length-drop}
-use lib.Seq.{take-add, take-take, drop-at, drop-drop, length-take-le, take-nil, drop-nil}
+use lib.Seq.{take-add, take-take, drop-at, drop-drop, length-take-le}
 use Rattle.scales.specs.Place.{and-both}
 use Rattle.layout_fields.specs.Siral.{fieldsOf}
 use Rattle.layout_fields.specs.declared.siral.Fields.{Fields}

@@ -1,11 +1,10 @@
 -- The totals of the remainders of true counts are the counts, where each is less than a roll after the one before. Assumes nothing.
-use mathlib.Core.Path.{_≡_, refl, sym, ap, ap₂, _∙_}
-use mathlib.Core.List.{List, [], _∷_, _++_, map}
-use Prim.Native.Nat.{ℕ, _+_, _/_, _%_, _≤_, _<_}
+use mathlib.Core.Path.{_≡_, refl, ap, _∙_}
+use mathlib.Core.List.{List, [], _∷_, map}
+use Prim.Native.Nat.{ℕ, _+_, _%_, _≤_, _<_}
 use native.Mathlib.Omega.{arith}
 use lib.IntN.{ℤ, pos}
-use lib.ListN.{length, drop}
-use Rattle.runs.specs.Meaning.{packets, ahead, extras, unrolled, totals, datesOf, siral}
+use Rattle.runs.specs.Meaning.{packets, ahead, extras, unrolled, datesOf, siral}
 use Rattle.runs_laws.specs.Meaning.{dates, Near, none, more}
 use Rattle.runs_laws.proofs.Answered.{passes, dates-are}
 

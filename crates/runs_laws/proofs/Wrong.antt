@@ -2,16 +2,16 @@
 use mathlib.Core.Path.{refl}
 use mathlib.Core.Bool.{Bool, _&&_}
 use mathlib.Core.List.{List, [], _∷_, _++_, map}
-use Prim.Native.Nat.{ℕ, _+_, _-_, _*_, _/_, _%_}
+use Prim.Native.Nat.{ℕ, _+_, _-_, _*_, _%_}
 use native.Mathlib.Omega.{arith}
 use lib.Dec.{leb, eqb}
 use lib.IntN.{ℤ, pos, natAbs}
 use lib.ListN.{length, take, drop, getD}
 use Rattle.evidence.specs.ShutOut.{ShutOut, differ}
 use Rattle.octets.specs.Meaning.{number}
-use Rattle.scales.specs.Meaning.{Judged, given, gives, outcome}
+use Rattle.scales.specs.Meaning.{given, gives, outcome}
 use Rattle.layout_fields.specs.declared.siral.Fields.{Fields}
-use Rattle.runs.specs.Meaning.{packets, all, extras, totals, lastOf, isInLimits, areAlike, isOneSecond, dateOf, datesOf, datesIn, isInSpan, Run, ran, siral}
+use Rattle.runs.specs.Meaning.{packets, all, extras, totals, lastOf, isInLimits, areAlike, isOneSecond, datesOf, datesIn, isInSpan, Run, ran, siral}
 use Rattle.runs_laws.specs.Meaning.{refusedAs}
 use Rattle.runs_laws.proofs.Cases.{packet, midnight, over, rolls, sevens, answeredAs, byNumber, byLast}
 

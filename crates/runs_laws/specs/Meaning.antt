@@ -5,7 +5,7 @@ use mathlib.Core.List.{List, [], _∷_, _++_}
 use Prim.Native.Nat.{ℕ, _+_, _-_, _≤_, _<_}
 use lib.Dec.{eqb}
 use lib.IntN.{ℤ}
-use lib.ListN.{length, take, drop}
+use lib.ListN.{take, drop}
 use lib.Signed.{leZ}
 use Rattle.axis.specs.Meaning.{since}
 use Rattle.scales.specs.Meaning.{Slip}
