@@ -35,9 +35,9 @@ use Rattle.layout_laws.proofs.Meets.{again-meets, times-meet}
 use Rattle.layout_laws.proofs.Times.{cryosat-same, cuc-last, proteus-kept, proteus-last, siral-same}
 use Rattle.runs_laws.proofs.Back.{never-back}
 use Rattle.runs_laws.proofs.Cut.{cut}
-use Rattle.runs_laws.proofs.Meets.{cut-met, never-back-met, right-met, run-of-one-met, true-dates-met}
+use Rattle.runs_laws.proofs.Meets.{ahead-least-met, cut-met, never-back-met, right-met, run-of-one-met, true-dates-met}
 use Rattle.runs_laws.proofs.One.{run-of-one}
-use Rattle.runs_laws.proofs.Right.{right, true-dates}
+use Rattle.runs_laws.proofs.Right.{ahead-least, right, true-dates}
 use Rattle.text_laws.specs.Back.{none-refused, read-back as text-laws-back-read-back}
 use Rattle.lines_laws.specs.Calls.{dated, kept-for}
 use Rattle.lines_laws.specs.Each.{one-each}

@@ -10,9 +10,9 @@ use Rattle.octets.specs.Field.{Bytes, none, more}
 use Rattle.layout_times.specs.Siral as Siral
 use Rattle.runs.specs.Meaning.{packets, unrolled, datesOf, siral}
 use Rattle.runs_laws.specs.Meaning as M
-use Rattle.runs_laws.specs.Meaning.{dates, refusedAs, oneOf, neverBack, Cut, Near}
+use Rattle.runs_laws.specs.Meaning.{dates, refusedAs, oneOf, neverBack, Cut, Least, Near}
 use Rattle.runs_laws.proofs.Cut.{cut}
-use Rattle.runs_laws.proofs.Right.{right, true-dates}
+use Rattle.runs_laws.proofs.Right.{ahead-least, right, true-dates}
 use Rattle.runs_laws.proofs.Back.{never-back}
 use Rattle.runs_laws.proofs.One.{run-of-one}
 use Rattle.runs_laws.proofs.Cases.{packet, rolls, sevens, answeredAs}
@@ -49,6 +49,10 @@ cut-met = (
   cut rolls 0 sevens answered 0 (lit≤ tt) [] sevens (lit≤ tt) (lit≤ tt),
   cut rolls 0 sevens answered 3 (lit≤ tt) sevens [] (lit≤ tt) (lit≤ tt),
 )
+
+-- ---- after 65535 the least number that leads to 15
+pub ahead-least-met : Least 65535 15 65551
+ahead-least-met = ahead-least 65535 15 (lit< tt)
 
 -- ---- the true counts 65535, 65551 and 65551
 near : Near 0 (65535 ∷ 65551 ∷ 65551 ∷ [])

@@ -5,11 +5,16 @@ use Prim.Native.Nat.{ℕ, _+_, _%_, _≤_, _<_}
 use native.Mathlib.Omega.{arith}
 use lib.IntN.{ℤ, pos}
 use Rattle.runs.specs.Meaning.{packets, ahead, extras, unrolled, datesOf, siral}
-use Rattle.runs_laws.specs.Meaning.{dates, Near, none, more}
+use Rattle.runs_laws.specs.Meaning.{dates, Least, Near, none, more}
 use Rattle.runs_laws.proofs.Answered.{passes, dates-are}
 
--- "the least amount not below zero ahead": no number that leads to the extra counter lies between
-pub ahead-is : (t c : ℕ) → t ≤ c → c < t + 65536 → ahead t (c % 65536) ≡ c
+-- ---- a total by its formula is the paper's
+pub ahead-least : (before extra : ℕ) → extra < 65536 → Least before extra (ahead before extra)
+ahead-least before extra h =
+    record { not-below = omega arith; leads = omega arith; least = λ c k e. omega arith }
+
+-- ---- and the true one, where that is less than a roll after the one before
+ahead-is : (t c : ℕ) → t ≤ c → c < t + 65536 → ahead t (c % 65536) ≡ c
 ahead-is t c h k = omega arith
 
 pub right : (told : ℕ) (cs : List ℕ) → Near told cs → unrolled told (map (λ (c : ℕ). c % 65536) cs) ≡ cs

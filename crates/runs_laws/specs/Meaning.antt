@@ -1,8 +1,9 @@
--- What is promised of a run: a run of one, a run cut in two, dates that never go back, and counts that are told right. Assumes nothing.
+-- What is promised of a run: a run of one, a run cut in two, dates that never go back, totals that are the least, and counts that are told
+-- right. Assumes nothing.
 use mathlib.Core.Path.{_≡_}
 use mathlib.Core.Bool.{Bool, true, cond, _&&_}
 use mathlib.Core.List.{List, [], _∷_, _++_}
-use Prim.Native.Nat.{ℕ, _+_, _-_, _≤_, _<_}
+use Prim.Native.Nat.{ℕ, _+_, _-_, _%_, _≤_, _<_}
 use lib.Dec.{eqb}
 use lib.IntN.{ℤ}
 use lib.ListN.{take, drop}
@@ -34,6 +35,12 @@ neverBack (d ∷ ds) = all (leZ d) ds && neverBack ds
 pub record Cut (whole first second : Run) (k : ℕ) (front back : List ℤ) : Type 0 where
   pub first-is : first ≡ record { number = 0; count = k; last = first .last; lent = take k (dates whole) ++ drop k front }
   pub second-is : second ≡ record { number = 0; count = whole .count - k; last = whole .last; lent = drop k (dates whole) ++ drop (whole .count - k) back }
+
+-- "the least amount not below zero ahead of the one before, modulo 65,536"
+pub record Least (before extra total : ℕ) : Type 0 where
+  pub not-below : before ≤ total
+  pub leads : total % 65536 ≡ extra
+  pub least : (c : ℕ) → before ≤ c → c % 65536 ≡ extra → total ≤ c
 
 -- "right where the first packet falls before the first roll and neighbours are less than one roll apart": true counts after a count
 pub data Near : ℕ → List ℕ → Type 0 where
