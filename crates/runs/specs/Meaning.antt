@@ -15,7 +15,7 @@ use Rattle.layout_times.specs.Meaning.{momentFrom}
 use Rattle.layout_times.specs.Cryosat.{epoch}
 use Rattle.layout_times.specs.Siral.{sixteenths}
 
--- ---- the packets of a run, ten bytes each
+-- ---- the packets of a run, ten bytes each: packet i is bytes 10i to 10i + 9
 abbrev pub packetsIn : ℕ → List ℕ → List Fields
 packetsIn zero s = []
 packetsIn (suc n) s = fieldsOf (take 10 s) ∷ packetsIn n (drop 10 s)
@@ -46,7 +46,7 @@ abbrev pub lastOf : ℕ → List ℕ → ℕ
 lastOf told [] = told
 lastOf told (t ∷ ts) = lastOf t ts
 
--- ---- 3: "a millisecond or microsecond over its limit in any packet"
+-- ---- 3: a millisecond or microsecond over its limit, in any packet
 abbrev pub isInLimits : Fields → Bool
 isInLimits f = inLimits (f .millisecond) (f .microsecond)
 
@@ -77,7 +77,7 @@ datesOf (f ∷ fs) (t ∷ ts) = dateOf f t ∷ datesOf fs ts
 abbrev pub datesIn : List ℕ → ℕ → List ℕ
 datesIn s told = datesOf (packets s) (totals told (packets s))
 
--- 7: "a date outside the TAI span", carry included
+-- 7: a date outside the TAI span, carry included
 abbrev pub isInSpan : ℕ → Bool
 isInSpan n = let m = momentFrom epoch n in inSpan S.Tai (m .day) (m .micro)
 
