@@ -20,9 +20,6 @@ pub record Filled (s : List ℕ) (n from told : ℕ) (out now : List ℤ) (total
   pub ends : lastFrom (n - i) total (drop (10 * i) s) ≤ 484848
 
 module _ (s : List ℕ) (n from told : ℕ) (out : List ℤ) (g : Filling s n from told (length out)) where
-  dates : List ℤ
-  dates = datesFrom n from told s
-
   pub filled-none : Filled s n from told out out told 0
   filled-none =
       record {
