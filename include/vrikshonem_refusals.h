@@ -19,6 +19,7 @@ enum {
     VRK_OUTSIDE_SPAN = 7, /* input time or receipt outside its span */
     VRK_NO_ENTRY = 15, /* no entry covers the receipt */
     VRK_NOT_IN_FORCE = 8, /* correlation not in force */
+    VRK_RESULT_LATER = 17, /* result later than receipt */
     VRK_LIST_EXPIRED = 9, /* leap list expired */
     VRK_SECOND_LACKING = 10, /* UTC second that its day lacks */
     VRK_RESULT_OUTSIDE = 11, /* result outside its scale's span */
@@ -41,6 +42,7 @@ static inline const char *vrk_words(uint32_t refusal) {
     case VRK_OUTSIDE_SPAN: return "input time or receipt outside its span";
     case VRK_NO_ENTRY: return "no entry covers the receipt";
     case VRK_NOT_IN_FORCE: return "correlation not in force";
+    case VRK_RESULT_LATER: return "result later than receipt";
     case VRK_LIST_EXPIRED: return "leap list expired";
     case VRK_SECOND_LACKING: return "UTC second that its day lacks";
     case VRK_RESULT_OUTSIDE: return "result outside its scale's span";

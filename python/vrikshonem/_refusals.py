@@ -119,6 +119,14 @@ class NotInForce(Refused):
     words = "correlation not in force"
 
 
+class ResultLater(Refused):
+    """17: result later than receipt."""
+
+    __module__ = "vrikshonem"
+    number = 17
+    words = "result later than receipt"
+
+
 class ListExpired(Refused):
     """9: leap list expired."""
 
@@ -171,6 +179,7 @@ REFUSALS: Dict[int, Type[Refused]] = {
     7: OutsideSpan,
     15: NoEntry,
     8: NotInForce,
+    17: ResultLater,
     9: ListExpired,
     10: SecondLacking,
     11: ResultOutside,
@@ -191,6 +200,7 @@ __all__ = [
     "OutsideSpan",
     "NoEntry",
     "NotInForce",
+    "ResultLater",
     "ListExpired",
     "SecondLacking",
     "ResultOutside",

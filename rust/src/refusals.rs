@@ -26,6 +26,8 @@ impl Error {
     pub const NO_ENTRY: Error = Error { number: 15 };
     /// 8: correlation not in force.
     pub const NOT_IN_FORCE: Error = Error { number: 8 };
+    /// 17: result later than receipt.
+    pub const RESULT_LATER: Error = Error { number: 17 };
     /// 9: leap list expired.
     pub const LIST_EXPIRED: Error = Error { number: 9 };
     /// 10: UTC second that its day lacks.
@@ -51,6 +53,7 @@ impl Error {
             Error::OUTSIDE_SPAN => "input time or receipt outside its span",
             Error::NO_ENTRY => "no entry covers the receipt",
             Error::NOT_IN_FORCE => "correlation not in force",
+            Error::RESULT_LATER => "result later than receipt",
             Error::LIST_EXPIRED => "leap list expired",
             Error::SECOND_LACKING => "UTC second that its day lacks",
             Error::RESULT_OUTSIDE => "result outside its scale's span",

@@ -91,7 +91,7 @@ numbers (gives a) = []
 
 -- the order of the refusal slip
 abbrev pub order : List ℕ
-order = 1 ∷ 2 ∷ 3 ∷ 14 ∷ 16 ∷ 4 ∷ 5 ∷ 6 ∷ 7 ∷ 15 ∷ 8 ∷ 9 ∷ 10 ∷ 11 ∷ 12 ∷ 13 ∷ []
+order = 1 ∷ 2 ∷ 3 ∷ 14 ∷ 16 ∷ 4 ∷ 5 ∷ 6 ∷ 7 ∷ 15 ∷ 8 ∷ 17 ∷ 9 ∷ 10 ∷ 11 ∷ 12 ∷ 13 ∷ []
 
 -- numbers stand in an order: each is there, and not before the one before
 abbrev pub standsIn : List ℕ → List ℕ → Bool
@@ -160,6 +160,7 @@ numberOf R.OutputShorter = 13
 numberOf R.SeasonBroken = 14
 numberOf R.NoEntry = 15
 numberOf R.NotOneSecond = 16
+numberOf R.ResultLater = 17
 
 abbrev pub slip : Dated → Slip
 slip (D.At r) = datedAs (r .mark) (r .scale) (answer (record { day = r .day; micro = r .micro }))

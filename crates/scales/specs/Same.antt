@@ -48,7 +48,7 @@ abbrev of : ℕ → Refusal
 of n =
     getD
     (R.OutputShorter ∷ R.LengthIsNone ∷ R.MarkerWrong ∷ R.FieldOver ∷ R.DecimalNotFinite ∷ R.ListNotAccepted ∷ R.CorrelationNotAccepted ∷ R.OutsideSpan ∷ R.NotInForce ∷ R.ListExpired ∷ R.SecondLacking
-    ∷ R.ResultOutside ∷ R.NoImage ∷ R.OutputShorter ∷ R.SeasonBroken ∷ R.NoEntry ∷ R.NotOneSecond ∷ [])
+    ∷ R.ResultOutside ∷ R.NoImage ∷ R.OutputShorter ∷ R.SeasonBroken ∷ R.NoEntry ∷ R.NotOneSecond ∷ R.ResultLater ∷ [])
     n R.OutputShorter
 
 of-number : (r : Refusal) → of (numberOf r) ≡ r
@@ -68,6 +68,7 @@ of-number R.OutputShorter = refl
 of-number R.SeasonBroken = refl
 of-number R.NoEntry = refl
 of-number R.NotOneSecond = refl
+of-number R.ResultLater = refl
 
 pub refusals : (a b : Refusal) → numberOf a ≡ numberOf b → a ≡ b
 refusals a b e = sym (of-number a) ∙ ap of e ∙ of-number b

@@ -80,6 +80,7 @@ pub enum Refusal {
     SeasonBroken,
     NoEntry,
     NotOneSecond,
+    ResultLater,
 }
 
 impl Refusal {
@@ -103,6 +104,7 @@ impl Refusal {
             Refusal::SeasonBroken => 14,
             Refusal::NoEntry => 15,
             Refusal::NotOneSecond => 16,
+            Refusal::ResultLater => 17,
         }
     }
 }
