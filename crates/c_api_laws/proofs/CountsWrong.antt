@@ -3,7 +3,7 @@ use mathlib.Core.Path.{refl}
 use mathlib.Core.List.{List, []}
 use Prim.Native.Nat.{ℕ, _%_, _^_}
 use native.Mathlib.Omega.{arith}
-use lib.IntN.{ℤ, pos}
+use lib.IntN.{ℤ, pos, negsuc}
 use Rattle.evidence.specs.ShutOut.{ShutOut, shut, differ}
 use Rattle.scales.specs.Meaning.{outcome, valued}
 use Rattle.double.specs.Meaning.{plusZero}
@@ -40,7 +40,7 @@ abbrev fieldsSwapped : ℕ → VrkGoceCorrelation → ℕ → VrkTime
 fieldsSwapped t c u =
     datedBy t (record { obt0 = c .utc0; utc0 = c .obt0; offset = c .offset; gradient = c .gradient; back = c .back; ahead = c .ahead }) u
 
-pub goce-fields-swapped : ShutOut (datedBy 65536 (correlated 0 65536) 1000000) (answered 1 (pos 0) 2000000 2 0) (fieldsSwapped 65536 (correlated 0 65536) 1000000) (answered 1 (pos 0) 0 2 65536)
+pub goce-fields-swapped : ShutOut (datedBy 16384 (correlated 0 32768) 750000) (answered 1 (pos 0) 750000 2 0) (fieldsSwapped 16384 (correlated 0 32768) 750000) (answered 1 (negsuc 0) 86399750000 2 32768)
 unfolding goceDate dateOf accepted inWindow within clock through isStep
 goce-fields-swapped = shut (rw published) (rw published) (differ microIn (λ e. omega arith))
 

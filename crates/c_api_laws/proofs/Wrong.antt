@@ -95,7 +95,7 @@ unfolding sbtDate correlationOf dateOf accepted L.accepted
 date-unknown-list = (refl, refl, differ refusalIn (λ e. omega arith))
 
 -- the window left to the caller
-pub date-window : ShutOut (datedBare 8 (dead 0)) (emptyOut 8 0) (datedBare 8 (record { tick = 7; scale = 0; day = pos 0; micro = 0; period = 3906250000; back = 1; ahead = 1 })) (answered 0 (pos 0) 3906 2 7)
+pub date-window : ShutOut (datedBare 6 (dead 0)) (emptyOut 8 0) (datedBare 6 (record { tick = 7; scale = 0; day = pos 0; micro = 0; period = 3906250000; back = 1; ahead = 1 })) (answered 0 (negsuc 0) 86399996093 2 7)
 unfolding sbtDate correlationOf dateOf accepted inWindow within clock
 date-window = (refl, refl, differ refusalIn (λ e. omega arith))
 

@@ -3,12 +3,13 @@
 use mathlib.Core.Path.{_≡_, refl, sym, ap, ap₂, _∙_}
 use mathlib.Core.Bool.{Bool, true, false, _&&_}
 use mathlib.Core.List.{List}
-use Prim.Native.Nat.{ℕ}
+use Prim.Native.Nat.{ℕ, _≤_, _<_}
 use native.Mathlib.Omega.{arith}
 use lib.Dec.{ltb}
 use lib.IntN.{ℤ}
+use borrow.Author.Tests.{le-leb, lt-leb}
 use Rattle.axis.specs.Meaning.{microsAt, Moment, dayMicros, since}
-use Rattle.axis.specs.Axis.{moment-at}
+use Rattle.axis.specs.Axis.{micros-le, moment-at}
 use Rattle.scales.specs.Meaning.{inSpan, dated, Slip, refused, answer, outcome, resulting}
 use Rattle.scales.specs.Order.{no-answer}
 use Rattle.scales.specs.Place.{and-both}
@@ -44,10 +45,14 @@ module _ (s : Scale) (i : Bool) (v : Ends) (m : ℕ) (d : ℤ) (u : ℕ) where
       pub own-8 : withinAt v w ≡ false → dated s (refused 8) ≡ dated s (outcome (judgingOwn s i (coverOf v) (microsAt m) d u))
       own-8 k = rw (in-day, g, since-is, within-place v w, k)
 
-      pub own-at : withinAt v w ≡ true → resultAt s m ≡ dated s (outcome (judgingOwn s i (coverOf v) (microsAt m) d u))
-      own-at k =
-          ap (λ (x : Moment). dated s (outcome (resulting s x))) (sym (moment-at m))
-          ∙ rw (in-day, g, since-is, within-place v w, k)
+      module _ (k : withinAt v w ≡ true) where
+        pub own-17 : w < m → dated s (refused 17) ≡ dated s (outcome (judgingOwn s i (coverOf v) (microsAt m) d u))
+        own-17 l = rw (in-day, g, since-is, within-place v w, k, micros-le m w, lt-leb m w l)
+
+        pub own-at : m ≤ w → resultAt s m ≡ dated s (outcome (judgingOwn s i (coverOf v) (microsAt m) d u))
+        own-at l =
+            ap (λ (x : Moment). dated s (outcome (resulting s x))) (sym (moment-at m))
+            ∙ rw (in-day, g, since-is, within-place v w, k, micros-le m w, le-leb m w l)
 
 -- ---- under a UTC correlation
 module _ (current inside : Bool) (v : Ends) (m : ℕ) (d : ℤ) (u : ℕ) (ds : List ℤ) (os : List ℕ) (e : ℤ) where
@@ -76,8 +81,12 @@ module _ (current inside : Bool) (v : Ends) (m : ℕ) (d : ℤ) (u : ℕ) (ds : 
           pub date-8 : withinAt v w ≡ false → Given (dated S.Utc (refused 8))
           date-8 q = rw (f, g, k, at .current, at .second, at .is, within-place v w, q)
 
-          pub date-at : withinAt v w ≡ true → Given (dated S.Utc (outcome (toUtc ds os e (microsAt m))))
-          date-at q = rw (f, g, k, at .current, at .second, at .is, within-place v w, q)
+          module _ (q : withinAt v w ≡ true) where
+            pub date-17 : w < m → Given (dated S.Utc (refused 17))
+            date-17 l = rw (f, g, k, at .current, at .second, at .is, within-place v w, q, micros-le m w, lt-leb m w l)
+
+            pub date-at : m ≤ w → Given (dated S.Utc (outcome (toUtc ds os e (microsAt m))))
+            date-at l = rw (f, g, k, at .current, at .second, at .is, within-place v w, q, micros-le m w, le-leb m w l)
 
         pub date-lacks : (n : ℕ) → refused n ≡ outcome (placing moment ds os e) → Given (dated S.Utc (refused (lackingAt n (microsAt m) ds os e)))
         date-lacks n p = go (isExpiredDay e d) refl (hasMicro ds d u) refl (isExpiredTai ds os e (microsAt m)) refl

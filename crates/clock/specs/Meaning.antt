@@ -96,6 +96,10 @@ coversTime c d u ds os e = cond (bothKnown c d u ds e) (covers c (instant (c .sc
 abbrev pub inForce : Clock → ℤ → ℤ → ℕ → List ℤ → List ℕ → ℤ → Bool
 inForce c k d u ds os e = inWindow c k && coversTime c d u ds os e
 
+-- ---- "Refuse a correlated time later than its receipt ..; under a UTC correlation the two are compared in TAI, once both are known there"
+abbrev pub notLater : Clock → ℤ → ℤ → ℕ → List ℤ → List ℕ → ℤ → Bool
+notLater c z d u ds os e = cond (bothKnown c d u ds e) (leZ z (instant (c .scale) ds os d u)) true
+
 -- ---- the date of count t, received at microsecond u of day d: "9 to the reference, receipt .. and result"
 abbrev pub dating : Bool → Clock → ℕ → ℤ → ℕ → List ℤ → List ℕ → ℤ → Judged Moment
 dating accepted c t d u ds os e =
@@ -103,9 +107,10 @@ dating accepted c t d u ds os e =
     (given accepted 6
     (given (inSpan (c .scale) d u) 7
     (given (inForce c (elapsed c t) d u ds os e) 8
+    (given (notLater c (time c (elapsed c t)) d u ds os e) 17
     (given (isCurrent (c .scale) e (c .day) && (isCurrent (c .scale) e d && isCurrentAt (c .scale) ds os e (time c (elapsed c t)))) 9
     (given (hasSecond (c .scale) ds d u) 10
-    (resulting (c .scale) (momentAfter (c .scale) ds os (time c (elapsed c t)))))))))
+    (resulting (c .scale) (momentAfter (c .scale) ds os (time c (elapsed c t))))))))))
 
 -- "correlated with the reference tick, for GOCE the reference count"
 abbrev pub markOf : Clock → Mark

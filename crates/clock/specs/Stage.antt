@@ -60,16 +60,18 @@ abbrev pub judging : Scale → Bool → Bool → Cover → ℤ → ℤ → ℕ �
 judging s current inside v z d u ds os e =
     given (inSpan s d u) 7
     (given (inside && cond (current && isKnown s ds e d u) (within v (instant s ds os d u)) true) 8
+    (given (cond (current && isKnown s ds e d u) (leZ z (instant s ds os d u)) true) 17
     (given (current && (isCurrent s e d && isCurrentAt s ds os e z)) 9
     (given (hasSecond s ds d u) 10
-    (resulting s (momentAfter s ds os z)))))
+    (resulting s (momentAfter s ds os z))))))
 
 -- the same under a TAI or GPS correlation, which looks at no list
 abbrev pub judgingOwn : Scale → Bool → Cover → ℤ → ℤ → ℕ → Judged Moment
 judgingOwn s inside v z d u =
     given (inSpan s d u && ltb u dayMicros) 7
     (given (inside && within v (since d u)) 8
-    (resulting s (momentOf z)))
+    (given (leZ z (since d u)) 17
+    (resulting s (momentOf z))))
 
 -- its end at place m
 abbrev pub resultAt : Scale → ℕ → Slip

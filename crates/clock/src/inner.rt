@@ -130,6 +130,9 @@ pub fn date(scale: Scale, k: Reckoned, receipt_day: i64, receipt_micro: u64) -> 
     if !covers(v, w) {
         return Dated::Refused(Refusal::NotInForce, scale);
     }
+    if w < k.at {
+        return Dated::Refused(Refusal::ResultLater, scale);
+    }
     record_at(scale, k.at)
 }
 
@@ -220,6 +223,9 @@ pub fn date_by_list(
             let v = k.ends;
             if !covers(v, w.0) {
                 return Dated::Refused(Refusal::NotInForce, Scale::Utc);
+            }
+            if w.0 < k.at {
+                return Dated::Refused(Refusal::ResultLater, Scale::Utc);
             }
             let z = Tai(k.at);
             changes::inner::dated_utc(via_tai::inner::to_utc(z, days, offsets, last))

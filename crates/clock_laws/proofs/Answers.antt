@@ -34,6 +34,7 @@ pub record Dates (accepted : Bool) (c : Clock) (t : ℕ) (d : ℤ) (u : ℕ) (ds
   pub reference : isCurrent (c .scale) e (c .day) ≡ true
   pub known : isKnown (c .scale) ds e d u ≡ true
   pub cover : covers c (instant (c .scale) ds os d u) ≡ true
+  pub not-later : leZ (time c (elapsed c t)) (instant (c .scale) ds os d u) ≡ true
   pub current : isCurrentAt (c .scale) ds os e (time c (elapsed c t)) ≡ true
   pub span : inSpan (c .scale) (m .day) (m .micro) ≡ true
   pub is : momentAfter (c .scale) ds os (time c (elapsed c t)) ≡ m
@@ -43,7 +44,7 @@ pub dates : (accepted : Bool) (c : Clock) (t : ℕ) (d : ℤ) (u : ℕ) (ds : Li
 dates accepted c t d u ds os e m h = told (is-answers (dating accepted c t d u ds os e) m h)
   where
     told : {m : Moment} → Answers (dating accepted c t d u ds os e) m → Dates accepted c t d u ds os e m
-    told (next l (next a (next i (next f (next g (next n (next s last))))))) =
+    told (next l (next a (next i (next f (next p (next g (next n (next s last)))))))) =
         let k = elapsed c t in
         let w = and-both (inWindow c k) (coversTime c d u ds os e) f in
         let x = and-both (isCurrent (c .scale) e (c .day)) (isCurrent (c .scale) e d && isCurrentAt (c .scale) ds os e (time c k)) g in
@@ -56,6 +57,7 @@ dates accepted c t d u ds os e m h = told (is-answers (dating accepted c t d u d
           reference = x .0;
           known = rw (y .0, n);
           cover = rw (x .0, y .0, n) at (w .1);
+          not-later = rw (x .0, y .0, n) at p;
           current = y .1;
           span = s;
           is = refl;

@@ -6,6 +6,7 @@ use mathlib.Core.List.{List}
 use Prim.Native.Nat.{ℕ, suc, _-_, _*_, _/_}
 use lib.Dec.{ltb}
 use lib.IntN.{ℤ, pos, negsuc, subℕ, _+ℤ_, _-ℤ_}
+use lib.Signed.{ltZ, leZ}
 use Rattle.axis.specs.Meaning.{floorZ, modZ, Moment, dayMicros, since}
 use Rattle.scales.specs.Meaning.{inSpan, Slip, datedAs, Judged, given, gives, Outcome, outcome, recordOf, Valued, resulting}
 use Rattle.scales.specs.declared.Scale.{Scale}
@@ -16,13 +17,16 @@ use Rattle.handed.specs.declared.Handed.the-variants as H
 use Rattle.handed.specs.Meaning.{markOf as markIn, isFinite, isInSpan, dayOf, microOf}
 use Rattle.leap.specs.Meaning as Leap
 use Rattle.leap_laws.proofs.Lists.{withEven}
-use Rattle.clock.specs.Meaning.{Clock, instant, momentAfter, listServes, isCurrent, isCurrentAt, hasSecond, elapsed, time, inWindow, cover, covers, coversTime, inForce, dating, markOf, lastCount, countAt, instantOf, hasImage, turning}
+use Rattle.clock.specs.Meaning.{Clock, instant, momentAfter, listServes, isCurrent, isCurrentAt, hasSecond, elapsed, time, inWindow, cover, covers, bothKnown, coversTime, inForce, notLater, dating, markOf, lastCount, countAt, instantOf, hasImage, turning}
 use Rattle.clock_laws.proofs.Window.{widened}
 use Rattle.clock_laws.proofs.Marks.{handBack}
 
--- a rule of force, and a desk either way
+-- a rule of force, for a count, a rule of lateness, for its time, and a desk either way
 abbrev pub Force : Type 0
 Force = Clock → ℤ → ℤ → ℕ → List ℤ → List ℕ → ℤ → Bool
+
+abbrev pub Lateness : Type 0
+Lateness = Clock → ℤ → ℤ → ℕ → List ℤ → List ℕ → ℤ → Bool
 
 abbrev pub Dating : Type 0
 Dating = Bool → Clock → ℕ → ℤ → ℕ → List ℤ → List ℕ → ℤ → Slip
@@ -30,9 +34,9 @@ Dating = Bool → Clock → ℕ → ℤ → ℕ → List ℤ → List ℕ → �
 abbrev pub Turning : Type 0
 Turning = Bool → Clock → Handed → List ℤ → List ℕ → ℤ → Outcome ℕ
 
--- ---- dates: a desk with another rule of force, another elapsed count, another time of it, or another moment of that
-abbrev pub dateBy : Force → (Clock → ℕ → ℤ) → (Clock → ℤ → ℤ) → (Clock → List ℤ → List ℕ → ℤ → Moment) → Dating
-dateBy force count timing moment accepted c t d u ds os e =
+-- ---- dates: a desk with another rule of force or of lateness, another elapsed count, another time of it, or another moment of that
+abbrev pub dateBy : Force → Lateness → (Clock → ℕ → ℤ) → (Clock → ℤ → ℤ) → (Clock → List ℤ → List ℕ → ℤ → Moment) → Dating
+dateBy force lateness count timing moment accepted c t d u ds os e =
     let s = c .scale in
     let z = timing c (count c t) in
     handBack c
@@ -40,9 +44,10 @@ dateBy force count timing moment accepted c t d u ds os e =
     (given accepted 6
     (given (inSpan s d u) 7
     (given (force c (count c t) d u ds os e) 8
+    (given (lateness c z d u ds os e) 17
     (given (isCurrent s e (c .day) && (isCurrent s e d && isCurrentAt s ds os e z)) 9
     (given (hasSecond s ds d u) 10
-    (resulting s (moment c ds os z))))))))
+    (resulting s (moment c ds os z)))))))))
 
 -- the moment of an instant, as it should be
 abbrev pub atInstant : Clock → List ℤ → List ℕ → ℤ → Moment
@@ -50,11 +55,15 @@ atInstant c ds os z = momentAfter (c .scale) ds os z
 
 -- a desk that is wrong in its rule of force alone
 abbrev pub forcedBy : Force → Dating
-forcedBy force = dateBy force elapsed time atInstant
+forcedBy force = dateBy force notLater elapsed time atInstant
+
+-- in its rule of lateness alone
+abbrev pub lateBy : Lateness → Dating
+lateBy lateness = dateBy inForce lateness elapsed time atInstant
 
 -- and in the time of the count alone
 abbrev pub timedBy : (Clock → ℤ → ℤ) → Dating
-timedBy timing = dateBy inForce elapsed timing atInstant
+timedBy timing = dateBy inForce notLater elapsed timing atInstant
 
 -- the window ignored
 abbrev pub windowIgnored : Force
@@ -86,6 +95,24 @@ receiptInUtc c k d u ds os e = inWindow c k && covers c (since d u +ℤ Leap.sec
 abbrev pub unknownCompared : Force
 unknownCompared c k d u ds os e = inWindow c k && covers c (instant (c .scale) ds os d u)
 
+-- a time at its receipt refused
+abbrev pub equalRefused : Lateness
+equalRefused c z d u ds os e = not (bothKnown c d u ds e) || ltZ z (instant (c .scale) ds os d u)
+
+-- the reference's time compared in place of the result's
+abbrev pub referenceCompared : Lateness
+referenceCompared c z d u ds os e = notLater c (time c (pos 0)) d u ds os e
+
+-- compared in days of 86,400 s, second 60 with the next day's first
+abbrev pub inEvenDays : Lateness
+inEvenDays c z d u ds os e =
+    let m = momentAfter (c .scale) ds os z in
+    not (bothKnown c d u ds e) || leZ (since (m .day) (m .micro)) (since d u)
+
+-- refused where the receipt has no TAI time
+abbrev pub unknownLate : Lateness
+unknownLate c z d u ds os e = bothKnown c d u ds e && leZ z (instant (c .scale) ds os d u)
+
 -- the elapsed count never negative
 abbrev pub unsigned : Clock → ℕ → ℤ
 unsigned c t = pos (modZ (subℕ t (c .reference)) (2 * c .half))
@@ -114,6 +141,24 @@ abbrev pub expiredFirst : Dating
 expiredFirst =
     dateAlso (λ c t d u ds os e.
     isCurrent (c .scale) e (c .day) && (isCurrent (c .scale) e d && isCurrentAt (c .scale) ds os e (time c (elapsed c t)))) 9
+
+-- 17 judged before 8
+abbrev pub laterFirst : Dating
+laterFirst = dateAlso (λ c t d u ds os e. notLater c (time c (elapsed c t)) d u ds os e) 17
+
+-- 17 judged after 9
+abbrev pub laterAfter9 : Dating
+laterAfter9 =
+    dateAlso (λ c t d u ds os e.
+    not (inForce c (elapsed c t) d u ds os e)
+    || (isCurrent (c .scale) e (c .day) && (isCurrent (c .scale) e d && isCurrentAt (c .scale) ds os e (time c (elapsed c t))))) 9
+
+-- and after 11
+abbrev pub laterAfter11 : Dating
+laterAfter11 =
+    dateAlso (λ c t d u ds os e.
+    let m = momentAfter (c .scale) ds os (time c (elapsed c t)) in
+    not (inForce c (elapsed c t) d u ds os e) || inSpan (c .scale) (m .day) (m .micro)) 11
 
 -- 10 judged before 9
 abbrev pub secondFirst : Dating
@@ -207,6 +252,10 @@ countAlso test n accepted c h ds os e =
 -- 8 judged before 12
 abbrev pub forceFirst : Turning
 forceFirst = countAlso (λ c h ds os e. covers c (instantOf (c .scale) ds os h)) 8
+
+-- 17 of a time later than the reference
+abbrev pub laterThanReference : Turning
+laterThanReference = countAlso (λ c h ds os e. leZ (instantOf (c .scale) ds os h) (time c (pos 0))) 17
 
 -- 12 judged before the reference's 9
 abbrev pub scaleFirst : Turning

@@ -4,6 +4,7 @@ pub mod Trips
 pub mod Window
 pub mod Wider
 pub mod Stays
+pub mod Later
 pub mod Night
 pub mod Cases
 pub mod Marks

@@ -9,12 +9,12 @@ use native.Mathlib.Nat.{add-mul, add-mul-div-right}
 use native.Mathlib.Omega.{arith}
 use lib.Dec.{eqb, ltb, lit<}
 use lib.IntN.{ℤ, pos, negℤ, subℕ, _+ℤ_, _*ℤ_, +ℤ-assoc, +ℤ-comm}
-use lib.Signed.{leZ}
+use lib.Signed.{ltZ, leZ}
 use borrow.Author.Tests.{lt-ltb, eqb-true}
 use Rattle.axis.specs.Meaning.{placeOfDay, floorZ, Moment, dayMicros, since, momentOf}
 use Rattle.axis.specs.Diff.{tests, up, down, parts, sub-eq, sub-mul, sub-le, sub-floor}
 use Rattle.axis.specs.Shift.{number-add}
-use Rattle.scales.specs.Meaning.{codeOf, bound, inSpan, sameScale, Judged, given, gives, outcome, answer, resulting}
+use Rattle.scales.specs.Meaning.{codeOf, bound, inSpan, sameScale, Judged, given, gives, Outcome, refused, answer, outcome, resulting}
 use Rattle.scales.specs.Order.{Answers, last, next, is-answers}
 use Rattle.scales.specs.Place.{apart, and-both, placed}
 use Rattle.scales.specs.declared.Scale.{Scale}
@@ -24,10 +24,12 @@ use Rattle.handed.specs.Meaning.{scaleOf, isFinite, isInSpan, dayOf, microOf}
 use Rattle.handed.specs.Told.{loose}
 use Rattle.leap.specs.Meaning as Leap
 use Rattle.via_tai.specs.Meaning.{isUtc}
+use Rattle.via_tai.specs.Ways.{has-plain}
 use Rattle.leap_laws.proofs.Kept.{tai-current, utc-back}
 use Rattle.clock.specs.Meaning.{Clock, elapsed, clock, time, inWindow, within, covers, dating, latest, lastCount, countAt, hasImage, turning}
 use Rattle.clock.specs.Signs.{plus}
 use Rattle.clock_laws.proofs.Counts.{whole, left-under}
+use Rattle.clock_laws.proofs.Later.{only-later}
 use Rattle.clock_laws.proofs.Wider.{restarted}
 
 -- ---- document 01's rule, over a clock that counts the microseconds since day 0 of its own scale: dates refused 6, 7, 8, 11, ways back 4, 6,
@@ -42,6 +44,10 @@ baseDating accepted c t d u =
     (given (receivable (c .scale) d u) 7
     (given (inWindow c (elapsed c t) && covers c (since d u)) 8
     (resulting (c .scale) (momentOf (time c (elapsed c t))))))
+
+-- it passes 8
+abbrev pub basePasses8 : Bool → Clock → ℕ → ℤ → ℕ → Bool
+basePasses8 accepted c t d u = accepted && (receivable (c .scale) d u && (inWindow c (elapsed c t) && covers c (since d u)))
 
 -- "A time of another scale, or in second 60, gets 12, and 8 is not judged for it"
 abbrev pub hadImage : Scale → Handed → Bool
@@ -63,12 +69,14 @@ no-sixty S.Utc u p h = absurd (false≢true (sym p))
 no-sixty S.Gps u p h = lt-ltb u dayMicros h
 
 module _ (x : Bool) (c : Clock) (p : isUtc (c .scale) ≡ false) (ds : List ℤ) (os : List ℕ) (e : ℤ) where
-  pub date-base : (t : ℕ) (d : ℤ) (u : ℕ) → outcome (dating x c t d u ds os e) ≡ outcome (baseDating x c t d u)
+  pub date-base : (t : ℕ) (d : ℤ) (u : ℕ) → outcome (dating x c t d u ds os e)
+      ≡ cond (basePasses8 x c t d u && ltZ (since d u) (time c (elapsed c t))) (refused 17) (outcome (baseDating x c t d u))
   date-base t d u = go (inSpan (c .scale) d u) refl
     where
-      go : (i : Bool) → inSpan (c .scale) d u ≡ i → outcome (dating x c t d u ds os e) ≡ outcome (baseDating x c t d u)
-      go true i = rw (p, i, no-sixty (c .scale) u p (placed (c .scale) d u i .under))
-      go false i = rw (p, i)
+      go : (i : Bool) → inSpan (c .scale) d u ≡ i → outcome (dating x c t d u ds os e)
+          ≡ cond (basePasses8 x c t d u && ltZ (since d u) (time c (elapsed c t))) (refused 17) (outcome (baseDating x c t d u))
+      go true i = only-later x c t d u ds os e ∙ rw (p, i, no-sixty (c .scale) u p (placed (c .scale) d u i .under))
+      go false i = only-later x c t d u ds os e ∙ rw (p, i)
 
   pub count-base : (h : Handed) → outcome (turning x c h ds os e) ≡ outcome (baseTurning x c h)
   count-base h = go (isFinite h) refl (isInSpan h) refl (hasImage (c .scale) h) refl
@@ -185,19 +193,25 @@ module _ (c : Clock) (p : isUtc (c .scale) ≡ true) (per : 0 < c .per) (ds : Li
     tai : z +ℤ pos n ≡ Leap.taiOf ds os (momentOf z .day) (momentOf z .micro)
     tai = ap (λ (y : ℤ). y +ℤ pos n) (sym (whole z)) ∙ sym (tai-ahead (momentOf z .day) (momentOf z .micro) b)
 
+    plain : momentOf z .micro < 86400000000
+    plain = left-under 86400000000 (lit< tt) z
+
     result-current : Leap.isExpiredTai ds os e (z +ℤ pos n) ≡ false
     result-current =
-        ap (Leap.isExpiredTai ds os e) tai ∙ tai-current ds os e w (momentOf z .day) (momentOf z .micro) from (b .current) (left-under 86400000000 (lit< tt) z)
+        ap (Leap.isExpiredTai ds os e) tai
+        ∙ tai-current ds os e w (momentOf z .day) (momentOf z .micro) from (b .current) (omega (arith, plain)) (sym (has-plain ds (momentOf z .day) (momentOf z .micro) plain))
 
     result-same : Leap.utcOf ds os (z +ℤ pos n) ≡ momentOf z
     result-same =
-        ap (Leap.utcOf ds os) tai ∙ utc-back ds os e w (momentOf z .day) (momentOf z .micro) from (b .current) (left-under 86400000000 (lit< tt) z)
+        ap (Leap.utcOf ds os) tai
+        ∙ utc-back ds os e w (momentOf z .day) (momentOf z .micro) from (b .current) (omega (arith, plain)) (sym (has-plain ds (momentOf z .day) (momentOf z .micro) plain))
 
   pub date-stays : (t : ℕ) (d : ℤ) (u : ℕ) (m : Moment) → outcome (baseDating x c t d u) ≡ answer m → Like ds os e (c .day) d → Like ds os e (c .day) (m .day) →
-      outcome (dating x (restarted c r) t d u ds os e) ≡ answer m
+      outcome (dating x (restarted c r) t d u ds os e) ≡ cond (leZ (time c (elapsed c t)) (since d u)) (answer m) (refused 17)
   date-stays t d u m h a b = go (is-answers (baseDating x c t d u) m h) b
     where
-      go : {m : Moment} → Answers (baseDating x c t d u) m → Like ds os e (c .day) (m .day) → outcome (dating x (restarted c r) t d u ds os e) ≡ answer m
+      go : {m : Moment} → Answers (baseDating x c t d u) m → Like ds os e (c .day) (m .day) →
+          outcome (dating x (restarted c r) t d u ds os e) ≡ cond (leZ (time c (elapsed c t)) (since d u)) (answer m) (refused 17)
       go (next accepts (next receives (next forces (next inside last)))) b =
           let z = time c (elapsed c t) in
           let received = and-both (inSpan (c .scale) d u) (ltb u dayMicros) receives in
@@ -217,6 +231,7 @@ module _ (c : Clock) (p : isUtc (c .scale) ≡ true) (per : 0 < c .per) (ds : Li
             result-same z inside b,
             inside,
           )
+          (ap (λ (b : Bool). cond b (answer (momentOf z)) (refused 17)) (ap (leZ (z +ℤ pos n)) (tai-ahead d u a) ∙ le-ahead z (since d u) n))
 
   pub count-stays : (h : Handed) (i : ℕ) → outcome (baseTurning x c h) ≡ answer i → Like ds os e (c .day) (dayOf h) →
       outcome (turning x (restarted c r) h ds os e) ≡ answer i

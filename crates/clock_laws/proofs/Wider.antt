@@ -1,7 +1,7 @@
 -- Fresh paper never changes an old date: under a list that extends the one in use and a window that is no narrower at either end, both at
 -- once, a counter gives what it gave, answer or refusal, but for 8 and 9. Assumes nothing.
 use mathlib.Core.Path.{_≡_, refl, sym, ap, _∙_}
-use mathlib.Core.Bool.{Bool, true, false, cond, not, _&&_, _||_}
+use mathlib.Core.Bool.{Bool, true, false, cond, not, _&&_, _||_, false≢true}
 use mathlib.Core.List.{List}
 use Prim.Native.Nat.{ℕ, _≤_, _<_}
 use native.Mathlib.Omega.{arith}
@@ -19,7 +19,7 @@ use Rattle.handed.specs.Told.{loose}
 use Rattle.leap.specs.Meaning as Leap
 use Rattle.via_tai.specs.Meaning.{isUtc}
 use Rattle.leap_laws.proofs.Kept.{Follows, kept}
-use Rattle.clock.specs.Meaning.{Clock, instant, momentAfter, isCurrent, isCurrentAt, hasSecond, elapsed, time, inWindow, within, covers, coversTime, inForce, dating, lastCount, countAt, instantOf, hasImage, turning}
+use Rattle.clock.specs.Meaning.{Clock, instant, momentAfter, isCurrent, isCurrentAt, hasSecond, elapsed, time, inWindow, within, covers, coversTime, inForce, notLater, dating, lastCount, countAt, instantOf, hasImage, turning}
 use Rattle.clock.specs.Places.{timeAt, countFrom, elapsed-place, Based, time-place}
 use Rattle.clock.specs.Signs.{le-trans}
 use Rattle.clock.specs.Stage.{held}
@@ -138,6 +138,9 @@ module _ (c : Clock) (q : ℕ) (axis : Based c q) (r : ℤ) (b a : ℕ) (l : c .
         go true g h = rw (A .current (c .day) at, A .current d day, A .second d u on day, g, A .instant d u on day, covers-kept c b a l m wide (instant s ds os d u) h)
         go false g h = rw (A .current (c .day) at, A .current d day, A .second d u on day, g)
 
+    later-kept : (z : ℤ) → notLater w z d u cs ps f ≡ notLater c z d u ds os e
+    later-kept z = rw (at, day, A .current (c .day) at, A .current d day, A .second d u on day, A .instant d u on day)
+
   -- a clock that starts where c does
   started : {B : Type 0} (F : Clock → B) → isCurrent s e (c .day) ≡ true → F k ≡ F w
   started F at = ap (λ (z : ℤ). F (widened (restarted c z) b a)) (start at)
@@ -167,15 +170,42 @@ module _ (c : Clock) (q : ℕ) (axis : Based c q) (r : ℤ) (b a : ℕ) (l : c .
   module _ (x y : Bool) (px : x ≡ true) (py : y ≡ true) where
     pub date-kept : (t : ℕ) (d : ℤ) (u : ℕ) → (outcome (dating x c t d u ds os e) ≡ refused 8 → ⊥) → (outcome (dating x c t d u ds os e) ≡ refused 9 → ⊥) →
         outcome (dating y k t d u cs ps f) ≡ outcome (dating x c t d u ds os e)
-    date-kept t d u n8 n9 = go (inSpan s d u) refl (inForce c (elapsed c t) d u ds os e) refl (nine t d) refl
+    date-kept t d u n8 n9 = go (inSpan s d u) refl (inForce c (elapsed c t) d u ds os e) refl (notLater c (time c (elapsed c t)) d u ds os e) refl (nine t d) refl
       where
-        go : (i : Bool) → inSpan s d u ≡ i → (j : Bool) → inForce c (elapsed c t) d u ds os e ≡ j → (o : Bool) → nine t d ≡ o →
-            outcome (dating y k t d u cs ps f) ≡ outcome (dating x c t d u ds os e)
-        go false p j g o h = rw (A .serves, A .serves-old, px, py, p)
-        go true p false g o h = absurd (n8 (rw (A .serves-old, px, p, g)))
-        go true p true g false h = absurd (n9 (rw (A .serves-old, px, p, g, h)))
-        go true p true g true h =
-            let on : 0 < placeOfDay d = omega (arith, held s d u p .from) in
+        Same : Type 0
+        Same = outcome (dating y k t d u cs ps f) ≡ outcome (dating x c t d u ds os e)
+
+        on : inSpan s d u ≡ true → 0 < placeOfDay d
+        on p = omega (arith, held s d u p .from)
+
+        -- 17 is given where reference and receipt are known
+        later : inSpan s d u ≡ true → inForce c (elapsed c t) d u ds os e ≡ true → notLater c (time c (elapsed c t)) d u ds os e ≡ false →
+            (i : Bool) → isCurrent s e (c .day) ≡ i → (o : Bool) → isCurrent s e d ≡ o → Same
+        later p g v false h o q = absurd (false≢true (sym v ∙ rw h))
+        later p g v true h false q = absurd (false≢true (sym v ∙ rw (h, q)))
+        later p g v true h true q =
+            let j = and-both (inWindow c (elapsed c t)) (coversTime c d u ds os e) g in
+            started (λ (z : Clock). outcome (dating y z t d u cs ps f)) h
+            ∙ rw (
+              A .serves,
+              A .serves-old,
+              px,
+              py,
+              p,
+              g,
+              window-kept c b a l m wide (elapsed c t) (j .0),
+              cover-kept d u (on p) h q (j .1),
+              later-kept d u (on p) h q (time c (elapsed c t)),
+              v,
+            )
+
+        go : (i : Bool) → inSpan s d u ≡ i → (j : Bool) → inForce c (elapsed c t) d u ds os e ≡ j →
+            (v : Bool) → notLater c (time c (elapsed c t)) d u ds os e ≡ v → (o : Bool) → nine t d ≡ o → Same
+        go false p j g v q o h = rw (A .serves, A .serves-old, px, py, p)
+        go true p false g v q o h = absurd (n8 (rw (A .serves-old, px, p, g)))
+        go true p true g false q o h = later p g q (isCurrent s e (c .day)) refl (isCurrent s e d) refl
+        go true p true g true q false h = absurd (n9 (rw (A .serves-old, px, p, g, q, h)))
+        go true p true g true q true h =
             let v = and-both (isCurrent s e (c .day)) (isCurrent s e d && isCurrentAt s ds os e (time c (elapsed c t))) h in
             let o = and-both (isCurrent s e d) (isCurrentAt s ds os e (time c (elapsed c t))) (v .1) in
             let j = and-both (inWindow c (elapsed c t)) (coversTime c d u ds os e) g in
@@ -189,11 +219,13 @@ module _ (c : Clock) (q : ℕ) (axis : Based c q) (r : ℤ) (b a : ℕ) (l : c .
               g,
               h,
               window-kept c b a l m wide (elapsed c t) (j .0),
-              cover-kept d u on (v .0) (o .0) (j .1),
+              cover-kept d u (on p) (v .0) (o .0) (j .1),
+              later-kept d u (on p) (v .0) (o .0) (time c (elapsed c t)),
+              q,
               A .current (c .day) (v .0),
               A .current d (o .0),
               time-kept t (o .1),
-              A .second d u on (o .0),
+              A .second d u (on p) (o .0),
               moment-kept t (o .1),
             )
 

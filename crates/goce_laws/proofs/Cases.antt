@@ -59,13 +59,13 @@ unfolding accepted clock inWindow within latest through isStep
 either-side = (rw published, rw published, rw published, rw published)
 
 -- ---- the farthest counts at the ends of Gradient, and references at day -1 and at the last count of day 36524, under a list that is as long
--- as a list can be: past its end it is 9, and before the span 11
+-- as a list can be: past its end it is 17, and before the span 11
 abbrev pub far : ℕ → Correlation
 far g = record { obt0 = 0; utc0 = 70778880000000; offset = pos 0; gradient = g; back = 140737488355328; ahead = 140737488355327 }
 
 pub farthest :
-    (outcome (withEven (dating (far 999000000) 140737488355327 (pos 12500) 0)) ≡ refused 9)
-    × (outcome (withEven (dating (far 999000000) 70368744177664 (pos 12500) 0)) ≡ answer (at (pos 24915) 12082176000))
+    (outcome (withEven (dating (far 999000000) 140737488355327 (pos 12500) 0)) ≡ refused 17)
+    × (outcome (withEven (dating (far 999000000) 70368744177664 (pos 24915) 12082176000)) ≡ answer (at (pos 24915) 12082176000))
     × (outcome (withEven (dating (far 1001000000) 140737488355328 (pos 12500) 0)) ≡ refused 11)
     × (outcome (withEven (dating (moved 0 0 (negsuc 5662310399) 0) 0 (negsuc 0) 0)) ≡ answer (at (negsuc 0) 0))
     × (outcome (withEven (dating (moved 7 206815887359999 (pos 0) 0) 7 (pos 36524) 86399999984)) ≡ answer (at (pos 36524) 86399999984))

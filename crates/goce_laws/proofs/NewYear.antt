@@ -63,8 +63,8 @@ unfolding accepted clock inWindow within latest through isStep
 back-across = (rw published, rw published, rw published, rw published, rw published-6209)
 
 -- ---- each refusal of a date, where the next would be due too: 3 before 5 before 6 (the reference past the span's end) before 7 before 8; 8 of
--- a count outside the window, the receipt expired, and of a receipt outside the cover, the result expired; 9 of the reference, the receipt and
--- the result before 10 before 11
+-- a count outside the window, the receipt expired, and of a receipt outside the cover, the result later and expired; 17 of a result that is
+-- expired; 9 of the reference, the receipt and the result before 10 before 11
 abbrev past : Correlation
 past = moved 0 206815887360000 (pos 0) 0
 
@@ -75,6 +75,7 @@ pub dating-refusals :
     × (date newYear 600000 (pos 6209) 86401000000 ≡ refused 7)
     × (outcome (publishedTo (pos 6209) (dating newYear 600000 (pos 6210) 0)) ≡ refused 8)
     × (outcome (publishedTo (pos 6209) (dating newYear 131079 (pos 6209) 0)) ≡ refused 8)
+    × (outcome (publishedTo (pos 6209) (dating newYear 131079 (pos 6209) 86400999999)) ≡ refused 17)
     × (outcome (earlierTo (pos 6000) (dating newYear 7 (pos 5000) 86400000000)) ≡ refused 9)
     × (outcome (publishedTo (pos 6209) (dating newYear 7 (pos 6210) 86400000000)) ≡ refused 9)
     × (outcome (earlierTo (pos 6209) (dating newYear 65543 (pos 6209) 86400000000)) ≡ refused 9)
@@ -85,6 +86,7 @@ dating-refusals = (
   rw none,
   rw published,
   rw published,
+  rw published-6209,
   rw published-6209,
   rw published-6209,
   rw earlier,

@@ -1,14 +1,15 @@
--- What stays of document 01's rule for GOCE: every answer where the days of reference, receipt (or time handed in) and result are not
--- expired and have one offset. Assumes nothing.
+-- What stays of document 01's rule for GOCE, but for a date later than its receipt, which is 17: every answer where the days of reference,
+-- receipt (or time handed in) and result are not expired and have one offset. Assumes nothing.
 use mathlib.Core.Path.{_≡_, refl, ap, _∙_}
-use mathlib.Core.Bool.{true, false}
+use mathlib.Core.Bool.{true, false, cond}
 use mathlib.Core.List.{List}
 use Prim.Native.Nat.{ℕ, _*_, _^_}
 use native.Mathlib.Omega.{arith}
 use lib.Dec.{ltb, lit<}
 use lib.IntN.{ℤ, pos, _+ℤ_, _*ℤ_}
-use Rattle.axis.specs.Meaning.{Moment}
-use Rattle.scales.specs.Meaning.{Judged, given, answer, outcome}
+use lib.Signed.{leZ}
+use Rattle.axis.specs.Meaning.{Moment, since}
+use Rattle.scales.specs.Meaning.{Judged, given, refused, answer, outcome}
 use Rattle.scales.specs.Order.{passed}
 use Rattle.scales.specs.declared.Scale.the-variants as S
 use Rattle.handed.specs.declared.Handed.{Handed}
@@ -39,6 +40,10 @@ baseDating c t d u =
     given (ltb t (2 ^ 48)) 3
     (G.baseDating (accepted c) (baseClock c) t d u)
 
+-- the date of a count, in microseconds since day 0
+abbrev pub baseTime : Correlation → ℕ → ℤ
+baseTime c t = C.time (baseClock c) (C.elapsed (baseClock c) t)
+
 abbrev pub baseTurning : Correlation → Handed → Judged ℕ
 baseTurning c h = G.baseTurning (accepted c) (baseClock c) h
 
@@ -51,7 +56,8 @@ module _ (c : Correlation) (ds : List ℤ) (os : List ℕ) (e : ℤ) (w : Leap.a
       G.product-ahead (reference c) (o * 65536) 1000000000 ∙ ap (λ (n : ℕ). reference c *ℤ pos 1000000000 +ℤ pos n) q
 
   pub date-stays : (t : ℕ) (d : ℤ) (u : ℕ) (m : Moment) → outcome (baseDating c t d u) ≡ answer m →
-      G.Like ds os e (dayOn c) d → G.Like ds os e (dayOn c) (m .day) → outcome (dating c t d u ds os e) ≡ answer m
+      G.Like ds os e (dayOn c) d → G.Like ds os e (dayOn c) (m .day) →
+      outcome (dating c t d u ds os e) ≡ cond (leZ (baseTime c t) (since d u)) (answer m) (refused 17)
   date-stays t d u m h a b =
       let v = passed (ltb t (2 ^ 48)) 3 (G.baseDating (accepted c) (baseClock c) t d u) m h in
       rw (v .0) (G.date-stays (baseClock c) refl (lit< tt) ds os e w (clockOf c ds os .start) start-ahead current (accepted c) t d u m (v .1) a b)

@@ -17,7 +17,7 @@ use Rattle.leap.specs.Meaning.{through, isStep, taiOf, publishedDays, published
 use Rattle.leap.specs.Published.{published}
 use Rattle.leap_laws.proofs.Computed.{published-6209, earlier, earlier-6209, even}
 use Rattle.leap_laws.proofs.Lists.{withPublished, publishedTo, earlierTo, withEven}
-use Rattle.clock.specs.Meaning.{Clock, elapsed, clock, time, inWindow, within, inForce, latest, lastCount, hasImage}
+use Rattle.clock.specs.Meaning.{Clock, elapsed, clock, time, inWindow, within, inForce, notLater, latest, lastCount, hasImage}
 use Rattle.clock_laws.proofs.Answers.{Dates}
 use Rattle.clock_laws.proofs.Desks.{Dating, Turning, dateBy, forcedBy, timedBy, atInstant, windowIgnored, receiptIgnored, WithoutReceipt, receiptInUtc, unknownCompared, unsigned, towardsZero, referenceOffset, expiredFirst, secondFirst, dateEnding, markedBy, ownCount, unmarked, refusalMarked, countBy, scaleIgnored, secondIgnored, plainAlone, carried, oneLate, forceFirst, scaleFirst, countEnding, evenly, byRefusal, byCount}
 use Rattle.goce.specs.Meaning.{inLimits, isOffset, reference, taiReference, accepted, clockOf, dateOf, obtOf}
@@ -28,7 +28,7 @@ use Rattle.goce_laws.proofs.NewYear.{newYear, eve, morning, tai, across
 use Rattle.ground_laws.proofs.Desks.{answered, empty, byNumber, markedAs, byMark, byMicro}
 
 -- ---- date: a wrong desk at a correlation
-abbrev dateOn : Dating → Correlation → ℕ → ℤ → ℕ → List ℤ → List ℕ → ℤ → Slip
+abbrev pub dateOn : Dating → Correlation → ℕ → ℤ → ℕ → List ℤ → List ℕ → ℤ → Slip
 dateOn desk c t d u ds os e = cond (ltb t (2 ^ 48)) (desk (accepted c) (clockOf c ds os) t d u ds os e) (empty 3 S.Utc)
 
 -- each term rounded by itself: 45 and 45 microseconds are 90, and 91.55 is 91
@@ -51,7 +51,7 @@ rounded-towards-zero = shut (rw published) (rw published) (byMicro (λ e. omega 
 -- the elapsed count from 0 to 2^48 - 1: the count before OBT0 is refused
 pub count-unsigned :
     ShutOut (withPublished (dateOf (zero 10) 281474976710655 (pos 0) 0)) (markedAs (M.Correlated 0) S.Utc (negsuc 0) 86399999984)
-    (withPublished (dateOn (dateBy inForce unsigned time atInstant) (zero 10) 281474976710655 (pos 0) 0)) (empty 8 S.Utc)
+    (withPublished (dateOn (dateBy inForce notLater unsigned time atInstant) (zero 10) 281474976710655 (pos 0) 0)) (empty 8 S.Utc)
 unfolding dateOf accepted clock inWindow within through isStep
 count-unsigned = shut (rw published) (rw published) (byNumber (λ e. omega arith))
 
@@ -61,8 +61,8 @@ cut c (pos k) = floorZ (c .start +ℤ pos (k * c .gain % 2 ^ 64)) (c .per)
 cut c (negsuc k) = floorZ (c .start -ℤ pos (suc k * c .gain % 2 ^ 64)) (c .per)
 
 pub product-cut :
-    ShutOut (withPublished (dateOf (zero 68719476736) 68719476736 (pos 0) 0)) (markedAs (M.Correlated 0) S.Utc (pos 12) 11776000000)
-    (withPublished (dateOn (timedBy cut) (zero 68719476736) 68719476736 (pos 0) 0)) (markedAs (M.Correlated 0) S.Utc (pos 2) 31351069868)
+    ShutOut (withPublished (dateOf (zero 68719476736) 68719476736 (pos 12) 11776000000)) (markedAs (M.Correlated 0) S.Utc (pos 12) 11776000000)
+    (withPublished (dateOn (timedBy cut) (zero 68719476736) 68719476736 (pos 12) 11776000000)) (markedAs (M.Correlated 0) S.Utc (pos 2) 31351069868)
 unfolding dateOf accepted clock inWindow within through isStep
 product-cut = shut (rw published) (rw published) (byMicro (λ e. omega arith))
 
@@ -72,11 +72,11 @@ signLost c =
     record { obt0 = c .obt0; utc0 = c .utc0; offset = pos (natAbs (c .offset)); gradient = c .gradient; back = c .back; ahead = c .ahead }
 
 abbrev offsetUnsigned : Correlation → ℕ → ℤ → ℕ → List ℤ → List ℕ → ℤ → Slip
-offsetUnsigned c t d u ds os e = dateBy inForce elapsed time atInstant (accepted c) (clockOf (signLost c) ds os) t d u ds os e
+offsetUnsigned c t d u ds os e = dateBy inForce notLater elapsed time atInstant (accepted c) (clockOf (signLost c) ds os) t d u ds os e
 
 pub offset-unsigned :
-    ShutOut (withPublished (dateOf (moved 0 0 (negsuc 65535) 131072) 0 (pos 0) 0)) (markedAs (M.Correlated 0) S.Utc (negsuc 0) 86399000000)
-    (withPublished (offsetUnsigned (moved 0 0 (negsuc 65535) 131072) 0 (pos 0) 0)) (markedAs (M.Correlated 0) S.Utc (pos 0) 1000000)
+    ShutOut (withPublished (dateOf (moved 0 0 (negsuc 65535) 131072) 0 (pos 0) 1000000)) (markedAs (M.Correlated 0) S.Utc (negsuc 0) 86399000000)
+    (withPublished (offsetUnsigned (moved 0 0 (negsuc 65535) 131072) 0 (pos 0) 1000000)) (markedAs (M.Correlated 0) S.Utc (pos 0) 1000000)
 unfolding dateOf accepted clock inWindow within through isStep
 offset-unsigned = shut (rw published) (rw published) (byMicro (λ e. omega arith))
 
@@ -86,18 +86,18 @@ onWhole c k =
     floorZ (c .start +ℤ (pos (c .reference) +ℤ k) *ℤ pos (c .gain) -ℤ pos (c .reference * 1000000000)) (c .per)
 
 abbrev fast : Correlation
-fast = record { obt0 = 65536; utc0 = 0; offset = pos 0; gradient = 1001000000; back = 0; ahead = 0 }
+fast = record { obt0 = 65536; utc0 = 0; offset = pos 0; gradient = 1001000000; back = 0; ahead = 100 }
 
 pub gradient-on-whole :
-    ShutOut (withPublished (dateOf fast 65536 (pos 0) 0)) (markedAs (M.Correlated 65536) S.Utc (pos 0) 0)
-    (withPublished (dateOn (timedBy onWhole) fast 65536 (pos 0) 0)) (markedAs (M.Correlated 65536) S.Utc (pos 0) 1000)
+    ShutOut (withPublished (dateOf fast 65536 (pos 0) 1000)) (markedAs (M.Correlated 65536) S.Utc (pos 0) 0)
+    (withPublished (dateOn (timedBy onWhole) fast 65536 (pos 0) 1000)) (markedAs (M.Correlated 65536) S.Utc (pos 0) 1000)
 unfolding dateOf accepted clock inWindow within through isStep
 gradient-on-whole = shut (rw published) (rw published) (byMicro (λ e. omega arith))
 
--- the window ignored: the count after the only one of the window is dated
+-- the window ignored: the count before the only one of the window is dated
 pub window-ignored :
-    ShutOut (withPublished (dateOf (zero 0) 1 (pos 0) 0)) (empty 8 S.Utc)
-    (withPublished (dateOn (forcedBy windowIgnored) (zero 0) 1 (pos 0) 0)) (markedAs (M.Correlated 0) S.Utc (pos 0) 15)
+    ShutOut (withPublished (dateOf (zero 0) 281474976710655 (pos 0) 0)) (empty 8 S.Utc)
+    (withPublished (dateOn (forcedBy windowIgnored) (zero 0) 281474976710655 (pos 0) 0)) (markedAs (M.Correlated 0) S.Utc (negsuc 0) 86399999984)
 unfolding dateOf accepted clock inWindow within through isStep
 window-ignored = shut (rw published) (rw published) (byNumber (λ e. omega arith))
 
@@ -120,7 +120,7 @@ receipt-untold = (
 
 -- a reference past the span's end accepted: UTC0 at the beginning of day 36525 is told to be expired
 abbrev spanIgnored : Correlation → ℕ → ℤ → ℕ → List ℤ → List ℕ → ℤ → Slip
-spanIgnored c t d u ds os e = dateBy inForce elapsed time atInstant (inLimits c && isOffset (c .offset)) (clockOf c ds os) t d u ds os e
+spanIgnored c t d u ds os e = dateBy inForce notLater elapsed time atInstant (inLimits c && isOffset (c .offset)) (clockOf c ds os) t d u ds os e
 
 pub reference-past-span :
     ShutOut (withEven (dateOf (moved 1 206815887360000 (pos 0) 1) 0 (pos 36524) 86399999984)) (empty 6 S.Utc)
@@ -163,8 +163,8 @@ refusal-marked = shut (rw published) (rw published) (byMark (λ e. omega arith))
 -- ---- date, across the leap second
 -- days of 86,400 s: the first second of 2017 comes out a second late
 pub even-days :
-    ShutOut (withPublished (dateOf newYear 131079 (pos 6210) 0)) (markedAs (M.Correlated 7) S.Utc (pos 6210) 0)
-    (withPublished (evenly (dateOf newYear 131079 (pos 6210) 0))) (markedAs (M.Correlated 7) S.Utc (pos 6210) 1000000)
+    ShutOut (withPublished (dateOf newYear 131079 (pos 6210) 1000000)) (markedAs (M.Correlated 7) S.Utc (pos 6210) 0)
+    (withPublished (evenly (dateOf newYear 131079 (pos 6210) 1000000))) (markedAs (M.Correlated 7) S.Utc (pos 6210) 1000000)
 unfolding dateOf accepted clock inWindow within through isStep
 even-days = shut (rw published) (rw even) (byMicro (λ e. omega arith))
 
@@ -179,7 +179,7 @@ even-outgrown = (refl, differ placeOfMicros (λ e. omega arith))
 -- the reference's offset used for the result: second 60 comes out as the next day's first
 pub reference-offset :
     ShutOut (withPublished (dateOf newYear 65543 (pos 6209) 86400000000)) (markedAs (M.Correlated 7) S.Utc (pos 6209) 86400000000)
-    (withPublished (dateOn (dateBy inForce elapsed time referenceOffset) newYear 65543 (pos 6209) 86400000000)) (markedAs (M.Correlated 7) S.Utc (pos 6210) 0)
+    (withPublished (dateOn (dateBy inForce notLater elapsed time referenceOffset) newYear 65543 (pos 6209) 86400000000)) (markedAs (M.Correlated 7) S.Utc (pos 6210) 0)
 unfolding dateOf accepted clock inWindow within through isStep
 reference-offset = shut (rw published) (rw published) (byMicro (λ e. omega arith))
 
@@ -219,7 +219,7 @@ unfolding dateOf accepted clock inWindow within through isStep
 end-refused = shut (rw published-6209) (rw published-6209) (byNumber (λ e. omega arith))
 
 -- ---- count_of: the same
-abbrev countOn : Turning → Correlation → Handed → List ℤ → List ℕ → ℤ → Valued ℕ
+abbrev pub countOn : Turning → Correlation → Handed → List ℤ → List ℕ → ℤ → Valued ℕ
 countOn desk c h ds os e = valued 0 (desk (accepted c) (clockOf c ds os) h ds os e)
 
 -- the inverse one count late: the time of the reference gives the next count

@@ -9,7 +9,7 @@ use lib.Dec.{lit<, lit≤}
 use lib.IntN.{ℤ, pos, _+ℤ_}
 use lib.Signed.{leZ}
 use borrow.Author.Tests.{leb-false, lt-leb}
-use Rattle.axis.specs.Meaning.{placeOfDay, dayAt, microsAt, Moment, dayMicros}
+use Rattle.axis.specs.Meaning.{placeOfDay, dayAt, microsAt, Moment}
 use Rattle.axis.specs.Axis.{day-place}
 use Rattle.leap.specs.Meaning.{accepted, allLater, Extends, offsetOn, taiOf, hasMicro, isExpiredDay, isExpiredTai, utcOf, publishedDays, publishedOffsets, publishedLast}
 use Rattle.leap.specs.Published.{published}
@@ -17,7 +17,7 @@ use Rattle.leap.specs.Places.{tai-at}
 use Rattle.leap.specs.Steps.{steps}
 use Rattle.leap.specs.Back.{Real, back}
 use Rattle.leap.specs.Whole.{taiAt, known-before}
-use Rattle.via_tai.specs.Ways.{expires}
+use Rattle.via_tai.specs.Ways.{has-sixty, expires}
 use Rattle.leap_laws.proofs.Computed.{earlierDays, earlierOffsets, earlierLast, earlier, step-more}
 use Rattle.leap_laws.proofs.Fresh.{same-offset, day-by, day-current, same-second, count-current, same-utc}
 
@@ -72,9 +72,9 @@ step-follows = record { old = earlier; fresh = published; extends = step-more }
 pub step-keeps : Kept earlierDays earlierOffsets earlierLast publishedDays publishedOffsets publishedLast
 step-keeps = kept earlierDays earlierOffsets earlierLast publishedDays publishedOffsets publishedLast step-follows
 
--- ---- before second 60 of a day of the span that is not expired: the TAI is not expired either, and leads back
+-- ---- a time of the span that is not expired, and whose second is there: its TAI is not expired either, and leads back
 module _ (ds : List ℤ) (os : List ℕ) (e : ℤ) (w : accepted ds os e ≡ true) (d : ℤ) (u : ℕ) (from : 29773 ≤ placeOfDay d) (h : isExpiredDay e d ≡ false)
-    (under : u < dayMicros) where
+    (under : u < 86401000000) (second : hasMicro ds d u ≡ true) where
   by : placeOfDay d ≤ placeOfDay e
   by = day-by ds os e w d h
 
@@ -82,7 +82,12 @@ module _ (ds : List ℤ) (os : List ℕ) (e : ℤ) (w : accepted ds os e ≡ tru
   day = day-place d (omega (arith, from)) (omega (arith, by, steps ds os e w .to))
 
   real : Real ds (placeOfDay d) u
-  real = record { from = from; under = omega (arith, under); has = λ l. absurd (omega (arith, under)) }
+  real =
+      record {
+        from = from;
+        under = under;
+        has = λ l. has-sixty ds (placeOfDay d) u l ∙ ap (λ (z : ℤ). hasMicro ds z u) day ∙ second;
+      }
 
   tai-is : taiOf ds os d u ≡ microsAt (taiAt ds os (placeOfDay d) u)
   tai-is = ap (λ (z : ℤ). taiOf ds os z u) (sym day) ∙ tai-at ds os (placeOfDay d) u
@@ -98,4 +103,4 @@ module _ (ds : List ℤ) (os : List ℕ) (e : ℤ) (w : accepted ds os e ≡ tru
 
 -- midnight of day 6001 under the published list: its TAI, 36 s later, is day 6001, 0
 pub back-instance : utcOf publishedDays publishedOffsets (taiOf publishedDays publishedOffsets (pos 6001) 0) ≡ record { day = pos 6001; micro = 0 }
-back-instance = utc-back publishedDays publishedOffsets publishedLast published (pos 6001) 0 (lit≤ tt) refl (lit< tt)
+back-instance = utc-back publishedDays publishedOffsets publishedLast published (pos 6001) 0 (lit≤ tt) refl (lit< tt) refl

@@ -17,7 +17,7 @@ use Rattle.octets.specs.Meaning.{number}
 use Rattle.layout_times.specs.Cuc as Cuc
 use Rattle.layout_times.specs.Proteus as Proteus
 use Rattle.layout_times.specs.Siral as Siral
-use Rattle.marked.specs.Table.{Row, table}
+use Rattle.marked.specs.Table.{Row, table, received}
 
 -- the list is judged once for each last day
 early : L.accepted publishedDays publishedOffsets (pos 6209) ≡ true
@@ -27,6 +27,10 @@ early = refl
 pub marked : map (λ (r : Row). r .meaning) table ≡ map (λ (r : Row). r .paper) table
 unfolding number Cuc.read Proteus.read Siral.read readOf dateOf accepted inWindow within clock changeOf through isStep
 marked = rw (published, early)
+
+pub by-receipt : map (λ (r : Row). r .meaning) received ≡ map (λ (r : Row). r .paper) received
+unfolding dateOf accepted inWindow within clock through isStep
+by-receipt = rw published
 
 -- ---- no case is left out: a case's rows stand together, and a number beside the same one is a repeat
 abbrev pub withoutRepeats : List ℕ → List ℕ

@@ -138,3 +138,16 @@ table =
     ++ (inEachScale atReference
     ++ (inEachScale nextTick
     ++ inEachScale decimalCase)))))
+
+-- ---- beside the table, case 8 by its receipt: "Marked case 8 keeps its answers if received at or after the result". At 1,003,906 tick 0 is
+-- answered, a microsecond before and at the reference it is 17; FFFFFFFE is answered at the reference
+abbrev pub receivedRows : Scale → List Row
+receivedRows s =
+    forward s
+    ∷ record { case = 8; meaning = datedBy (correlated s 4294967295 10) 0 1003905; paper = refusedBy 17 s }
+    ∷ record { case = 8; meaning = datedBy (correlated s 4294967295 10) 0 1000000; paper = refusedBy 17 s }
+    ∷ backward s
+    ∷ []
+
+abbrev pub received : List Row
+received = receivedRows S.Tai ++ (receivedRows S.Utc ++ receivedRows S.Gps)

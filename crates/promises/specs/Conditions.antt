@@ -7,7 +7,7 @@ use lib.Dec.{eqb, leb, ltb}
 use lib.IntN.{ℤ, pos, negsuc}
 use lib.Ieee.{Float}
 use lib.ListN.{length}
-use lib.Signed.{leZ}
+use lib.Signed.{ltZ, leZ}
 use Rattle.axis.specs.Meaning.{Moment, dayMicros, since}
 use Rattle.scales.specs.Meaning.{inSpan, sameScale, first, last}
 use Rattle.scales.specs.declared.Scale.{Scale}
@@ -210,6 +210,10 @@ hasCount c h = sameScale (scaleOf h) (c .scale)
 
 abbrev pub notCovered : Clock → Handed → List ℤ → List ℕ → ℤ → Bool
 notCovered c h ds os e = hasCount c h && uncovered c (momentIn h) ds os e
+
+-- ---- "17 result later than receipt": "compared in TAI, once both are known there"
+abbrev pub resultLater : Clock → ℕ → Moment → List ℤ → List ℕ → ℤ → Bool
+resultLater c t m ds os e = bothInTai c m ds e && ltZ (instant (c .scale) ds os (m .day) (m .micro)) (time c (elapsed c t))
 
 -- ---- "9 leap list expired", where one is used
 abbrev pub dayExpired : Bool → ℤ → Moment → Bool

@@ -6,7 +6,9 @@ use mathlib.Core.List.{List, [], _∷_, _++_}
 use Prim.Native.Nat.{ℕ}
 use lib.IntN.{ℤ, _+ℤ_}
 use lib.ListN.{length}
+use lib.Signed.{ltZ}
 use Rattle.axis.specs.Meaning.{Moment, since}
+use Rattle.axis.specs.Diff.{le-not}
 use Rattle.scales.specs.Meaning.{Judged, gives, sameScale, inSpan, momentAt}
 use Rattle.scales.specs.declared.Scale.{Scale}
 use Rattle.scales.specs.declared.Scale.the-variants as S
@@ -116,35 +118,37 @@ module _ (ds : List ℤ) (os : List ℕ) (e : ℤ) where
       ∙ ap (λ (n : ℕ). Rows.asked z ds os e (C.timeOutside h) m ++ ((12, C.noText f h) ∷ (13, C.outputShorter n out) ∷ [])) (image-length f z m))
 
 -- ---- a correlated counter: u says whether a list is used, a and b whether the days of reference and time are expired, x whether the
--- time's second is there, z whether the result is expired
-date-tests : (u l k s w a b x z v r : Bool) →
+-- time's second is there, y whether the result is later than the receipt, z whether it is expired
+date-tests : (u l k s w a b x y z v r : Bool) →
     _≡_ {A = List (ℕ × Bool)}
     ((5, not (not u || l)) ∷ (6, not k) ∷ (7, not s)
     ∷ (8, not (w && cond ((not u || not a) && ((not u || not b) && (not u || x))) v true))
+    ∷ (17, not (cond ((not u || not a) && ((not u || not b) && (not u || x))) (not y) true))
     ∷ (9, not ((not u || not a) && ((not u || not b) && (not u || not z)))) ∷ (10, not (not u || x)) ∷ (11, not r) ∷ [])
     ((5, u && not l) ∷ (6, not k) ∷ (7, not s)
     ∷ (8, not w || ((not (u && a) && (not (u && b) && not (u && not x))) && not v))
+    ∷ (17, (not (u && a) && (not (u && b) && not (u && not x))) && y)
     ∷ (9, (u && a) || ((u && b) || (u && z))) ∷ (10, u && not x) ∷ (11, not r) ∷ [])
-date-tests false l k s true a b x z v r = refl
-date-tests false l k s false a b x z v r = refl
-date-tests true l k s true true b x z v r = refl
-date-tests true l k s false true b x z v r = refl
-date-tests true l k s true false true x z v r = refl
-date-tests true l k s false false true x z v r = refl
-date-tests true l k s true false false true true v r = refl
-date-tests true l k s true false false true false v r = refl
-date-tests true l k s true false false false true v r = refl
-date-tests true l k s true false false false false v r = refl
-date-tests true l k s false false false x true v r = refl
-date-tests true l k s false false false x false v r = refl
+date-tests false l k s true a b x y z v r = rw (not-not y)
+date-tests false l k s false a b x y z v r = rw (not-not y)
+date-tests true l k s true true b x y z v r = refl
+date-tests true l k s false true b x y z v r = refl
+date-tests true l k s true false true x y z v r = refl
+date-tests true l k s false false true x y z v r = refl
+date-tests true l k s true false false true y z v r = rw (not-not y, not-not z)
+date-tests true l k s true false false false y z v r = rw (not-not z)
+date-tests true l k s false false false true y z v r = rw (not-not y, not-not z)
+date-tests true l k s false false false false y z v r = rw (not-not z)
 
 pub dating-rows : (accepted : Bool) (c : Clock.Clock) (t : ℕ) (d : ℤ) (u : ℕ) (ds : List ℤ) (os : List ℕ) (e : ℤ)
     → tests (Clock.dating accepted c t d u ds os e) ≡ Rows.dating (not accepted) c t d u ds os e
 dating-rows k c t d u ds os e =
     let z = Clock.time c (Clock.elapsed c t) in
     let m = Clock.momentAfter (c .scale) ds os z in
-    date-tests (isUtc (c .scale)) (accepted ds os e) k (inSpan (c .scale) d u) (Clock.inWindow c (Clock.elapsed c t)) (isExpiredDay e (c .day)) (isExpiredDay e d)
-    (hasMicro ds d u) (isExpiredTai ds os e z) (Clock.covers c (Clock.instant (c .scale) ds os d u)) (inSpan (c .scale) (m .day) (m .micro))
+    let i = Clock.instant (c .scale) ds os d u in
+    rw (le-not z i)
+    (date-tests (isUtc (c .scale)) (accepted ds os e) k (inSpan (c .scale) d u) (Clock.inWindow c (Clock.elapsed c t)) (isExpiredDay e (c .day)) (isExpiredDay e d)
+    (hasMicro ds d u) (ltZ i z) (isExpiredTai ds os e z) (Clock.covers c i) (inSpan (c .scale) (m .day) (m .micro)))
 
 -- back to a count: i says whether the time is of the clock's scale
 count-tests : (f u l k s i a b x v : Bool) →

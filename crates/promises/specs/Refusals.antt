@@ -44,13 +44,13 @@ decimal-read x c = refl
 pub decimal-write : (h : VrkHanded) (r : VrkDecimal) (q : CApi.DecimalWrote h r) → refusals (rowsAllowed (OneForC.decimal-write h r q)) ≡ 3 ∷ 4 ∷ 7 ∷ 12 ∷ []
 decimal-write h r q = refl
 
-pub sbt-date : (t : ℕ) (c : VrkSbtCorrelation) (d : ℤ) (u : ℕ) (ds : List ℤ) (os : List ℕ) (e : ℤ) → refusals (rowsOf (OneForC.sbt-date t c d u ds os e)) ≡ 5 ∷ 6 ∷ 7 ∷ 8 ∷ 9 ∷ 10 ∷ 11 ∷ []
+pub sbt-date : (t : ℕ) (c : VrkSbtCorrelation) (d : ℤ) (u : ℕ) (ds : List ℤ) (os : List ℕ) (e : ℤ) → refusals (rowsOf (OneForC.sbt-date t c d u ds os e)) ≡ 5 ∷ 6 ∷ 7 ∷ 8 ∷ 17 ∷ 9 ∷ 10 ∷ 11 ∷ []
 sbt-date t c d u ds os e = refl
 
 pub sbt-tick : (h : VrkHanded) (c : VrkSbtCorrelation) (ds : List ℤ) (os : List ℕ) (e : ℤ) → refusals (rowsOf (OneForC.sbt-tick h c ds os e)) ≡ 3 ∷ 4 ∷ 5 ∷ 6 ∷ 7 ∷ 8 ∷ 9 ∷ 10 ∷ 12 ∷ []
 sbt-tick h c ds os e = refl
 
-pub goce-date : (t : ℕ) (c : VrkGoceCorrelation) (d : ℤ) (u : ℕ) (ds : List ℤ) (os : List ℕ) (e : ℤ) → refusals (rowsOf (OneForC.goce-date t c d u ds os e)) ≡ 3 ∷ 5 ∷ 6 ∷ 7 ∷ 8 ∷ 9 ∷ 10 ∷ 11 ∷ []
+pub goce-date : (t : ℕ) (c : VrkGoceCorrelation) (d : ℤ) (u : ℕ) (ds : List ℤ) (os : List ℕ) (e : ℤ) → refusals (rowsOf (OneForC.goce-date t c d u ds os e)) ≡ 3 ∷ 5 ∷ 6 ∷ 7 ∷ 8 ∷ 17 ∷ 9 ∷ 10 ∷ 11 ∷ []
 goce-date t c d u ds os e = refl
 
 pub goce-count : (h : VrkHanded) (c : VrkGoceCorrelation) (ds : List ℤ) (os : List ℕ) (e : ℤ) → refusals (rowsOf (OneForC.goce-count h c ds os e)) ≡ 3 ∷ 4 ∷ 5 ∷ 6 ∷ 7 ∷ 8 ∷ 9 ∷ 10 ∷ 12 ∷ []

@@ -113,6 +113,7 @@ dating none c t d u ds os e =
     ∷ (6, none)
     ∷ (7, C.receiptOutside c m)
     ∷ (8, C.notInForce c t m ds os e)
+    ∷ (17, C.resultLater c t m ds os e)
     ∷ (9, C.dateExpired c t m ds os e)
     ∷ (10, C.secondLacking (isUtc (c .scale)) ds m)
     ∷ (11, C.resultOutside (c .scale) (momentAfter (c .scale) ds os (time c (elapsed c t))))

@@ -67,21 +67,27 @@ pub night : date autumn 4078800897 (pos 3356) 9600000000 ≡ refused 8
 unfolding accepted clock inWindow within
 night = refl
 
--- ---- each refusal, where the next would be due too: in dating 6 before 7, 7 before 8, the next tick after the last microsecond of the
--- span; and back 4 before 6, 6 before 7, 7 before 12, 8, and 12 for a UTC time
+-- ---- each refusal, where the next would be due too: in dating 6 before 7, 7 before 8, 8 of a tick outside the window before 17, 17 of the
+-- next tick after the last microsecond of the span before 11, which is left before its first day; and back 4 before 6, 6 before 7, 7 before
+-- 12, 8, and 12 for a UTC time
 abbrev slow : Correlation
 slow = record { tick = record { 0 = 7 }; scale = S.Tai; day = pos 0; micro = 0; period = 3906500001; back = 10; ahead = 10 }
 
-abbrev end : Correlation
+abbrev pub end : Correlation
 end = record { tick = record { 0 = 7 }; scale = S.Tai; day = pos 36524; micro = 86399999999; period = 3906250000; back = 0; ahead = 1 }
+
+abbrev pub begin : Correlation
+begin = record { tick = record { 0 = 7 }; scale = S.Tai; day = negsuc 10226; micro = 0; period = 3906250000; back = 1; ahead = 0 }
 
 pub dating-refusals :
     (date slow 7 (pos 36525) 0 ≡ refused 6)
     × (date (marked 0) 7 (pos 36525) 0 ≡ refused 7)
     × (date (marked 0) 7 (pos 0) 86400000000 ≡ refused 7)
-    × (date end 8 (pos 36524) 86399999999 ≡ refused 11)
+    × (date (marked 0) 0 (pos 0) 0 ≡ refused 8)
+    × (date end 8 (pos 36524) 86399999999 ≡ refused 17)
+    × (date begin 6 (negsuc 10226) 0 ≡ refused 11)
 unfolding accepted clock inWindow within
-dating-refusals = (refl, refl, refl, refl)
+dating-refusals = (refl, refl, refl, refl, refl, refl)
 
 pub turning-refusals :
     (turn slow (H.Decimal nan S.Tai) ≡ refused 4)

@@ -9,4 +9,6 @@ pub mod Night
 pub mod Marks
 pub mod Cases
 pub mod NewYear
+pub mod Later
 pub mod Wrong
+pub mod LaterWrong

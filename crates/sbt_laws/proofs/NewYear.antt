@@ -57,8 +57,8 @@ unfolding accepted clock inWindow within latest through isStep
 back-across = (rw published, rw published, rw published, rw published-6209)
 
 -- ---- each refusal of a date, where the next would be due too: 5 before 6 before 7 before 8; 8 of a tick outside the window, the receipt
--- expired, and of a receipt outside the cover, the result expired; 9 of the reference, the receipt and the result before 10 before 11, which
--- is left before 1972 alone: past the span's end it is 9
+-- expired, and of a receipt outside the cover, the result later and expired; 17 of a result that is expired; 9 of the reference, the receipt
+-- and the result before 10 before 11, which is left before 1972 alone: past the span's end it is 17
 abbrev slow : Correlation
 slow = utcAt (pos 6209) 86399000000 3906500001
 
@@ -74,17 +74,19 @@ pub dating-refusals :
     × (outcome (withPublished (dating newYear 3000 (pos 6209) 86401000000)) ≡ refused 7)
     × (outcome (publishedTo (pos 6209) (dating newYear 3000 (pos 6210) 0)) ≡ refused 8)
     × (outcome (publishedTo (pos 6209) (dating newYear 519 (pos 6209) 0)) ≡ refused 8)
+    × (outcome (publishedTo (pos 6209) (dating newYear 519 (pos 6209) 86400999999)) ≡ refused 17)
     × (outcome (earlierTo (pos 6000) (dating newYear 7 (pos 5000) 86400000000)) ≡ refused 9)
     × (outcome (publishedTo (pos 6209) (dating newYear 7 (pos 6210) 86400000000)) ≡ refused 9)
     × (outcome (earlierTo (pos 6209) (dating newYear 263 (pos 6209) 86400000000)) ≡ refused 9)
     × (outcome (withPublished (dating first 6 (negsuc 10226) 86400000000)) ≡ refused 10)
     × (outcome (withPublished (dating first 6 (negsuc 10226) 0)) ≡ refused 11)
-    × (outcome (withEven (dating last 8 (pos 36524) 86399999999)) ≡ refused 9)
+    × (outcome (withEven (dating last 8 (pos 36524) 86399999999)) ≡ refused 17)
 unfolding accepted clock inWindow within through isStep
 dating-refusals = (
   rw none,
   rw published,
   rw published,
+  rw published-6209,
   rw published-6209,
   rw published-6209,
   rw earlier,

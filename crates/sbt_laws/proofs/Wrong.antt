@@ -16,7 +16,7 @@ use Rattle.leap.specs.Meaning.{through, isStep, publishedDays, publishedOffsets
 use Rattle.leap.specs.Published.{published}
 use Rattle.leap_laws.proofs.Computed.{published-6209, earlier, earlier-6209, even}
 use Rattle.leap_laws.proofs.Lists.{withPublished, publishedTo, earlierTo, withNone, none}
-use Rattle.clock.specs.Meaning.{instant, elapsed, clock, time, inWindow, within, inForce, latest, lastCount}
+use Rattle.clock.specs.Meaning.{instant, elapsed, clock, time, inWindow, within, inForce, notLater, latest, lastCount}
 use Rattle.clock_laws.proofs.Answers.{Dates}
 use Rattle.clock_laws.proofs.Desks.{Dating, Turning, dateBy, forcedBy, timedBy, atInstant, windowIgnored, receiptIgnored, WithoutReceipt, swapped, receiptInUtc, unknownCompared, unsigned, towardsZero, referenceOffset, expiredFirst, secondFirst, dateEnding, dateListed, markedBy, ownCount, unmarked, refusalMarked, countBy, scaleIgnored, secondIgnored, plainAlone, carried, forceFirst, scaleFirst, countEnding, countListed, evenly, byRefusal, byCount}
 use Rattle.sbt.specs.Meaning.{accepted, clockOf, dateOf, tickOf}
@@ -26,13 +26,13 @@ use Rattle.sbt_laws.proofs.NewYear.{newYear, utc}
 use Rattle.ground_laws.proofs.Desks.{answered, empty, byNumber, markedAs, byMark, byMicro}
 
 -- ---- date: a wrong desk at a correlation
-abbrev dateOn : Dating → Correlation → ℕ → ℤ → ℕ → List ℤ → List ℕ → ℤ → Slip
+abbrev pub dateOn : Dating → Correlation → ℕ → ℤ → ℕ → List ℤ → List ℕ → ℤ → Slip
 dateOn desk c t d u ds os e = desk (accepted c) (clockOf c ds os) t d u ds os e
 
--- the window ignored: marked case 9's next tick is dated
+-- the window ignored: where it is the reference alone, the tick before is dated
 pub window-ignored :
-    ShutOut (withNone (dateOf (marked 0) 0 (pos 0) 0)) (empty 8 S.Tai)
-    (withNone (dateOn (forcedBy windowIgnored) (marked 0) 0 (pos 0) 0)) (markedAs (M.Correlated 4294967295) S.Tai (pos 0) 3906)
+    ShutOut (withNone (dateOf (marked 0) 4294967294 (pos 0) 0)) (empty 8 S.Tai)
+    (withNone (dateOn (forcedBy windowIgnored) (marked 0) 4294967294 (pos 0) 0)) (markedAs (M.Correlated 4294967295) S.Tai (negsuc 0) 86399996093)
 unfolding dateOf accepted clock inWindow within
 window-ignored = (refl, refl, byNumber (λ e. omega arith))
 
@@ -56,7 +56,7 @@ receipt-untold = (
 -- the elapsed count from 0 to 2^32 - 1: the tick before the reference is refused
 pub count-unsigned :
     ShutOut (withNone (dateOf (marked 10) 4294967294 (pos 0) 0)) (markedAs (M.Correlated 4294967295) S.Tai (negsuc 0) 86399996093)
-    (withNone (dateOn (dateBy inForce unsigned time atInstant) (marked 10) 4294967294 (pos 0) 0)) (empty 8 S.Tai)
+    (withNone (dateOn (dateBy inForce notLater unsigned time atInstant) (marked 10) 4294967294 (pos 0) 0)) (empty 8 S.Tai)
 unfolding dateOf accepted clock inWindow within
 count-unsigned = (refl, refl, byNumber (λ e. omega arith))
 
@@ -109,8 +109,8 @@ refusal-marked = (refl, refl, byMark (λ e. omega arith))
 -- ---- date, under UTC
 -- days of 86,400 s: the first second of 2017 comes out a second late
 pub even-days :
-    ShutOut (withPublished (dateOf newYear 519 (pos 6210) 0)) (markedAs (M.Correlated 7) S.Utc (pos 6210) 0)
-    (withPublished (evenly (dateOf newYear 519 (pos 6210) 0))) (markedAs (M.Correlated 7) S.Utc (pos 6210) 1000000)
+    ShutOut (withPublished (dateOf newYear 519 (pos 6210) 1000000)) (markedAs (M.Correlated 7) S.Utc (pos 6210) 0)
+    (withPublished (evenly (dateOf newYear 519 (pos 6210) 1000000))) (markedAs (M.Correlated 7) S.Utc (pos 6210) 1000000)
 unfolding dateOf accepted clock inWindow within through isStep
 even-days = shut (rw published) (rw even) (byMicro (λ e. omega arith))
 
@@ -125,7 +125,7 @@ even-outgrown = (refl, differ placeOfMicros (λ e. omega arith))
 -- the reference's offset used for the result: second 60 comes out as the next day's first
 pub reference-offset :
     ShutOut (withPublished (dateOf newYear 263 (pos 6209) 86400000000)) (markedAs (M.Correlated 7) S.Utc (pos 6209) 86400000000)
-    (withPublished (dateOn (dateBy inForce elapsed time referenceOffset) newYear 263 (pos 6209) 86400000000)) (markedAs (M.Correlated 7) S.Utc (pos 6210) 0)
+    (withPublished (dateOn (dateBy inForce notLater elapsed time referenceOffset) newYear 263 (pos 6209) 86400000000)) (markedAs (M.Correlated 7) S.Utc (pos 6210) 0)
 unfolding dateOf accepted clock inWindow within through isStep
 reference-offset = shut (rw published) (rw published) (byMicro (λ e. omega arith))
 
@@ -165,7 +165,7 @@ unfolding dateOf accepted clock inWindow within through isStep
 end-refused = shut (rw published-6209) (rw published-6209) (byNumber (λ e. omega arith))
 
 -- ---- tick_of: the same
-abbrev tickOn : Turning → Correlation → Handed → List ℤ → List ℕ → ℤ → Valued ℕ
+abbrev pub tickOn : Turning → Correlation → Handed → List ℤ → List ℕ → ℤ → Valued ℕ
 tickOn desk c h ds os e = valued 0 (desk (accepted c) (clockOf c ds os) h ds os e)
 
 -- a time of another scale taken as the correlation's

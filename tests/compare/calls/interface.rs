@@ -98,6 +98,7 @@ pub mod refusal {
     pub const OUTSIDE_SPAN: u64 = 7;
     pub const NO_ENTRY: u64 = 15;
     pub const NOT_IN_FORCE: u64 = 8;
+    pub const RESULT_LATER: u64 = 17;
     pub const LIST_EXPIRED: u64 = 9;
     pub const SECOND_LACKING: u64 = 10;
     pub const RESULT_OUTSIDE: u64 = 11;
@@ -210,7 +211,7 @@ pub const SHAPES: &[Shape] = &[
         takes: &[numbers("obt", &[("obt", 8)]), numbers("correlation", &[("obt0", 8), ("utc0", 8), ("offset", 8), ("gradient", 8), ("back", 8), ("ahead", 8)]), numbers("receipt_day", &[("receipt_day", 8)]), numbers("receipt_micro", &[("receipt_micro", 8)]), given("days", 8), given("offsets", 8), numbers("last", &[("last", 8)])],
         gives: &["refusal", "scale", "day", "micro", "mark", "source"],
         image: None,
-        refuses: &[3, 5, 6, 7, 8, 9, 10, 11],
+        refuses: &[3, 5, 6, 7, 8, 17, 9, 10, 11],
     },
     Shape {
         name: "goce_count",
@@ -238,7 +239,7 @@ pub const SHAPES: &[Shape] = &[
         takes: &[numbers("tick", &[("tick", 4)]), numbers("correlation", &[("tick", 4), ("scale", 4), ("day", 8), ("micro", 8), ("period", 8), ("back", 8), ("ahead", 8)]), numbers("receipt_day", &[("receipt_day", 8)]), numbers("receipt_micro", &[("receipt_micro", 8)]), given("days", 8), given("offsets", 8), numbers("last", &[("last", 8)])],
         gives: &["refusal", "scale", "day", "micro", "mark", "source"],
         image: None,
-        refuses: &[5, 6, 7, 8, 9, 10, 11],
+        refuses: &[5, 6, 7, 8, 17, 9, 10, 11],
     },
     Shape {
         name: "sbt_tick",

@@ -3,7 +3,7 @@ use mathlib.Core.Path.{_≡_, ap, sym, _∙_}
 use lib.IntN.{ℤ}
 use mir.Facts.{toZ-ofZ}
 use borrow.Author.Tests.{not-true, not-false}
-use Rattle.clock.specs.Dating.{own-7, own-out, own-8, own-at}
+use Rattle.clock.specs.Dating.{own-7, own-out, own-8, own-17, own-at}
 use Rattle.clock.specs.Stage.{placeIn}
 use Rattle.clock.specs.declared.inner.Place.the-variants as P
 use borrow.Author.Needs.{needs}
@@ -44,13 +44,24 @@ returns-3 c =
 
 returns-4 : tie.Need-returns-4
 returns-4 c =
-    let v = c .before .before in
+    let f = c .before .before in
+    let v = f .before in
+    let e = v .before .before in
+    let k = e .before .before in
+    let a = entry k .args in
+    own-17 (a .scale) (a .k .inside) (a .k .ends) (a .k .at) (a .receipt-day) (a .receipt-micro) (k .before .w .given .0 .0) (known-w k) (not-false _ (e .if1 .left))
+    (sym (v .covers .ensures) ∙ not-false _ (f .if2 .left)) (c .if3 .taken)
+
+returns-5 : tie.Need-returns-5
+returns-5 c =
+    let f = c .before .before .before in
+    let v = f .before in
     let e = v .before .before in
     let k = e .before .before in
     let a = entry k .args in
     c .record-at .ensures
     ∙ own-at (a .scale) (a .k .inside) (a .k .ends) (a .k .at) (a .receipt-day) (a .receipt-micro) (k .before .w .given .0 .0) (known-w k) (not-false _ (e .if1 .left))
-    (sym (v .covers .ensures) ∙ not-false _ (c .before .if2 .left))
+    (sym (v .covers .ensures) ∙ not-false _ (f .if2 .left)) (c .before .if3 .left)
 
 pub date-spec : {M : Type 1} → statement M
 date-spec =
@@ -63,5 +74,6 @@ date-spec =
     returns-2
     (λ c κs. search needs)
     returns-3
+    returns-4
     (λ c κs. search needs)
-    returns-4)
+    returns-5)

@@ -13,7 +13,7 @@ use Rattle.scales.specs.declared.Scale.the-variants as S
 use Rattle.scales.specs.declared.Utc.{Utc}
 use Rattle.via_tai.specs.Meaning.{toUtc}
 use Rattle.via_tai.specs.Ways.{counted}
-use Rattle.clock.specs.Dating.{date-7, date-out, date-stale, date-8, date-at, date-lacks}
+use Rattle.clock.specs.Dating.{date-7, date-out, date-stale, date-8, date-17, date-at, date-lacks}
 use Rattle.clock.specs.Stage.{placing, lackingAt, left-placing}
 use borrow.Author.Needs.{needs}
 use Rattle.clock.proofs.inner.date_by_list.Statement.{statement}
@@ -101,7 +101,20 @@ lacking c = ap counted (sym (c .f .given .1)) ∙ placed (c .before .before)
 
 returns-5 : tie.Need-returns-5
 returns-5 c =
-    let z = c .before .before in
+    let z = c .before .before .before in
+    let v = z .before in
+    let w = v .before .before .before in
+    let e = w .before .before .before in
+    let k = told e in
+    let a = entry (made k) .args in
+    date-17 (a .current) (a .k .inside) (a .k .ends) (a .k .at) (a .receipt-day) (a .receipt-micro) (a .days .now) (a .offsets .now) (a .last)
+    (received k) (not-false _ (e .before .if1 .left)) (not-false _ (e .if2 .left)) (w .w .given .0 .0 .0) (found w)
+    (sym (v .covers .ensures) ∙ not-false _ (z .if3 .left)) (c .if4 .taken)
+
+returns-6 : tie.Need-returns-6
+returns-6 c =
+    let y = c .before .before in
+    let z = y .before .before .before in
     let v = z .before in
     let w = v .before .before .before in
     let e = w .before .before .before in
@@ -113,10 +126,10 @@ returns-5 c =
     ∙ ap (λ (y : ℤ). dated S.Utc (outcome (toUtc (a .days .now) (a .offsets .now) y (microsAt (a .k .at))))) (toZ-ofZ (s .fits .last))
     ∙ date-at (a .current) (a .k .inside) (a .k .ends) (a .k .at) (a .receipt-day) (a .receipt-micro) (a .days .now) (a .offsets .now) (a .last)
     (received k) (not-false _ (e .before .if1 .left)) (not-false _ (e .if2 .left)) (w .w .given .0 .0 .0) (found w)
-    (sym (v .covers .ensures) ∙ not-false _ (z .if3 .left))
+    (sym (v .covers .ensures) ∙ not-false _ (z .if3 .left)) (y .if4 .left)
 
-returns-6 : tie.Need-returns-6
-returns-6 c =
+returns-7 : tie.Need-returns-7
+returns-7 c =
     let f = c .before .before in
     let e = f .before .before .before in
     let k = told e in
@@ -142,9 +155,10 @@ date-by-list-spec =
     (λ c. search needs)
     (λ c κs. search needs)
     returns-4
+    returns-5
     (λ c κs. search needs)
     (λ c κs. search needs)
     (λ c. search needs)
     (λ c κs. search needs)
-    returns-5
-    returns-6)
+    returns-6
+    returns-7)
