@@ -1,8 +1,8 @@
-//! What holds of every answer whatever the independent program says: the form of a refusal and of an answer, that what is written
-//! reads back and what is read is written again, that a wider window changes nothing but an 8 and a longer list besides nothing but
-//! an 8 or a 9, and that a list which is not used changes nothing. The parts of a call are found by their names, so that these laws
-//! hold of a new pair of functions without a line here; marks.rs has what holds of marks, runs.rs what of SIRAL's runs,
-//! season.rs what of the season's file.
+//! What holds of every answer whatever the independent program says: the form of a refusal and of an answer, that no date is later
+//! than its receipt, that what is written reads back and what is read is written again, that a wider window changes nothing but an
+//! 8 and a longer list besides nothing but an 8 or a 9, and that a list which is not used changes nothing. The parts of a call are
+//! found by their names, so that these laws hold of a new pair of functions without a line here; marks.rs has what holds of marks,
+//! runs.rs what of SIRAL's runs, season.rs what of the season's file.
 
 use crate::calls::{refusal, Answer, Call, Function, Shape, ANSWER};
 use crate::library::named;
@@ -44,6 +44,10 @@ pub fn broken(call: &Call, answer: &Answer) -> Option<&'static str> {
     let listed = time.filter(|time| time.scale == UTC).zip(List::of(call));
     if listed.is_some_and(|(time, list)| !list.knows(time)) {
         return Some("a time that the list does not tell of");
+    }
+    let dated = time.and_then(|time| Some((time, Time::received(call, time.scale)?)));
+    if dated.is_some_and(|(time, receipt)| time.is_later(receipt, call)) {
+        return Some("a date later than its receipt");
     }
     let image = shape.image.as_ref()?;
     let length = answer.words[shape.gives("length")?];

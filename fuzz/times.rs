@@ -29,6 +29,12 @@ impl Time {
         (field("kind")? == 0).then_some(time)
     }
 
+    /// When what is dated in a scale was received.
+    pub fn received(call: &Call, scale: u64) -> Option<Time> {
+        let word = |name| call.function.shape().words(name).map(|place| call.words[place.start]);
+        Some(Time { scale, day: word("receipt_day")? as i64, micro: word("receipt_micro")? })
+    }
+
     /// Microseconds since day 0, of UTC with its leap seconds where the call has a list.
     fn micros(self, call: &Call) -> i128 {
         let seconds = if self.scale == UTC { List::of(call).map_or(0, |list| list.offset(self.day)) } else { 0 };
@@ -41,6 +47,11 @@ impl Time {
 
     pub fn is_in_span(self) -> bool {
         self.span().is_some_and(|(first, end)| (first..=LAST_DAY).contains(&self.day) && self.micro < end)
+    }
+
+    /// Whether it is later than another time of its scale; in UTC by the list of the call.
+    pub fn is_later(self, other: Time, call: &Call) -> bool {
+        self.micros(call) > other.micros(call)
     }
 
     /// The time itself, or one at most so many microseconds earlier; by the list of the call, without which it is no second 60.

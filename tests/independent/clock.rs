@@ -57,7 +57,7 @@ pub trait Clock {
         if self.scale().spans(moment) { Ok(moment) } else { Err(11) }
     }
 
-    /// 5, 6, 7, 8, 9, 10, 11 in this order, or the time at k counts from the reference.
+    /// 5, 6, 7, 8, 17, 9, 10, 11 in this order, or the time at k counts from the reference.
     fn time_at(&self, k: i128, receipt: Moment, list: &List) -> Result<Moment, Number> {
         self.usable(list)?;
         if !self.scale().spans(receipt) {
@@ -68,9 +68,14 @@ pub trait Clock {
             return Err(8);
         }
         let (moved, received) = (self.moved(list), self.place(receipt, list));
-        // the rest of 8 is judged only of a reference and a receipt that are both known
-        if moved.and_then(|moved| Ok(!self.covers(received? - moved))) == Ok(true) {
-            return Err(8);
+        // the rest of 8, and 17, are judged only of a reference and a receipt that are both known
+        if let (Ok(moved), Ok(received)) = (moved, received) {
+            if !self.covers(received - moved) {
+                return Err(8);
+            }
+            if self.time(k) + moved > received {
+                return Err(17);
+            }
         }
         let result = moved.and_then(|moved| self.at_place(self.time(k) + moved, list));
         Ok(both(received, result)?.1)
@@ -97,7 +102,7 @@ pub trait Clock {
     }
 }
 
-/// Both, or the first refusal of the two; from 9 on the numbers are in the order of judging.
+/// Both, or the first refusal of the two; from 9 to 12 the numbers are in the order of judging.
 fn both<A, B>(one: Result<A, Number>, other: Result<B, Number>) -> Result<(A, B), Number> {
     match (one, other) {
         (Err(one), Err(other)) => Err(one.min(other)),

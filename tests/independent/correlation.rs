@@ -41,7 +41,7 @@ impl Clock for Correlation {
 }
 
 impl Correlation {
-    /// 5, 6, 7, 8, 9, 10, 11 in this order, or the tick's time, marked with the reference tick.
+    /// 5, 6, 7, 8, 17, 9, 10, 11 in this order, or the tick's time, marked with the reference tick.
     pub fn date(&self, tick: u32, receipt: Moment, list: &List) -> Result<Record, Number> {
         // two's complement: the difference in 32 bits, as a signed number
         let moment = self.time_at(i128::from(tick.wrapping_sub(self.tick) as i32), receipt, list)?;

@@ -1,4 +1,4 @@
-//! GOCE's counts of 1/65536 s and their correlation, from document 02's first two requests and its sixth, and document 002, 4.2.6.
+//! GOCE's counts of 1/65536 s and their correlation, from document 02's requests 1, 2, 6 and 8, and document 002, 4.2.6.
 
 use super::clock::Clock;
 use super::leap::List;
@@ -54,7 +54,7 @@ impl Correlation {
         i128::from(self.utc0) + i128::from(self.offset)
     }
 
-    /// 3, 5, 6, 7, 8, 9, 10, 11 in this order, or the count's time, marked with the reference count.
+    /// 3, 5, 6, 7, 8, 17, 9, 10, 11 in this order, or the count's time, marked with the reference count.
     pub fn date(&self, obt: u64, receipt: Moment, list: &List) -> Result<Record, Number> {
         if obt >= WRAP {
             return Err(3);

@@ -71,7 +71,7 @@ FAULTS = {
     "a number too many at the header's head": (4, r"( 6 correlation not accepted;)", r"\1 8 correlation not in force;"),
     "another number at the header's head": (4, r"6 correlation not accepted;", "8 correlation not accepted;"),
     "a number of a function without words": (4, r"(Refused  1; 2) another first byte", r"\1"),
-    "another order of the rules": (3, r"(\n\| 8 \| correlation .*)(\n\| 9 \| .*)", r"\2\1"),
+    "another order of the rules": (3, r"(\n\| 8 \| correlation .*)(\n\| 17 \| .*)", r"\2\1"),
 }
 
 

@@ -2,7 +2,7 @@
 
 use super::{handed, leap, Call, Function, Random};
 use crate::independent::clock::Clock;
-use crate::independent::time::{moment_at, Moment};
+use crate::independent::time::{moment_at, Moment, Scale};
 
 const DAY: u64 = 86_400_000_000;
 /// The counts that GOCE's window may have, either way; SBT's has fewer.
@@ -108,10 +108,43 @@ pub fn about<C: Clock>(
             let end = if random.one_in(2) { back } else { ahead };
             list.moment_at(place(end) + random.pick(&[-1, 0, 1]))
         }
-        1 => Moment { day: random.near(clock.reference_day(), 3), micro: DAY + random.below(1_000_000) },
+        1 => in_second_60(random, clock.reference_day()),
         _ => leap::about(random, other),
     };
     (k, moment)
+}
+
+/// A time in second 60, which its day mostly lacks, at most three days from another day.
+fn in_second_60(random: &mut Random, day: i64) -> Moment {
+    Moment { day: random.near(day, 3), micro: DAY + random.below(1_000_000) }
+}
+
+/// When a count is received: at its time or a microsecond beside it, about the midnight next to it, at the reference's time, which
+/// is in the span and in the window, in second 60 of some day; or at that moment, which does not know of the count. Now and then
+/// the list of a UTC clock ends with the reference's day.
+pub fn received_about(random: &mut Random, clock: &impl Clock, k: i128, list: &mut leap::Made, moment: Moment) -> Moment {
+    if !clock.accepted() {
+        return moment;
+    }
+    let (is_utc, day) = (clock.scale() == Scale::Utc, clock.reference_day());
+    if is_utc && random.one_in(6) {
+        list.end_with(day);
+    }
+    let moved = if is_utc { list.difference(day) } else { 0 };
+    let at = |place: i128| if is_utc { list.moment_at(place) } else { moment_at(place) };
+    let place = clock.time(k) + moved;
+    let (result, reference) = (at(place), at(clock.time(0) + moved));
+    match random.below(10) {
+        // a result before the span is 11 where it is received in it
+        0..=5 if result.day < clock.scale().first_day() => reference,
+        // and one past the list's end 9 where the receipt's second is lacking
+        0..=5 if is_utc && list.ends_before(result.day) => in_second_60(random, day - 3),
+        0..=2 => at(place + random.pick(&[-1, 0, 0, 1])),
+        3 if is_utc => leap::about(random, result.day + i64::from(result.micro >= DAY / 2)),
+        4 if is_utc => in_second_60(random, day),
+        5 => reference,
+        _ => moment,
+    }
 }
 
 /// A call with these numbers, the list behind them.

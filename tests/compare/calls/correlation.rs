@@ -69,9 +69,10 @@ fn made(random: &mut Random) -> (Vec<u64>, leap::Made, i128, Moment) {
 }
 
 fn make_date(function: Function, random: &mut Random) -> Call {
-    let (correlation, list, k, moment) = made(random);
+    let (correlation, mut list, k, moment) = made(random);
     let at = i128::from(correlation[0]) + k;
     let tick = if random.one_in(12) { random.next() as u32 } else { at as u32 };
+    let moment = of(&correlation).map_or(moment, |clock| clock::received_about(random, &clock, k, &mut list, moment));
     let mut all = vec![u64::from(tick)];
     all.extend(correlation);
     all.extend(clock::receipt(random, moment));

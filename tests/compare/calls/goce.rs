@@ -101,7 +101,7 @@ fn made(random: &mut Random) -> (Vec<u64>, leap::Made, i128, Moment) {
 }
 
 fn make_date(function: Function, random: &mut Random) -> Call {
-    let (correlation, list, k, moment) = made(random);
+    let (correlation, mut list, k, moment) = made(random);
     let at = (i128::from(correlation[0]) + k).rem_euclid(i128::from(WRAP)) as u64;
     let obt = match random.below(24) {
         0 => random.pick(&[0, WRAP - 1]),
@@ -111,6 +111,7 @@ fn make_date(function: Function, random: &mut Random) -> Call {
         3 | 4 => random.below(WRAP),
         _ => at,
     };
+    let moment = clock::received_about(random, &of(&correlation), k, &mut list, moment);
     let mut all = vec![obt];
     all.extend(correlation);
     all.extend(clock::receipt(random, moment));

@@ -110,6 +110,15 @@ impl Made {
         self.last < day
     }
 
+    /// The list as it was when it ended with a day of the span; one with a fault stays as it is.
+    pub fn end_with(&mut self, day: i64) {
+        if self.as_list().accepted() {
+            self.days.retain(|&step| step <= day + 1);
+            self.offsets.truncate(self.days.len());
+            self.last = day;
+        }
+    }
+
     /// The last day, as a word.
     pub fn last(&self) -> u64 {
         self.last as u64
