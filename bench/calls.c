@@ -21,6 +21,7 @@ enum { MONOTONIC = 1 };
 #include "inputs_bytes.c"
 #include "inputs_runs.c"
 #include "inputs_text.c"
+#include "inputs_clocks.c"
 #include "inputs_uses.c"
 #include "inputs_season.c"
 

@@ -80,14 +80,15 @@ static inline vrk_time changed(vrk_time t, uint32_t to, const struct list *l) {
 
 static inline int64_t offset_on(const struct list *l, int64_t day) { return (int64_t)l->offsets[step_on(l, day)]; }
 
-/* The time `at` of a clock whose window is from `begin` to `end`: the rest of 8, where reference and receipt are both known, and
- * 9, 10, 11. */
+/* The time `at` of a clock whose window is from `begin` to `end`: the rest of 8 and 17, where reference and receipt are both known,
+ * and 9, 10, 11. */
 static inline vrk_time clocked(const struct list *l, int64_t reference_day, vrk_time receipt, int64_t begin, int64_t end, int64_t at) {
     if (reference_day > l->last || receipt.day > l->last) return no_time(VRK_LIST_EXPIRED, VRK_UTC);
     int64_t offset = 0, own = offset_on(l, reference_day);
     uint32_t lacking = utc_refusal(l, receipt, &offset);
     int64_t received = micros_of(receipt) + (offset - own) * SECOND;
     if (!lacking && (received < begin || received > end)) return no_time(VRK_NOT_IN_FORCE, VRK_UTC);
+    if (!lacking && at > received) return no_time(VRK_RESULT_LATER, VRK_UTC);
     vrk_time result = utc_of(l, at + own * SECOND);
     return lacking && result.refusal != VRK_LIST_EXPIRED ? no_time(lacking, VRK_UTC) : result;
 }

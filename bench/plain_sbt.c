@@ -27,6 +27,7 @@ vrk_time plain_sbt_date(uint32_t tick, vrk_sbt_correlation c, int64_t receipt_da
         return marked(clocked(&l, c.day, receipt, begin, end, at), VRK_CORRELATED, c.tick);
     }
     if (micros_of(receipt) < begin || micros_of(receipt) > end) return no_time(VRK_NOT_IN_FORCE, c.scale);
+    if (at > micros_of(receipt)) return no_time(VRK_RESULT_LATER, c.scale);
     return marked(time_at(c.scale, at, VRK_RESULT_OUTSIDE), VRK_CORRELATED, c.tick);
 }
 
