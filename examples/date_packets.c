@@ -49,7 +49,8 @@ static uint64_t number(const uint8_t *bytes, size_t count) {
     return value;
 }
 
-/* The time of an SBT or GOCE packet: its counter's, where the packet was received while the correlation is in force. */
+/* The time of an SBT or GOCE packet: its counter's, where the packet was received while the correlation is in force, and not before
+ * that time. */
 static vrk_time correlated(const uint8_t *packet) {
     vrk_count read = packet[0] == SBT ? vrk_sbt_read(packet + 2, packet[1]) : vrk_goce_read(packet + 2, packet[1]);
     int64_t day = (int32_t)number(packet + 12, 4);

@@ -49,7 +49,7 @@ def night_sbt(ticks, day=NIGHT, micro=SECOND_60):
     return sbt(ticks, day, micro, NIGHT_REFERENCE)
 
 
-def night_goce(counts, day=NIGHT, micro=SECOND_60):
+def night_goce(counts, day, micro):
     return goce(counts, day, micro, NIGHT_REFERENCE)
 
 
@@ -92,10 +92,12 @@ PACKETS = [
     night_sbt(0, NIGHT + 1, 5_812_501),  # and after it
     night_sbt(256, NIGHT + 1, SECOND_60),  # received in a second 60 that 1 January 2017 lacks
     night_sbt(256, 9132, 0),  # received in 2025, where the list has ended
-    night_goce(65536),
-    night_goce(2 * 65536 - 2),  # the last count of second 60
-    night_goce(2 * 65536 - 1),  # midnight, exactly
+    night_goce(65536, NIGHT, SECOND_60 + 15),  # second 60, received at that microsecond
+    night_goce(2 * 65536 - 2, NIGHT + 1, 0),  # its last count, received after it
+    night_goce(2 * 65536 - 1, NIGHT + 1, 0),  # midnight, exactly
     night_goce(2 * 65536, NIGHT + 1, 9_000_000),  # the correlation is dead
+    night_sbt(256, NIGHT, SECOND_60 - 1),  # second 60, received a microsecond before it: that cannot be
+    night_goce(65536, NIGHT, SECOND_60 + 14),  # nor this
 ]
 
 if __name__ == "__main__":

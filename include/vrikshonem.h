@@ -146,9 +146,11 @@ typedef struct {
  * Returned  the time of the tick in that scale, rounded down to the microsecond, marked VRK_CORRELATED with the reference tick.
  *           The counter wraps: `tick` is taken for the tick of this number from 2^31 before the reference to 2^31 - 1 after it.
  * Refused   5; 6; 7 the receipt is outside the limits of its scale; 8 the tick is outside the window, or the receipt is before
- *           the time of the window's first tick or after that of its last (in UTC the receipt is tested only where it and the
- *           reference are both known); 9 the reference, the receipt or the result; 10 the receipt; 11 (in UTC only before
- *           1972). 5, 9 and 10 are for UTC correlations. With a refusal `scale` is the correlation's. */
+ *           the time of the window's first tick or after that of its last; 17 the result is later than the receipt, by a
+ *           microsecond or more (in UTC the receipt is tested for 8 and 17 in TAI, and only where it and the reference are both
+ *           known); 9 the reference, the receipt, or the result where the receipt's second is lacking; 10 the receipt; 11 a
+ *           result before the first day of its scale. 5, 9 and 10 are for UTC correlations. With a refusal `scale` is the
+ *           correlation's. */
 vrk_time vrk_sbt_date(uint32_t tick, vrk_sbt_correlation correlation, int64_t receipt_day, uint64_t receipt_micro,
                       const int64_t *days, size_t day_count, const uint64_t *offsets, size_t offset_count, int64_t last);
 
@@ -185,9 +187,10 @@ typedef struct {
  *           microsecond, marked VRK_CORRELATED with `obt0`. The counter wraps: `obt` is taken for the count of this number
  *           from 2^47 before the reference to 2^47 - 1 after it.
  * Refused   3 a count of 2^48 or more; 5; 6; 7 the receipt is outside the limits of UTC; 8 the count is outside the window, or
- *           the receipt is before the time of the window's first count or after that of its last (the receipt is tested only
- *           where it and the reference are both known); 9 the reference, the receipt or the result; 10 the receipt; 11 (only
- *           before 1972). With a refusal `scale` is UTC. */
+ *           the receipt is before the time of the window's first count or after that of its last; 17 the result is later than
+ *           the receipt, by a microsecond or more (the receipt is tested for 8 and 17 in TAI, and only where it and the
+ *           reference are both known); 9 the reference, the receipt, or the result where the receipt's second is lacking; 10
+ *           the receipt; 11 a result before 1972. With a refusal `scale` is UTC. */
 vrk_time vrk_goce_date(uint64_t obt, vrk_goce_correlation correlation, int64_t receipt_day, uint64_t receipt_micro,
                        const int64_t *days, size_t day_count, const uint64_t *offsets, size_t offset_count, int64_t last);
 

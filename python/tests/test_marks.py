@@ -110,10 +110,10 @@ class Marks(Desk):
         for scale, mark in product((Tai, Utc, Gps), MARKS):
             held = correlation(2**32 - 1, scale(6209, 0, mark), 1, 2)
             for tick in 2**32 - 2, 2**32 - 1, 1:
-                self.assertEqual(held.date(tick, held.reference, LIST).mark, Mark.correlated(2**32 - 1))
+                self.assertEqual(held.date(tick, scale(6209, 7812, mark), LIST).mark, Mark.correlated(2**32 - 1))
         held = goce(obt0=2**48 - 1, utc0=65_536)
         for obt in 2**48 - 2, 2**48 - 1, 8:
-            self.assertEqual(held.date(obt, Utc(0, 0, Mark.proteus(True)), LIST).mark, Mark.correlated(2**48 - 1))
+            self.assertEqual(held.date(obt, Utc(1, 0, Mark.proteus(True)), LIST).mark, Mark.correlated(2**48 - 1))
 
     def test_other_readers_give_plain_times(self):
         for time in [

@@ -40,7 +40,7 @@ class Package(Desk):
         self.assertEqual(vrk.siral_read(vrk.siral_fields_write(0, 0, 0, 16)), Tai(0, 33))
         self.assertEqual(vrk.siral_read(vrk.siral_fields_write(0, 0, 0, 1)), Tai(0, 2))
         wrap = correlation(0xFFFFFFFF, Tai(1, SECOND), 1, 1)
-        self.assertEqual(wrap.date(0, wrap.reference, LIST), Tai(1, SECOND + 3906))
+        self.assertEqual(wrap.date(0, Tai(1, SECOND + 3906), LIST), Tai(1, SECOND + 3906))
         self.assertEqual(wrap.date(0xFFFFFFFE, wrap.reference, LIST), Tai(1, SECOND - 3907))
         narrow = correlation(7, Gps(0, 0), 0, 0)
         self.assertEqual(narrow.date(7, narrow.reference, LIST), narrow.reference)

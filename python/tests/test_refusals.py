@@ -26,6 +26,7 @@ class Refusals(Desk):
         self.refused(vrk.OutsideSpan, Tai(0, Tai.BOUND).to_gps)
         self.refused(vrk.NoEntry, vrk.season_covering, bytes(2), Tai(0, 0))
         self.refused(vrk.NotInForce, correlation(0, Tai(0, 0), 1, 1).tick_of, Tai(1, 0), LIST)
+        self.refused(vrk.ResultLater, correlation(0, Tai(0, 0), 1, 1).date, 1, Tai(0, 0), LIST)
         self.refused(vrk.ListExpired, Tai(9133, 0).to_utc, LIST)
         self.refused(vrk.SecondLacking, Utc(0, DAY).to_tai, LIST)
         self.refused(vrk.ResultOutside, Tai(Tai.FIRST_DAY, 0).to_utc, LIST)

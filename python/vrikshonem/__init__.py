@@ -17,9 +17,10 @@ as the exception of its name, such as NotInForce; each is a Refused, which has .
 
     >>> utc = vrikshonem.Utc(640, 36_000_000_000)
     >>> autumn = vrikshonem.SbtCorrelation(tick=7, reference=utc, period=3_906_250_000, back=0, ahead=663_552_000)
+    >>> received = vrikshonem.Utc(640, 36_060_000_000)
     >>> for tick in 8, 6, -1:
     ...     try:
-    ...         print(autumn.date(tick, utc, vrikshonem.LeapList.PUBLISHED))
+    ...         print(autumn.date(tick, received, vrikshonem.LeapList.PUBLISHED))
     ...     except vrikshonem.NotInForce:
     ...         print("a new correlation is needed")
     ...     except vrikshonem.Refused as refused:

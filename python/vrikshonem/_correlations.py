@@ -28,11 +28,17 @@ class SbtCorrelation(Generic[T]):
 
     >>> night = SbtCorrelation(7, Utc(6209, 86_399_000_000), 3_906_250_000, back=2_000, ahead=2_000)
     >>> for tick in 263, 519:
-    ...     night.date(tick, night.reference, LeapList.PUBLISHED)
+    ...     night.date(tick, Utc(6210, 1_000_000), LeapList.PUBLISHED)
     Utc(day=6209, micro=86400000000, mark=Mark.correlated(7))
     Utc(day=6210, micro=0, mark=Mark.correlated(7))
     >>> night.tick_of(Utc(6209, 86_400_000_000), LeapList.PUBLISHED)
     263
+
+    A packet is not received before it was sent:
+
+    >>> night.date(263, night.reference, LeapList.PUBLISHED)
+    Traceback (most recent call last):
+    vrikshonem.ResultLater: refused 17: result later than receipt
     """
 
     tick: int
@@ -58,8 +64,10 @@ class SbtCorrelation(Generic[T]):
     def date(self, tick: int, receipt: T, leap_list: LeapList) -> T:
         """The time of a tick whose packet was received at `receipt`, rounded down, and marked Mark.correlated with the reference
         tick. The list is looked at only where the scale is Utc. Refused: 3 where the number is no tick; 5; 6; 7 for the receipt;
-        8 where the tick lies outside the window or the receipt outside the window's times, which in Utc is judged only where
-        reference and receipt are both known; 9 for reference, receipt or result; 10 for the receipt; 11."""
+        8 where the tick lies outside the window or the receipt outside the window's times; 17 where the result is later than the
+        receipt, which in Utc is judged in TAI and, as 8 is of the receipt, only where reference and receipt are both known; 9 for
+        reference or receipt, or for the result where the receipt's second is lacking; 10 for the receipt; 11 for a result before
+        the scale's first day."""
         scale, correlation = type(self.reference), self._given()
         due(receipt, scale, f"a receipt in {scale.__name__}")
         given = narrow(tick), correlation, signed(receipt.day), unsigned(receipt.micro)
@@ -120,8 +128,9 @@ class GoceCorrelation:
     def date(self, obt: int, receipt: Utc, leap_list: LeapList) -> Utc:
         """The time of a count whose packet was received at `receipt`, rounded down once, and marked Mark.correlated with obt0.
         Refused: 3 where the number is no count of 48 bits; 5; 6; 7 for the receipt; 8 where the count lies outside the window or
-        the receipt outside the window's times, which is judged only where reference and receipt are both known; 9 for reference,
-        receipt or result; 10 for the receipt; 11."""
+        the receipt outside the window's times; 17 where the result is later than the receipt, which is judged in TAI and, as 8 is
+        of the receipt, only where reference and receipt are both known; 9 for reference or receipt, or for the result where the
+        receipt's second is lacking; 10 for the receipt; 11 for a result before 1972."""
         due(receipt, Utc, "a receipt in Utc")
         given = unsigned(obt), self._given(), signed(receipt.day), unsigned(receipt.micro)
         return Utc._of(library().vrk_goce_date(*given, *listed(leap_list)))

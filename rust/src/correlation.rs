@@ -23,9 +23,12 @@ pub struct Tick(pub u32);
 ///     back: 1,
 ///     ahead: 663_552_000,
 /// };
-/// assert_eq!(autumn.date(Tick(0), autumn.reference, &list), Ok(Utc::new(640, 36_000_003_906)));
+/// let received = Utc::new(640, 36_060_000_000);
+/// assert_eq!(autumn.date(Tick(0), received, &list), Ok(Utc::new(640, 36_000_003_906)));
 /// // received in March: the correlation is no longer in force
 /// assert_eq!(autumn.date(Tick(0), Utc::new(786, 9_600_000_000), &list), Err(Error::NOT_IN_FORCE));
+/// // received before it was sent: the receipt, the correlation or the counter is wrong
+/// assert_eq!(autumn.date(Tick(0), autumn.reference, &list), Err(Error::RESULT_LATER));
 /// ```
 ///
 /// A UTC correlation counts in TAI, by the list, so that the leap seconds between two ticks count. One in TAI or GPS looks at no
@@ -42,8 +45,9 @@ pub struct Tick(pub u32);
 ///     back: 2_000,
 ///     ahead: 2_000,
 /// };
-/// assert_eq!(night.date(Tick(263), night.reference, &list), Ok(Utc::new(6209, 86_400_000_000)));
-/// assert_eq!(night.date(Tick(519), night.reference, &list), Ok(Utc::new(6210, 0)));
+/// let received = Utc::new(6210, 1_000_000);
+/// assert_eq!(night.date(Tick(263), received, &list), Ok(Utc::new(6209, 86_400_000_000)));
+/// assert_eq!(night.date(Tick(519), received, &list), Ok(Utc::new(6210, 0)));
 /// assert_eq!(night.tick_of(Utc::new(6209, 86_400_000_000), &list), Ok(Tick(263)));
 /// ```
 #[derive(Clone, Copy, PartialEq, Eq, Debug)]
@@ -75,9 +79,10 @@ impl<T: Scaled> SbtCorrelation<T> {
 
     /// The time of a tick whose packet was received at `receipt`, rounded down, and marked
     /// [`Mark::Correlated`](crate::Mark::Correlated) with the reference tick. The list is looked at only where `T` is [`Utc`].
-    /// Refused: 5; 6; 7 for the receipt; 8 where the tick lies outside the window or the receipt outside the window's times, which
-    /// of UTC is judged only where reference and receipt are both known; 9 for reference, receipt or result; 10 for the receipt;
-    /// 11.
+    /// Refused: 5; 6; 7 for the receipt; 8 where the tick lies outside the window or the receipt outside the window's times; 17
+    /// where the result is later than the receipt, which of UTC is judged in TAI and, as 8 is of the receipt, only where reference
+    /// and receipt are both known; 9 for reference or receipt, or for the result where the receipt's second is lacking; 10 for the
+    /// receipt; 11 for a result before the scale's first day.
     pub fn date(&self, tick: Tick, receipt: T, list: &LeapList<'_>) -> Result<T, Error> {
         at(sys::sbt_date(tick.0, self.given(), receipt.day(), receipt.micro(), list.days, list.offsets, list.last))
     }
@@ -139,8 +144,9 @@ impl GoceCorrelation {
 
     /// The time of a count whose packet was received at `receipt`, rounded down once, and marked
     /// [`Mark::Correlated`](crate::Mark::Correlated) with `obt0`. Refused: 3 from 2^48 on; 5; 6; 7 for the receipt; 8 where the count
-    /// lies outside the window or the receipt outside the window's times, which is judged only where reference and receipt are both
-    /// known; 9 for reference, receipt or result; 10 for the receipt; 11.
+    /// lies outside the window or the receipt outside the window's times; 17 where the result is later than the receipt, which is
+    /// judged in TAI and, as 8 is of the receipt, only where reference and receipt are both known; 9 for reference or receipt, or
+    /// for the result where the receipt's second is lacking; 10 for the receipt; 11 for a result before 1972.
     pub fn date(&self, obt: u64, receipt: Utc, list: &LeapList<'_>) -> Result<Utc, Error> {
         at(sys::goce_date(obt, self.given(), receipt.day, receipt.micro, list.days, list.offsets, list.last))
     }

@@ -17,12 +17,12 @@ use std::fmt;
 ///     }
 /// }
 ///
-/// let reference = Utc::new(640, 36_000_000_000);
+/// let (reference, received) = (Utc::new(640, 36_000_000_000), Utc::new(640, 36_060_000_000));
 /// let autumn = SbtCorrelation { tick: Tick(7), reference, period: 3_906_250_000, back: 0, ahead: 663_552_000 };
-/// assert_eq!(said(&autumn, Tick(8), reference), "day 640, microsecond 36000003906");
-/// assert_eq!(said(&autumn, Tick(6), reference), "a new correlation is needed");
+/// assert_eq!(said(&autumn, Tick(8), received), "day 640, microsecond 36000003906");
+/// assert_eq!(said(&autumn, Tick(6), received), "a new correlation is needed");
 /// let slow = SbtCorrelation { period: 0, ..autumn };
-/// assert_eq!(said(&slow, Tick(8), reference), Error::CORRELATION_NOT_ACCEPTED.to_string());
+/// assert_eq!(said(&slow, Tick(8), received), Error::CORRELATION_NOT_ACCEPTED.to_string());
 /// ```
 #[derive(Clone, Copy, PartialEq, Eq, Hash, Debug)]
 #[non_exhaustive]

@@ -54,7 +54,7 @@ fn marked_cases() {
     assert_eq!(siral::read(&[0, 0, 0, 0, 0, 0, 0, 0, 0, 1]), Ok(Tai::new(0, 2)));
     // 8
     let wrap = correlation(0xFFFF_FFFF, Tai::new(1, SECOND), 1, 1);
-    assert_eq!(wrap.date(Tick(0), wrap.reference, &LIST), Ok(Tai::new(1, SECOND + 3906)));
+    assert_eq!(wrap.date(Tick(0), Tai::new(1, SECOND + 3906), &LIST), Ok(Tai::new(1, SECOND + 3906)));
     assert_eq!(wrap.date(Tick(0xFFFF_FFFE), wrap.reference, &LIST), Ok(Tai::new(1, SECOND - 3907)));
     // 9
     let narrow = correlation(7, Gps::new(0, 0), 0, 0);
@@ -83,6 +83,7 @@ fn every_refusal() {
     assert_eq!(Tai::new(0, Tai::BOUND).to_gps(), Err(Error::OUTSIDE_SPAN));
     assert_eq!(season::covering(&[0, 0], Tai::new(0, 0)), Err(Error::NO_ENTRY));
     assert_eq!(correlation(0, Tai::new(0, 0), 1, 1).tick_of(Tai::new(1, 0), &LIST), Err(Error::NOT_IN_FORCE));
+    assert_eq!(correlation(0, Tai::new(0, 0), 1, 1).date(Tick(1), Tai::new(0, 0), &LIST), Err(Error::RESULT_LATER));
     assert_eq!(Tai::new(9133, 0).to_utc(&LIST), Err(Error::LIST_EXPIRED));
     assert_eq!(Utc::new(0, DAY).to_tai(&LIST), Err(Error::SECOND_LACKING));
     assert_eq!(Tai::new(Tai::FIRST_DAY, 0).to_utc(&LIST), Err(Error::RESULT_OUTSIDE));
@@ -139,7 +140,8 @@ fn writings_read_back() {
     let utc = Utc::new(0, 1);
     assert_eq!(utc.to_decimal().and_then(Utc::from_decimal), Ok(utc));
     let held = correlation(5, Utc::new(0, 0), 10, 10);
-    assert_eq!(held.date(Tick(9), held.reference, &LIST).and_then(|time| held.tick_of(time, &LIST)), Ok(Tick(9)));
+    let received = Utc::new(0, 20_000);
+    assert_eq!(held.date(Tick(9), received, &LIST).and_then(|time| held.tick_of(time, &LIST)), Ok(Tick(9)));
 }
 
 #[test]

@@ -111,18 +111,18 @@ fn dates_are_marked_with_the_reference() {
     for mark in MARKS {
         let held = correlation(0xFFFF_FFFF, Utc::new(6209, 0).with_mark(mark), 1, 2);
         for tick in [Tick(0xFFFF_FFFE), held.tick, Tick(1)] {
-            let dated = held.date(tick, Utc::new(6209, 0).with_mark(mark), &LIST);
+            let dated = held.date(tick, Utc::new(6209, 7812).with_mark(mark), &LIST);
             assert_eq!(dated.map(|time| time.mark), Ok(Mark::Correlated(0xFFFF_FFFF)), "{tick:?}");
         }
     }
     let tai = correlation(0, Tai::new(0, 0), 0, 9);
-    assert_eq!(tai.date(Tick(9), tai.reference, &LIST).map(|time| time.mark), Ok(Mark::Correlated(0)));
+    assert_eq!(tai.date(Tick(9), Tai::new(0, 35_156), &LIST).map(|time| time.mark), Ok(Mark::Correlated(0)));
     let gps = correlation(5, Gps::new(0, 0), 0, 9);
-    assert_eq!(gps.date(Tick(9), gps.reference, &LIST).map(|time| time.mark), Ok(Mark::Correlated(5)));
+    assert_eq!(gps.date(Tick(9), Gps::new(0, 35_156), &LIST).map(|time| time.mark), Ok(Mark::Correlated(5)));
     let obt0 = (1 << 48) - 1;
     let goce = GoceCorrelation { obt0, utc0: 65_536, offset: 0, gradient: 1_000_000_000, back: 1, ahead: 9 };
     for obt in [obt0 - 1, obt0, 8] {
-        let dated = goce.date(obt, Utc::new(0, SECOND), &LIST);
+        let dated = goce.date(obt, Utc::new(0, SECOND + 137), &LIST);
         assert_eq!(dated.map(|time| time.mark), Ok(Mark::Correlated(obt0)), "{obt}");
     }
 }
