@@ -21,9 +21,10 @@ use Rattle.scales.specs.declared.Scale.{Scale}
 use Rattle.scales.specs.declared.Scale.the-variants as S
 use Rattle.handed.specs.declared.Handed.{Handed}
 use Rattle.handed.specs.Meaning.{isFinite, isInSpan, dayOf, microOf}
-use Rattle.leap.specs.Meaning.{offsetOn, taiOf, hasMicro, isExpiredDay, isExpiredTai}
+use Rattle.leap.specs.Meaning.{accepted, offsetOn, taiOf, hasMicro, isExpiredDay, isExpiredTai}
 use Rattle.via_tai.specs.Meaning.{isUtc, fromUtc, ofCount}
 use Rattle.via_tai.specs.Ways.{Left, counted, count-is}
+use Rattle.via_tai.specs.Known.{current-to}
 use Rattle.clock.specs.Meaning.{instant, momentAfter, listServes, isCurrent, isCurrentAt, hasSecond, isKnown, Cover, within, hasImage, instantOf}
 use Rattle.clock.specs.declared.inner.Base.the-variants as B
 use Rattle.clock.specs.declared.inner.Place.{Place}
@@ -207,6 +208,14 @@ module _ (m : Moment) (ds : List ℤ) (os : List ℕ) (e : ℤ) where
       let f = passed (not x) 9 (given (hasMicro ds (m .day) (m .micro)) 10 (gives i)) z (sym q) in
       let g = passed (hasMicro ds (m .day) (m .micro)) 10 (gives i) z (f .1) in
       record { current = not-true x (f .0); second = g .0; is = cc }
+
+  -- by an accepted list, what is not later than that place is not expired
+  pub unexpired : accepted ds os e ≡ true → inSpan S.Utc (m .day) (m .micro) ≡ true → (w n : ℕ) → answer (microsAt w) ≡ outcome (placing m ds os e) → n ≤ w →
+      isExpiredTai ds os e (microsAt n) ≡ false
+  unexpired v i w n q l =
+      let a = at-place (microsAt w) q in
+      let p = placed S.Utc (m .day) (m .micro) i in
+      current-to ds os e v (m .day) (m .micro) (p .from) (a .current) (p .under) (a .second) w n (a .is) l
 
   -- a count of its span, by the way to TAI
   pub left-placing : (r : DatedTai) (n : ℕ) → Spanned S.Utc n → momentAt S.Utc n ≡ m → Left (ofCount S.Utc n (fromUtc ds os e)) r →

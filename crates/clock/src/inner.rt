@@ -227,8 +227,9 @@ pub fn date_by_list(
             if w.0 < k.at {
                 return Dated::Refused(Refusal::ResultLater, Scale::Utc);
             }
+            // The receipt is not expired, so that what is not later is not.
             let z = Tai(k.at);
-            changes::inner::dated_utc(via_tai::inner::to_utc(z, days, offsets, last))
+            changes::inner::dated_utc(via_tai::inner::unexpired_to_utc(z, days, offsets, last))
         }
         DatedTai::Refused(f) => without_receipt(f, k.at, days, offsets, last),
     }

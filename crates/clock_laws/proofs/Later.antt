@@ -5,11 +5,10 @@ use mathlib.Core.Bool.{Bool, true, false, cond, not, _&&_, false≢true}
 use mathlib.Core.List.{List}
 use Prim.Native.Nat.{ℕ, _/_, _%_, _≤_, _<_}
 use native.Mathlib.Omega.{arith}
-use lib.Dec.{leb}
 use lib.IntN.{ℤ, pos, _+ℤ_}
 use lib.Signed.{ltZ, leZ}
 use borrow.Author.Tests.{leb-true, lt-ltb, not-true}
-use Rattle.axis.specs.Meaning.{placeOfDay, dayAt, microsAt, Moment, dayMicros, since, momentOf}
+use Rattle.axis.specs.Meaning.{dayAt, microsAt, Moment, dayMicros, since, momentOf}
 use Rattle.axis.specs.Axis.{day-lt, micros-le, moment-at}
 use Rattle.axis.specs.Diff.{Way, way, below, above, le-not}
 use Rattle.scales.specs.Meaning.{first, last, inSpan, Judged, given, Outcome, refused, answer, outcome, resulting}
@@ -18,9 +17,9 @@ use Rattle.scales.specs.Place.{firstAt, apart, and-both, and-false, placed, spa
 use Rattle.scales.specs.declared.Scale.{Scale}
 use Rattle.scales.specs.declared.Scale.the-variants as S
 use Rattle.leap.specs.Meaning as Leap
-use Rattle.leap_laws.proofs.Kept.{tai-current}
+use Rattle.via_tai.specs.Known.{tai-current}
 use Rattle.leap_laws.proofs.Never.{tai-early}
-use Rattle.clock.specs.Meaning.{Clock, instant, momentAfter, listServes, isCurrent, isCurrentAt, hasSecond, isKnown, elapsed, time, bothKnown, inForce, notLater, dating}
+use Rattle.clock.specs.Meaning.{Clock, instant, momentAfter, listServes, isCurrent, isCurrentAt, hasSecond, isKnown, elapsed, time, bothKnown, inForce, dating}
 use Rattle.clock.specs.Places.{timeAt, countFrom, elapsed-place, Based, time-place, time-far}
 use Rattle.clock.specs.Signs.{le-trans, above-next}
 use Rattle.clock.specs.Stage.{spot, held, since-place}

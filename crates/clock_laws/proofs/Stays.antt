@@ -14,7 +14,7 @@ use borrow.Author.Tests.{lt-ltb, eqb-true}
 use Rattle.axis.specs.Meaning.{placeOfDay, floorZ, Moment, dayMicros, since, momentOf}
 use Rattle.axis.specs.Diff.{tests, up, down, parts, sub-eq, sub-mul, sub-le, sub-floor}
 use Rattle.axis.specs.Shift.{number-add}
-use Rattle.scales.specs.Meaning.{codeOf, bound, inSpan, sameScale, Judged, given, gives, Outcome, refused, answer, outcome, resulting}
+use Rattle.scales.specs.Meaning.{codeOf, bound, inSpan, sameScale, Judged, given, gives, refused, answer, outcome, resulting}
 use Rattle.scales.specs.Order.{Answers, last, next, is-answers}
 use Rattle.scales.specs.Place.{apart, and-both, placed}
 use Rattle.scales.specs.declared.Scale.{Scale}
@@ -25,7 +25,7 @@ use Rattle.handed.specs.Told.{loose}
 use Rattle.leap.specs.Meaning as Leap
 use Rattle.via_tai.specs.Meaning.{isUtc}
 use Rattle.via_tai.specs.Ways.{has-plain}
-use Rattle.leap_laws.proofs.Kept.{tai-current, utc-back}
+use Rattle.via_tai.specs.Known.{tai-current, utc-back}
 use Rattle.clock.specs.Meaning.{Clock, elapsed, clock, time, inWindow, within, covers, dating, latest, lastCount, countAt, hasImage, turning}
 use Rattle.clock.specs.Signs.{plus}
 use Rattle.clock_laws.proofs.Counts.{whole, left-under}

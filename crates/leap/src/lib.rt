@@ -65,10 +65,13 @@ pub fn is_accepted(days: &[i64], offsets: &[u64], last: i64) -> bool
     if LAST < e {
         return false;
     }
-    if inner::step_day(days, 0) != FIRST {
+    // Both are read before either is tested: so the compiler has registers left for the steps' loop where a tick is dated.
+    let offset = offsets[0];
+    let first = inner::step_day(days, 0);
+    if first != FIRST {
         return false;
     }
-    if offsets[0] != 10 {
+    if offset != 10 {
         return false;
     }
     steps_follow(days, offsets, axis::day_at((e + 1) as u32))

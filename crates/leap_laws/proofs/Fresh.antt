@@ -28,6 +28,7 @@ use Rattle.leap.specs.Back.{said-nothing}
 use Rattle.leap.specs.Whole.{expired-at, taiAt, offset-small}
 use Rattle.via_tai.specs.Meaning.{fromScale, toScale}
 use Rattle.via_tai.specs.Ways.{expires}
+use Rattle.via_tai.specs.Known.{day-by}
 use Rattle.changes.specs.Meaning.{settled, moving}
 use Rattle.leap_laws.proofs.Stands.{moment, onTai}
 
@@ -72,12 +73,6 @@ module _ (x : ℕ) (k : x < 100000) where
       let q : begun (microsAt c) d p m ≡ m =
       ap (λ (y : ℤ). begun (microsAt c) y p m) (sym (first-at d (g .0))) ∙ said-nothing (placeOfDay d) p c m (omega arith) in
       ap (λ (y : Moment). through (begun (microsAt c)) y cs ps) q ∙ silent-utc cs ps c m h (g .1) (t .1)
-
--- a day that is not expired is not after E
-pub day-by : (ds : List ℤ) (os : List ℕ) (e : ℤ) → accepted ds os e ≡ true → (d : ℤ) → isExpiredDay e d ≡ false → placeOfDay d ≤ placeOfDay e
-day-by ds os e w d h =
-    let s = steps ds os e w in
-    leb-true (placeOfDay d) (placeOfDay e) (sym (day-to (placeOfDay e) d (omega (arith, s .to))) ∙ ap (leZ d) (s .day) ∙ le-not d e ∙ rw h)
 
 -- the value that a time of a scale changes by
 value : (s : Scale) (ds : List ℤ) (os : List ℕ) (e : ℤ) (b : Bool) (a u : ℕ) (z : ℤ) → outcome (fromScale s ds os e b (moment a u)) ≡ answer z

@@ -1,6 +1,6 @@
 -- What a list that extends another keeps of it, for any day and any TAI count: demand 3's pieces, for those who reckon by a list
 -- otherwise than by a change. Assumes nothing.
-use mathlib.Core.Path.{_≡_, refl, sym, ap, ap₂, subst, _∙_}
+use mathlib.Core.Path.{_≡_, refl, sym, ap₂, subst, _∙_}
 use mathlib.Core.Bool.{true, false}
 use mathlib.Core.List.{List, _++_}
 use Prim.Native.Nat.{ℕ, _+_, _<_, _≤_}
@@ -8,18 +8,17 @@ use native.Mathlib.Omega.{arith}
 use lib.Dec.{lit<, lit≤}
 use lib.IntN.{ℤ, pos, _+ℤ_}
 use lib.Signed.{leZ}
-use borrow.Author.Tests.{leb-false, lt-leb}
-use Rattle.axis.specs.Meaning.{placeOfDay, dayAt, microsAt, Moment}
+use borrow.Author.Tests.{leb-false}
+use Rattle.axis.specs.Meaning.{placeOfDay, dayAt, microsAt}
 use Rattle.axis.specs.Axis.{day-place}
 use Rattle.leap.specs.Meaning.{accepted, allLater, Extends, offsetOn, taiOf, hasMicro, isExpiredDay, isExpiredTai, utcOf, publishedDays, publishedOffsets, publishedLast}
 use Rattle.leap.specs.Published.{published}
-use Rattle.leap.specs.Places.{tai-at}
 use Rattle.leap.specs.Steps.{steps}
-use Rattle.leap.specs.Back.{Real, back}
-use Rattle.leap.specs.Whole.{taiAt, known-before}
-use Rattle.via_tai.specs.Ways.{has-sixty, expires}
+use Rattle.leap.specs.Whole.{taiAt}
+use Rattle.via_tai.specs.Ways.{expires}
+use Rattle.via_tai.specs.Known.{day-by, utc-back}
 use Rattle.leap_laws.proofs.Computed.{earlierDays, earlierOffsets, earlierLast, earlier, step-more}
-use Rattle.leap_laws.proofs.Fresh.{same-offset, day-by, day-current, same-second, count-current, same-utc}
+use Rattle.leap_laws.proofs.Fresh.{same-offset, day-current, same-second, count-current, same-utc}
 
 -- list B, (cs, ps, f), extends list A, (ds, os, e), and both are accepted
 pub record Follows (ds : List ℤ) (os : List ℕ) (e : ℤ) (cs : List ℤ) (ps : List ℕ) (f : ℤ) : Type 0 where
@@ -71,35 +70,6 @@ step-follows = record { old = earlier; fresh = published; extends = step-more }
 
 pub step-keeps : Kept earlierDays earlierOffsets earlierLast publishedDays publishedOffsets publishedLast
 step-keeps = kept earlierDays earlierOffsets earlierLast publishedDays publishedOffsets publishedLast step-follows
-
--- ---- a time of the span that is not expired, and whose second is there: its TAI is not expired either, and leads back
-module _ (ds : List ℤ) (os : List ℕ) (e : ℤ) (w : accepted ds os e ≡ true) (d : ℤ) (u : ℕ) (from : 29773 ≤ placeOfDay d) (h : isExpiredDay e d ≡ false)
-    (under : u < 86401000000) (second : hasMicro ds d u ≡ true) where
-  by : placeOfDay d ≤ placeOfDay e
-  by = day-by ds os e w d h
-
-  day : dayAt (placeOfDay d) ≡ d
-  day = day-place d (omega (arith, from)) (omega (arith, by, steps ds os e w .to))
-
-  real : Real ds (placeOfDay d) u
-  real =
-      record {
-        from = from;
-        under = under;
-        has = λ l. has-sixty ds (placeOfDay d) u l ∙ ap (λ (z : ℤ). hasMicro ds z u) day ∙ second;
-      }
-
-  tai-is : taiOf ds os d u ≡ microsAt (taiAt ds os (placeOfDay d) u)
-  tai-is = ap (λ (z : ℤ). taiOf ds os z u) (sym day) ∙ tai-at ds os (placeOfDay d) u
-
-  pub tai-current : isExpiredTai ds os e (taiOf ds os d u) ≡ false
-  tai-current =
-      ap (isExpiredTai ds os e) tai-is ∙ expires ds os e w (taiAt ds os (placeOfDay d) u)
-      ∙ lt-leb (taiAt ds os (placeOfDay e + 1) 0) (taiAt ds os (placeOfDay d) u) (known-before ds os e w (placeOfDay d) u real by)
-
-  pub utc-back : utcOf ds os (taiOf ds os d u) ≡ record { day = d; micro = u }
-  utc-back =
-      ap (utcOf ds os) tai-is ∙ back (steps ds os e w .grown) (placeOfDay d) u real ∙ ap {B = Moment} (λ (z : ℤ). record { day = z; micro = u }) day
 
 -- midnight of day 6001 under the published list: its TAI, 36 s later, is day 6001, 0
 pub back-instance : utcOf publishedDays publishedOffsets (taiOf publishedDays publishedOffsets (pos 6001) 0) ≡ record { day = pos 6001; micro = 0 }

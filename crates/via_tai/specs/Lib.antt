@@ -1,2 +1,3 @@
 pub mod Meaning
 pub mod Ways
+pub mod Known

@@ -1,7 +1,7 @@
 // The cores: a list that is lent was accepted before, and is not tested here. Every change goes by way of a TAI count, whose span
 // is not tested: `from_..` gives it, `to_..` takes it.
 ghost use mathlib.Core.Path.{_≡_};
-ghost use mathlib.Core.Bool.{true};
+ghost use mathlib.Core.Bool.{true, false};
 ghost use Prim.Native.Nat.{_<_, _≤_};
 ghost use Rattle.axis.specs.Meaning.{dayAt, microsAt};
 ghost use Rattle.scales.specs.Meaning.{outcome, dated, slipTai, slipUtc, slipGps, timeScale, timeCount};
@@ -138,6 +138,19 @@ pub fn is_expired(c: Tai, days: &[i64], offsets: &[u64], last: i64) -> bool
     next * Tai::BOUND + offset * SECOND <= c.0
 }
 
+// Of a count that is known not to be expired.
+pub fn unexpired_to_utc(c: Tai, days: &[i64], offsets: &[u64], last: i64) -> DatedUtc
+    requires { ⌜ 10000000 ≤ c .0 ⌝ }
+    requires { ⌜ accepted (now days) (now offsets) last ≡ true ⌝ }
+    requires { ⌜ isExpiredTai (now days) (now offsets) last (microsAt (c .0)) ≡ false ⌝ }
+    ensures { λ r. ⌜ slipUtc r ≡ dated Scale.Utc (outcome (toUtc (now (days .entry)) (now (offsets .entry)) last (microsAt (c .0)))) ⌝ }
+{
+    if c.0 < FIRST * Tai::BOUND + 10 * SECOND {
+        return DatedUtc::Refused(Refusal::ResultOutside);
+    }
+    DatedUtc::At(leap::inner::utc_at(days, offsets, c))
+}
+
 pub fn to_utc(c: Tai, days: &[i64], offsets: &[u64], last: i64) -> DatedUtc
     requires { ⌜ 10000000 ≤ c .0 ⌝ }
     requires { ⌜ accepted (now days) (now offsets) last ≡ true ⌝ }
@@ -146,8 +159,5 @@ pub fn to_utc(c: Tai, days: &[i64], offsets: &[u64], last: i64) -> DatedUtc
     if is_expired(c, days, offsets, last) {
         return DatedUtc::Refused(Refusal::ListExpired);
     }
-    if c.0 < FIRST * Tai::BOUND + 10 * SECOND {
-        return DatedUtc::Refused(Refusal::ResultOutside);
-    }
-    DatedUtc::At(leap::inner::utc_at(days, offsets, c))
+    unexpired_to_utc(c, days, offsets, last)
 }

@@ -35,7 +35,7 @@ returns-5 : tie.Need-returns-5
 returns-5 c = let a = c .before .before .before .before .before .before .before .args in accept-late (a .days .now) (a .offsets .now) (a .last) (omega (arith, seen (c .before .before), c .if5 .taken))
 
 returns-6 : tie.Need-returns-6
-returns-6 c = let a = c .before .before .before .before .before .before .before .before .before .args in accept-other-day (a .days .now) (a .offsets .now) (a .last) (λ q. c .if6 .taken (c .before .step-day .ensures ∙ q))
+returns-6 c = let a = c .before .before .before .before .before .before .before .before .before .before .args in accept-other-day (a .days .now) (a .offsets .now) (a .last) (λ q. c .if6 .taken (c .before .step-day .ensures ∙ q))
 
 returns-7 : tie.Need-returns-7
 returns-7 c = let a = c .before .before .before .before .before .before .before .before .before .before .before .args in accept-other-offset (a .days .now) (a .offsets .now) (a .last) (c .if7 .taken)
@@ -56,15 +56,15 @@ next c =
 
 steps-follow-requires : tie.Need-steps-follow-requires
 steps-follow-requires c κs =
-    let d = c .before .before .before .before in
-    let p = d .before in
+    let d = c .before .before .before in
+    let p = d .before .before in
     let m = p .before .before in
     let q = ap placeOfDay (next-at c) ∙ place-day (m .place-of-day .result + 1) (omega (arith, p .if5 .left)) in
     record {
       some = m .before .before .before .if1 .left;
       few = m .before .before .if2 .left;
       even = m .before .if3 .left;
-      first = sym (d .step-day .ensures) ∙ c .before .before .before .if6 .left;
+      first = sym (d .step-day .ensures) ∙ c .before .before .if6 .left;
       from = omega (arith, q, p .before .if4 .left);
       to = omega (arith, q, p .if5 .left);
     }
@@ -73,15 +73,15 @@ returns-8 : tie.Need-returns-8
 returns-8 c =
     let f = c .before in
     let k = f .before .before in
-    let d = k .before .before in
-    let p = d .before in
+    let d = k .before in
+    let p = d .before .before in
     let m = p .before .before in
     let n = m .before in
     let a = n .before .before .before .before .args in
     c .steps-follow .ensures
     ∙ ap (λ (l : ℤ). rest l (getD (a .days .now) 0 (pos 0)) 10 (drop 1 (a .days .now)) (drop 1 (a .offsets .now))) (next f)
     ∙ accept-rest (a .days .now) (a .offsets .now) (a .last) (n .before .before .if1 .left) (n .before .if2 .left) (n .if3 .left)
-    (omega (arith, seen m, p .before .if4 .left)) (omega (arith, seen m, p .if5 .left)) (sym (d .step-day .ensures) ∙ k .before .if6 .left)
+    (omega (arith, seen m, p .before .if4 .left)) (omega (arith, seen m, p .if5 .left)) (sym (d .step-day .ensures) ∙ k .if6 .left)
     (f .before .if7 .left)
 
 pub is-accepted-spec : {M : Type 1} → statement M
@@ -94,9 +94,9 @@ is-accepted-spec =
     (λ c κs. search needs)
     returns-4
     returns-5
+    (λ c. search needs)
     (λ c κs. search needs)
     returns-6
-    (λ c. search needs)
     returns-7
     (λ c. search needs)
     (λ c. search needs)

@@ -14,7 +14,7 @@ use Rattle.scales.specs.declared.Utc.{Utc}
 use Rattle.via_tai.specs.Meaning.{toUtc}
 use Rattle.via_tai.specs.Ways.{counted}
 use Rattle.clock.specs.Dating.{date-7, date-out, date-stale, date-8, date-17, date-at, date-lacks}
-use Rattle.clock.specs.Stage.{placing, lackingAt, left-placing}
+use Rattle.clock.specs.Stage.{placing, lackingAt, unexpired, left-placing}
 use borrow.Author.Needs.{needs}
 use Rattle.clock.proofs.inner.date_by_list.Statement.{statement}
 use Rattle.clock.proofs.inner.date_by_list.Tie as tie
@@ -111,6 +111,21 @@ returns-5 c =
     (received k) (not-false _ (e .before .if1 .left)) (not-false _ (e .if2 .left)) (w .w .given .0 .0 .0) (found w)
     (sym (v .covers .ensures) ∙ not-false _ (z .if3 .left)) (c .if4 .taken)
 
+unexpired-to-utc-requires : tie.Need-unexpired-to-utc-requires
+unexpired-to-utc-requires c κs =
+    let w = c .before .before .before .before .before .before .before in
+    let k = told (w .before .before .before) in
+    let s = entry (made k) in
+    let a = s .args in (
+      s .pre .0,
+      (
+        rw (toZ-ofZ (s .fits .last)) (s .pre .1),
+        rw (toZ-ofZ (s .fits .last))
+            (unexpired (record { day = a .receipt-day; micro = a .receipt-micro }) (a .days .now) (a .offsets .now) (a .last) (s .pre .1) (received k)
+            (w .w .given .0 .0 .0) (a .k .at) (found w) (c .if4 .left)),
+      ),
+    )
+
 returns-6 : tie.Need-returns-6
 returns-6 c =
     let y = c .before .before in
@@ -122,7 +137,7 @@ returns-6 c =
     let s = entry (made k) in
     let a = s .args in
     c .dated-utc .ensures
-    ∙ c .before .to-utc .ensures
+    ∙ c .before .unexpired-to-utc .ensures
     ∙ ap (λ (y : ℤ). dated S.Utc (outcome (toUtc (a .days .now) (a .offsets .now) y (microsAt (a .k .at))))) (toZ-ofZ (s .fits .last))
     ∙ date-at (a .current) (a .k .inside) (a .k .ends) (a .k .at) (a .receipt-day) (a .receipt-micro) (a .days .now) (a .offsets .now) (a .last)
     (received k) (not-false _ (e .before .if1 .left)) (not-false _ (e .if2 .left)) (w .w .given .0 .0 .0) (found w)
@@ -156,7 +171,7 @@ date-by-list-spec =
     (λ c κs. search needs)
     returns-4
     returns-5
-    (λ c κs. search needs)
+    unexpired-to-utc-requires
     (λ c κs. search needs)
     (λ c. search needs)
     (λ c κs. search needs)

@@ -5,11 +5,13 @@ use lib.IntN.{ℤ}
 use mir.Facts.{toZ-ofZ}
 use Rattle.axis.specs.Meaning.{microsAt}
 use Rattle.leap.specs.Meaning.{isExpiredTai}
-use Rattle.leap.specs.Steps.{usable}
+use Rattle.scales.specs.Meaning.{outcome, dated}
+use Rattle.scales.specs.declared.Scale.the-variants as S
 use borrow.Author.Needs.{needs}
 use Rattle.via_tai.proofs.inner.to_utc.Statement.{statement}
 use Rattle.via_tai.proofs.inner.to_utc.Tie as tie
-use Rattle.via_tai.specs.Ways.{utc-expired, unexpired-few, utc-early, utc-in}
+use Rattle.via_tai.specs.Meaning.{toUtc}
+use Rattle.via_tai.specs.Ways.{utc-expired}
 
 -- whether the count is expired
 abbrev entry : tie.After-is-expired → tie.Start
@@ -27,26 +29,14 @@ returns c =
     let a = s .args in
     utc-expired (a .c .0) (a .days .now) (a .offsets .now) (a .last) (s .pre .1) (sym (expired (c .before)) ∙ c .if1 .taken)
 
+unexpired-to-utc-requires : tie.Need-unexpired-to-utc-requires
+unexpired-to-utc-requires c κs = let s = entry (c .before) in (s .pre .0, (rw (toZ-ofZ (s .fits .last)) (s .pre .1), rw (toZ-ofZ (s .fits .last)) (unexpired c)))
+
 returns-2 : tie.Need-returns-2
 returns-2 c =
-    let b = c .before .before in
-    let s = entry (b .before) in
+    let s = entry (c .before .before) in
     let a = s .args in
-    utc-early (a .c .0) (a .days .now) (a .offsets .now) (a .last) (s .pre .1) (unexpired b) (s .pre .0) (c .if2 .taken)
-
-utc-at-requires : tie.Need-utc-at-requires
-utc-at-requires c κs =
-    let b = c .before .before in
-    let s = entry (b .before) in
-    let a = s .args in
-    (usable (a .days .now) (a .offsets .now) (a .last) (s .pre .1), (s .pre .0, unexpired-few (a .c .0) (a .days .now) (a .offsets .now) (a .last) (s .pre .1) (unexpired b)))
-
-returns-3 : tie.Need-returns-3
-returns-3 c =
-    let b = c .before .before .before in
-    let s = entry (b .before) in
-    let a = s .args in
-    utc-in (a .c .0) (a .days .now) (a .offsets .now) (a .last) (s .pre .1) (unexpired b) (c .before .if2 .left) (c .utc-at .result .0) (c .utc-at .ensures)
+    c .unexpired-to-utc .ensures ∙ ap (λ (e : ℤ). dated S.Utc (outcome (toUtc (a .days .now) (a .offsets .now) e (microsAt (a .c .0))))) (toZ-ofZ (s .fits .last))
 
 pub to-utc-spec : {M : Type 1} → statement M
 to-utc-spec =
@@ -54,9 +44,5 @@ to-utc-spec =
     (tie.spec
     (λ c κs. search needs)
     returns
-    (λ c. search needs)
-    (λ c. search needs)
-    (λ c. search needs)
-    returns-2
-    utc-at-requires
-    returns-3)
+    unexpired-to-utc-requires
+    returns-2)
