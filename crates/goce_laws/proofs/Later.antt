@@ -3,15 +3,15 @@
 use mathlib.Core.Path.{_≡_, refl, sym, ap, _∙_}
 use mathlib.Core.Bool.{true, false, cond, not, _&&_}
 use mathlib.Core.List.{List}
-use Prim.Native.Nat.{ℕ, _*_, _^_, _<_}
-use lib.Dec.{ltb, lit<}
+use Prim.Native.Nat.{ℕ, _*_, _<_}
+use lib.Dec.{lit<}
 use lib.IntN.{ℤ, pos}
 use lib.Signed.{ltZ, leZ}
 use borrow.Author.Tests.{lt-ltb}
 use Rattle.axis.specs.Meaning.{Moment}
 use Rattle.scales.specs.Meaning.{first, last, refused, answer, outcome}
 use Rattle.scales.specs.declared.Scale.the-variants as S
-use Rattle.leap.specs.Meaning.{through, isStep, taiOf, hasMicro, isExpiredDay, isExpiredTai, utcOf, publishedDays, publishedOffsets, publishedLast}
+use Rattle.leap.specs.Meaning.{through, isStep, taiOf, hasMicro, isExpiredDay, utcOf, publishedDays, publishedOffsets, publishedLast}
 use Rattle.leap.specs.Published.{published}
 use Rattle.leap_laws.proofs.Computed.{earlierDays, earlierOffsets, evenDays, evenOffsets, evenLast, even, published-6209}
 use Rattle.leap_laws.proofs.Lists.{publishedTo, withEven}

@@ -9,7 +9,8 @@ use Rattle.leap_laws.proofs.Instances.{correlated-back}
 use Rattle.leap_laws.proofs.Marks.{change-ignores, judged-ignores, keeps-mark, keeps-mark-instance}
 use Rattle.sbt_laws.proofs.Answers.{dates as sbt-laws-answers-dates, exact as sbt-laws-answers-exact, turns as sbt-laws-answers-turns}
 use Rattle.sbt_laws.proofs.Cases.{date-marked as sbt-laws-cases-date-marked, night, receipt-covered as sbt-laws-cases-receipt-covered, receipt-received as sbt-laws-cases-receipt-received}
-use Rattle.sbt_laws.proofs.Fresh.{kept-date as sbt-laws-fresh-kept-date, kept-lacking as sbt-laws-fresh-kept-lacking, kept-tick, now-dates as sbt-laws-fresh-now-dates, tai-date-base, tai-kept, tai-tick-base, utc-date-stays as sbt-laws-fresh-utc-date-stays, utc-tick-stays}
+use Rattle.sbt_laws.proofs.Fresh.{kept-date as sbt-laws-fresh-kept-date, kept-lacking as sbt-laws-fresh-kept-lacking, kept-later as sbt-laws-fresh-kept-later, kept-tick, now-dates as sbt-laws-fresh-now-dates, tai-date-base, tai-date-later, tai-kept, tai-tick-base, utc-date-stays as sbt-laws-fresh-utc-date-stays, utc-tick-stays}
+use Rattle.sbt_laws.proofs.Later.{as-before as sbt-laws-later-as-before, at-receipt, before-first as sbt-laws-later-before-first, eleven-early as sbt-laws-later-eleven-early, list-ends as sbt-laws-later-list-ends, microsecond-later as sbt-laws-later-microsecond-later, nine-lacking as sbt-laws-later-nine-lacking, not-after as sbt-laws-later-not-after, only-later as sbt-laws-later-only-later, past-list as sbt-laws-later-past-list, past-span as sbt-laws-later-past-span, sixty-before as sbt-laws-later-sixty-before, sixty-lacking as sbt-laws-later-sixty-lacking, span-ends as sbt-laws-later-span-ends}
 use Rattle.sbt_laws.proofs.Marks.{correlated as sbt-laws-marks-correlated}
 use Rattle.sbt_laws.proofs.NewYear.{across as sbt-laws-new-year-across, back-across as sbt-laws-new-year-back-across, dating-refusals as sbt-laws-new-year-dating-refusals, exactly-time, receipt-covered as sbt-laws-new-year-receipt-covered, receipt-received as sbt-laws-new-year-receipt-received, time-trip as sbt-laws-new-year-time-trip, too-far as sbt-laws-new-year-too-far, too-late as sbt-laws-new-year-too-late, trip as sbt-laws-new-year-trip, turning-refusals as sbt-laws-new-year-turning-refusals}
 use Rattle.sbt_laws.proofs.Night.{no-wrap as sbt-laws-night-no-wrap, outside-window as sbt-laws-night-outside-window, received-after as sbt-laws-night-received-after, received-before as sbt-laws-night-received-before}
@@ -17,7 +18,8 @@ use Rattle.sbt_laws.proofs.Stays.{date-base, date-stays as sbt-laws-stays-date-
 use Rattle.sbt_laws.proofs.Trips.{little-earlier as sbt-laws-trips-little-earlier, never-later as sbt-laws-trips-never-later, record-back as sbt-laws-trips-record-back, same-tick}
 use Rattle.goce_laws.proofs.Answers.{dates as goce-laws-answers-dates, exact as goce-laws-answers-exact, turns as goce-laws-answers-turns}
 use Rattle.goce_laws.proofs.Cases.{date-marked as goce-laws-cases-date-marked, receipt-covered as goce-laws-cases-receipt-covered, receipt-received as goce-laws-cases-receipt-received, sum}
-use Rattle.goce_laws.proofs.Fresh.{kept-count, kept-date as goce-laws-fresh-kept-date, kept-lacking as goce-laws-fresh-kept-lacking, now-dates as goce-laws-fresh-now-dates, utc-count-stays, utc-date-stays as goce-laws-fresh-utc-date-stays}
+use Rattle.goce_laws.proofs.Fresh.{kept-count, kept-date as goce-laws-fresh-kept-date, kept-lacking as goce-laws-fresh-kept-lacking, kept-later as goce-laws-fresh-kept-later, now-dates as goce-laws-fresh-now-dates, utc-count-stays, utc-date-stays as goce-laws-fresh-utc-date-stays}
+use Rattle.goce_laws.proofs.Later.{as-before as goce-laws-later-as-before, before-first as goce-laws-later-before-first, eleven-early as goce-laws-later-eleven-early, list-ends as goce-laws-later-list-ends, microsecond-later as goce-laws-later-microsecond-later, nine-lacking as goce-laws-later-nine-lacking, not-after as goce-laws-later-not-after, only-later as goce-laws-later-only-later, past-list as goce-laws-later-past-list, past-span as goce-laws-later-past-span, sixty-before as goce-laws-later-sixty-before, sixty-lacking as goce-laws-later-sixty-lacking, span-ends as goce-laws-later-span-ends}
 use Rattle.goce_laws.proofs.Marks.{correlated as goce-laws-marks-correlated}
 use Rattle.goce_laws.proofs.NewYear.{across as goce-laws-new-year-across, back-across as goce-laws-new-year-back-across, dating-refusals as goce-laws-new-year-dating-refusals, receipt-covered as goce-laws-new-year-receipt-covered, time-trip as goce-laws-new-year-time-trip, too-far as goce-laws-new-year-too-far, too-late as goce-laws-new-year-too-late, trip as goce-laws-new-year-trip, turning-refusals as goce-laws-new-year-turning-refusals}
 use Rattle.goce_laws.proofs.Night.{no-wrap as goce-laws-night-no-wrap, outside-window as goce-laws-night-outside-window, received-after as goce-laws-night-received-after, received-before as goce-laws-night-received-before}
@@ -45,7 +47,7 @@ use Rattle.lines_laws.specs.First.{line-numbers, line-outcome}
 use Rattle.lines_laws.specs.Run.{any-blocks}
 use Rattle.c_api_laws.proofs.Marks.{by-handed, decimal-unmarked, decimal-unmarked-instance, handed-again, handed-again-instance, known-mark-instance, mark-ignored as c-api-laws-marks-mark-ignored, mark-ignored-instance as c-api-laws-marks-mark-ignored-instance, plain-source, plain-source-instance, unknown-mark, unknown-mark-instance}
 use Rattle.c_api_laws.proofs.One.{decimal-one}
-use Rattle.marked.proofs.Marked.{marked, ten-cases}
+use Rattle.marked.proofs.Marked.{by-receipt, marked, ten-cases}
 use Rattle.promises.specs.First.{exactly, first-is, first-then, promised, then-first}
 use Rattle.promises.specs.Instances.{change-for-c-instance, cryosat-time-instance, cuc-time-instance, date-for-c-instance, decimal-write-for-c-instance, decimal-write-instance, exactly-instance, goce-count-for-c-instance, goce-date-for-c-instance, gps-to-utc-never-11-instance, handed-gps-to-utc-never-11-instance, kept-instance, line-instance, paper-instance, proteus-read-never-7-instance, proteus-time-instance, refusal-instance, siral-time-instance, sixty-instance, take-instance, text-read-for-c-instance, text-write-for-c-instance, tick-for-c-instance, without-list-never-5-instance}
 use Rattle.promises.specs.Marks.{mark-ignored as promises-marks-mark-ignored, mark-ignored-instance as promises-marks-mark-ignored-instance}

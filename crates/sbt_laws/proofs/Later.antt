@@ -11,7 +11,7 @@ use Rattle.scales.specs.Meaning.{first, last, refused, answer, outcome}
 use Rattle.scales.specs.declared.Scale.the-variants as S
 use Rattle.leap.specs.Meaning.{through, isStep, taiOf, publishedDays, publishedOffsets, publishedLast}
 use Rattle.leap.specs.Published.{published}
-use Rattle.leap_laws.proofs.Computed.{earlierDays, earlierOffsets, earlier-6209, published-6209}
+use Rattle.leap_laws.proofs.Computed.{earlierDays, earlierOffsets, published-6209}
 use Rattle.leap_laws.proofs.Lists.{withPublished, publishedTo, withNone}
 use Rattle.clock.specs.Meaning.{instant, momentAfter, isCurrent, isCurrentAt, hasSecond, elapsed, clock, time, inWindow, within, bothKnown}
 use Rattle.clock_laws.proofs.Later.{untested, passes8, isLater}

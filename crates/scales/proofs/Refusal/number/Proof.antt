@@ -1,5 +1,5 @@
 -- `scales::Refusal::number` meets its contract. Assumes nothing.
-use mathlib.Core.Path.{_≡_, sym, ap}
+use mathlib.Core.Path.{sym, ap}
 use borrow.Author.Needs.{needs}
 use Rattle.scales.specs.Meaning.{numberOf}
 use Rattle.scales.proofs.Refusal.number.Statement.{statement}
