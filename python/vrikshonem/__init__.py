@@ -42,7 +42,7 @@ from ._runs import *
 from ._season import *
 from ._times import *
 
-__version__ = "0.5.1"
+__version__ = "0.5.2"
 # Each module lists its own names, and in this form a checker of types can add them up.
 __all__: list[str] = []
 __all__ += _correlations.__all__
