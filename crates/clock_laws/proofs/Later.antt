@@ -50,6 +50,7 @@ late-is : (k b : Bool) → cond k (not b) true ≡ not (k && b)
 late-is true b = refl
 late-is false b = refl
 
+-- and among the others
 among : {A : Type 0} (l a s f b : Bool) (o : Outcome A) →
     cond l (cond a (cond s (cond f (cond (not b) o (refused 17)) (refused 8)) (refused 7)) (refused 6)) (refused 5)
     ≡ cond ((l && (a && (s && f))) && b) (refused 17) (cond l (cond a (cond s (cond f o (refused 8)) (refused 7)) (refused 6)) (refused 5))
@@ -191,24 +192,28 @@ module _ (accepted : Bool) (c : Clock) (r : ℕ) (based : accepted ≡ true → 
           known = and-both (isCurrent s e (c .day)) (isKnown s ds e d u) k .1;
         }
 
-    -- time(k) is later, or it is not
-    by : {B : Type 0} → (outcome (dating accepted c t d u ds os e) ≡ refused 17 → B) → (leZ z (instant s ds os d u) ≡ true → B) → B
-    by {B} g f = go (ltZ (instant s ds os d u) z) refl
+    -- 17, where time(k) cannot but be later
+    is-17 : (leZ z (instant s ds os d u) ≡ true → ⊥) → outcome (dating accepted c t d u ds os e) ≡ refused 17
+    is-17 f = go (ltZ (instant s ds os d u) z) refl
       where
-        go : (b : Bool) → ltZ (instant s ds os d u) z ≡ b → B
-        go true q = g (only-later accepted c t d u ds os e ∙ rw (v, k, q))
-        go false q = f (le-not z (instant s ds os d u) ∙ ap not q)
+        go : (b : Bool) → ltZ (instant s ds os d u) z ≡ b → outcome (dating accepted c t d u ds os e) ≡ refused 17
+        go true q = only-later accepted c t d u ds os e ∙ rw (v, k, q)
+        go false q = absurd (f (le-not z (instant s ds os d u) ∙ ap not q))
 
     -- past the list's end, or past the span's: always 17
     pub past-list : isCurrentAt (c .scale) ds os e (time c (elapsed c t)) ≡ false → outcome (dating accepted c t d u ds os e) ≡ refused 17
     past-list x =
         let q = has-passed in
-        by (λ y. y) (λ h. absurd (false≢true (sym x ∙ current (q .serves) (q .accepts) (q .received) (q .known) h)))
+        is-17 (λ h. false≢true (sym x ∙ current (q .serves) (q .accepts) (q .received) (q .known) h))
 
     pub past-span : ltZ (last (c .scale)) (momentAfter (c .scale) ds os (time c (elapsed c t)) .day) ≡ true → outcome (dating accepted c t d u ds os e) ≡ refused 17
     past-span x =
         let q = has-passed in
-        by (λ y. y) (λ h. absurd (false≢true (sym (not-both s (momentAfter s ds os z .day) x) ∙ early (q .serves) (q .accepts) (q .received) (q .known) h (outside s (momentAfter s ds os z) x))))
+        is-17
+        (λ h.
+        false≢true
+        (sym (not-both s (momentAfter s ds os z .day) x)
+        ∙ early (q .serves) (q .accepts) (q .received) (q .known) h (outside s (momentAfter s ds os z) x)))
 
   -- ---- what is left to 11: before the first day
   pub eleven-early : outcome (dating accepted c t d u ds os e) ≡ refused 11 → ltZ (momentAfter (c .scale) ds os (time c (elapsed c t)) .day) (first (c .scale)) ≡ true
