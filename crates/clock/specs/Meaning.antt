@@ -96,7 +96,8 @@ coversTime c d u ds os e = cond (bothKnown c d u ds e) (covers c (instant (c .sc
 abbrev pub inForce : Clock → ℤ → ℤ → ℕ → List ℤ → List ℕ → ℤ → Bool
 inForce c k d u ds os e = inWindow c k && coversTime c d u ds os e
 
--- ---- "Refuse a correlated time later than its receipt ..; under a UTC correlation the two are compared in TAI, once both are known there"
+-- ---- the time z of a count, received at microsecond u of day d: "Refuse a correlated time later than its receipt ..; under a UTC
+-- correlation the two are compared in TAI, once both are known there"
 abbrev pub notLater : Clock → ℤ → ℤ → ℕ → List ℤ → List ℕ → ℤ → Bool
 notLater c z d u ds os e = cond (bothKnown c d u ds e) (leZ z (instant (c .scale) ds os d u)) true
 

@@ -111,6 +111,9 @@ module _ (c : Clock) (r : ℕ) (b : Based c r) where
       ∙ sub-eq (r + k * n) (3456000000000000 * d + h * n) (r + k * n - h * n) (3456000000000000 * d) (omega (arith, b .early)))
       ∙ sub-floor (r + k * n - h * n) 3456000000000000 d (b .runs .whole)
 
+  pub counted-place : (t : ℕ) → time c (elapsed c t) ≡ microsAt (timeAt r (c .gain) (c .per) (c .half) (countFrom (c .half) t (c .reference)))
+  counted-place t = ap (time c) (elapsed-place c t (omega (arith, b .runs .ahead-to))) ∙ time-place (countFrom (c .half) t (c .reference))
+
   pub time-far : (k : ℕ) → 10000000 ≤ timeAt r (c .gain) (c .per) (c .half) k
   time-far k = le-div-iff-mul-le (b .runs .whole) .1 (omega (arith, b .early))
 

@@ -8,9 +8,9 @@ use native.Mathlib.Omega.{arith}
 use lib.Dec.{ltb}
 use lib.IntN.{ℤ, pos, _+ℤ_, _*ℤ_}
 use lib.Signed.{leZ}
-use borrow.Author.Tests.{not-true}
+use borrow.Author.Tests.{not-true, le-leb}
 use Rattle.axis.specs.Meaning.{placeOfDay, dayAt, microsAt, Moment, dayMicros, since, momentOf}
-use Rattle.axis.specs.Axis.{day-place, micros-add}
+use Rattle.axis.specs.Axis.{day-place, micros-le, micros-add}
 use Rattle.axis.specs.Diff.{sub-mul}
 use Rattle.axis.specs.Shift.{number-add}
 use Rattle.scales.specs.Meaning.{first, last, inSpan, Judged, given, gives, Outcome, refused, answer, outcome, Slip, dated, momentAt, numberOf, resulting}
@@ -215,7 +215,8 @@ module _ (m : Moment) (ds : List ℤ) (os : List ℕ) (e : ℤ) where
   unexpired v i w n q l =
       let a = at-place (microsAt w) q in
       let p = placed S.Utc (m .day) (m .micro) i in
-      current-to ds os e v (m .day) (m .micro) (p .from) (a .current) (p .under) (a .second) w n (a .is) l
+      current-to ds os e v (m .day) (m .micro) (p .from) (a .current) (p .under) (a .second) n
+      (ap (leZ (microsAt n)) (a .is) ∙ micros-le n w ∙ le-leb n w l)
 
   -- a count of its span, by the way to TAI
   pub left-placing : (r : DatedTai) (n : ℕ) → Spanned S.Utc n → momentAt S.Utc n ≡ m → Left (ofCount S.Utc n (fromUtc ds os e)) r →

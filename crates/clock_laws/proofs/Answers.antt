@@ -20,7 +20,7 @@ use Rattle.clock.specs.Meaning.{Clock, instant, momentAfter, listServes, isCurr
 use Rattle.clock.specs.Signs.{le-trans}
 use Rattle.clock.specs.Stage.{placing, at-place}
 use Rattle.clock.specs.Window.{Runs}
-use Rattle.clock.specs.Places.{timeAt, countFrom, elapsed-place, Based, time-place, time-far}
+use Rattle.clock.specs.Places.{timeAt, countFrom, Based, counted-place, time-far}
 use Rattle.leap_laws.proofs.Stands.{leaves}
 use Rattle.leap_laws.proofs.Arrives.{found-utc}
 use Rattle.clock_laws.proofs.Counts.{further, whole, elapsed-one}
@@ -136,7 +136,7 @@ module _ (accepted : Bool) (c : Clock) (r : ℕ) (based : accepted ≡ true → 
       let b = based (q .accepts) in
       let n = countFrom (c .half) t (c .reference) in
       let w = timeAt r (c .gain) (c .per) (c .half) n in
-      let p : time c (elapsed c t) ≡ microsAt w = ap (time c) (elapsed-place c t (omega (arith, b .runs .ahead-to))) ∙ time-place c r b n in
+      let p = counted-place c r b t in
       subst (KnownAt (c .scale) m ds os e) (sym p)
       (settles ds os e w m (c .scale) (q .serves) (time-far c r b n)
       (ap (λ (z : ℤ). outcome (settling (c .scale) z ds os e)) (sym p) ∙ rw (q .current, q .is, q .span)))

@@ -17,10 +17,10 @@ use Rattle.scales.specs.Place.{firstAt, apart, and-both, and-false, placed, spa
 use Rattle.scales.specs.declared.Scale.{Scale}
 use Rattle.scales.specs.declared.Scale.the-variants as S
 use Rattle.leap.specs.Meaning as Leap
-use Rattle.via_tai.specs.Known.{tai-current}
+use Rattle.via_tai.specs.Known.{current-to}
 use Rattle.leap_laws.proofs.Never.{tai-early}
 use Rattle.clock.specs.Meaning.{Clock, instant, momentAfter, listServes, isCurrent, isCurrentAt, hasSecond, isKnown, elapsed, time, bothKnown, inForce, dating}
-use Rattle.clock.specs.Places.{timeAt, countFrom, elapsed-place, Based, time-place, time-far}
+use Rattle.clock.specs.Places.{timeAt, countFrom, Based, counted-place, time-far}
 use Rattle.clock.specs.Signs.{le-trans, above-next}
 use Rattle.clock.specs.Stage.{spot, held, since-place}
 use Rattle.clock_laws.proofs.Answers.{dates, exact}
@@ -75,28 +75,17 @@ only-later accepted c t d u ds os e =
     (given (hasSecond s ds d u) 10
     (resulting s (momentAfter s ds os z))))))
 
--- ---- a known time of its span, and an instant that is not later
+-- ---- a known time of its span, and a place that is not later
 module _ (ds : List ℤ) (os : List ℕ) (e : ℤ) (d : ℤ) (u : ℕ) where
-  known-current : (s : Scale) → listServes s ds os e ≡ true → inSpan s d u ≡ true → isKnown s ds e d u ≡ true → isCurrentAt s ds os e (instant s ds os d u) ≡ true
-  known-current S.Tai l p k = refl
-  known-current S.Gps l p k = refl
-  known-current S.Utc l p k =
+  -- the list has no end between them
+  current-at : (s : Scale) → listServes s ds os e ≡ true → inSpan s d u ≡ true → isKnown s ds e d u ≡ true → (w : ℕ) →
+      leZ (microsAt w) (instant s ds os d u) ≡ true → isCurrentAt s ds os e (microsAt w) ≡ true
+  current-at S.Tai l p k w h = refl
+  current-at S.Gps l p k w h = refl
+  current-at S.Utc l p k w h =
       let b = and-both (isCurrent S.Utc e d) (hasSecond S.Utc ds d u) k in
       let q = placed S.Utc d u p in
-      ap not (tai-current ds os e l d u (q .from) (not-true (Leap.isExpiredDay e d) (b .0)) (q .under) (b .1))
-
-  -- the list has no end between them
-  current-before : (s : Scale) (z : ℤ) → leZ z (instant s ds os d u) ≡ true → isCurrentAt s ds os e (instant s ds os d u) ≡ true → isCurrentAt s ds os e z ≡ true
-  current-before S.Tai z h k = refl
-  current-before S.Gps z h k = refl
-  current-before S.Utc z h k = go (Leap.isExpiredTai ds os e z) refl
-    where
-      i : ℤ
-      i = Leap.taiOf ds os d u
-
-      go : (b : Bool) → Leap.isExpiredTai ds os e z ≡ b → not b ≡ true
-      go false x = refl
-      go true x = absurd (false≢true (sym (not-true (Leap.isExpiredTai ds os e i) k) ∙ le-trans (Leap.taiOf ds os (e +ℤ pos 1) 0) z i x h))
+      ap not (current-to ds os e l d u (q .from) (not-true (Leap.isExpiredDay e d) (b .0)) (q .under) (b .1) w h)
 
   -- nor has the span
   module _ (w : ℕ) (h : leZ (microsAt w) (since d u) ≡ true) where
@@ -123,7 +112,7 @@ module _ (ds : List ℤ) (os : List ℕ) (e : ℤ) (d : ℤ) (u : ℕ) where
   result-early S.Tai l p k w far h o = own-early w h S.Tai p (placed S.Tai d u p .under) o
   result-early S.Gps l p k w far h o = own-early w h S.Gps p (placed S.Gps d u p .under) o
   result-early S.Utc l p k w far h o =
-      tai-early ds os e l w far (not-true (Leap.isExpiredTai ds os e (microsAt w)) (current-before S.Utc (microsAt w) h (known-current S.Utc l p k))) o
+      tai-early ds os e l w far (not-true (Leap.isExpiredTai ds os e (microsAt w)) (current-at S.Utc l p k w h)) o
 
 -- what is after the last day is outside the span, and not before its first
 outside : (s : Scale) (m : Moment) → ltZ (last s) (m .day) ≡ true → inSpan s (m .day) (m .micro) ≡ false
@@ -157,20 +146,24 @@ module _ (accepted : Bool) (c : Clock) (r : ℕ) (based : accepted ≡ true → 
   -- what is before the receipt and outside the span is before its first day
   module _ (l : listServes s ds os e ≡ true) (a : accepted ≡ true) (p : inSpan s d u ≡ true) (k : isKnown s ds e d u ≡ true)
       (h : leZ z (instant s ds os d u) ≡ true) where
+    abbrev w : ℕ
+    w = timeAt r (c .gain) (c .per) (c .half) (countFrom (c .half) t (c .reference))
+
+    place : z ≡ microsAt w
+    place = counted-place c r (based a) t
+
+    not-past : leZ (microsAt w) (instant s ds os d u) ≡ true
+    not-past = ap (λ (y : ℤ). leZ y (instant s ds os d u)) (sym place) ∙ h
+
     early : let m = momentAfter s ds os z in inSpan s (m .day) (m .micro) ≡ false → ltZ (m .day) (first s) ≡ true
     early o =
-        let b = based a in
-        let n = countFrom (c .half) t (c .reference) in
-        let w = timeAt r (c .gain) (c .per) (c .half) n in
-        let q : z ≡ microsAt w = ap (time c) (elapsed-place c t (omega (arith, b .runs .ahead-to))) ∙ time-place c r b n in
-        ap (λ (y : ℤ). ltZ (momentAfter s ds os y .day) (first s)) q
-        ∙ result-early ds os e d u s l p k w (time-far c r b n)
-        (ap (λ (y : ℤ). leZ y (instant s ds os d u)) (sym q) ∙ h)
-        (ap (λ (y : ℤ). inSpan s (momentAfter s ds os y .day) (momentAfter s ds os y .micro)) (sym q) ∙ o)
+        ap (λ (y : ℤ). ltZ (momentAfter s ds os y .day) (first s)) place
+        ∙ result-early ds os e d u s l p k w (time-far c r (based a) (countFrom (c .half) t (c .reference))) not-past
+        (ap (λ (y : ℤ). inSpan s (momentAfter s ds os y .day) (momentAfter s ds os y .micro)) (sym place) ∙ o)
 
     -- and not expired
     current : isCurrentAt s ds os e z ≡ true
-    current = current-before ds os e d u s z h (known-current ds os e d u s l p k)
+    current = ap (isCurrentAt s ds os e) place ∙ current-at ds os e d u s l p k w not-past
 
   -- ---- 8 has passed, reference and receipt being known
   module _ (v : passes8 accepted c t d u ds os e ≡ true) (k : bothKnown c d u ds e ≡ true) where

@@ -20,7 +20,7 @@ use Rattle.leap.specs.Meaning as Leap
 use Rattle.via_tai.specs.Meaning.{isUtc}
 use Rattle.leap_laws.proofs.Kept.{Follows, kept}
 use Rattle.clock.specs.Meaning.{Clock, instant, momentAfter, isCurrent, isCurrentAt, hasSecond, elapsed, time, inWindow, within, covers, coversTime, inForce, notLater, dating, lastCount, countAt, instantOf, hasImage, turning}
-use Rattle.clock.specs.Places.{timeAt, countFrom, elapsed-place, Based, time-place}
+use Rattle.clock.specs.Places.{timeAt, countFrom, Based, counted-place}
 use Rattle.clock.specs.Signs.{le-trans}
 use Rattle.clock.specs.Stage.{held}
 use Rattle.clock.specs.Window.{Runs, rises, last-is}
@@ -152,7 +152,7 @@ module _ (c : Clock) (q : ℕ) (axis : Based c q) (r : ℤ) (b a : ℕ) (l : c .
 
     placed : time c (elapsed c t) ≡ microsAt n
     unfolding n
-    placed = ap (time c) (elapsed-place c t (omega (arith, axis .runs .ahead-to))) ∙ time-place c q axis (countFrom (c .half) t (c .reference))
+    placed = counted-place c q axis t
 
     current-there : isCurrentAt s ds os e (microsAt n) ≡ true
     current-there = ap (isCurrentAt s ds os e) (sym placed) ∙ h

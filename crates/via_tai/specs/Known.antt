@@ -7,10 +7,10 @@ use Prim.Native.Nat.{ℕ, _+_, _<_, _≤_}
 use native.Mathlib.Omega.{arith}
 use lib.IntN.{ℤ}
 use lib.Signed.{leZ}
-use borrow.Author.Tests.{leb-true, lt-leb}
+use borrow.Author.Tests.{leb-true, le-leb, lt-leb}
 use Rattle.axis.specs.Meaning.{placeOfDay, dayAt, microsAt, Moment}
-use Rattle.axis.specs.Axis.{day-place, day-to}
-use Rattle.axis.specs.Diff.{le-not, sub-inj-same}
+use Rattle.axis.specs.Axis.{day-place, day-to, micros-le}
+use Rattle.axis.specs.Diff.{le-not}
 use Rattle.leap.specs.Meaning.{accepted, taiOf, hasMicro, isExpiredDay, isExpiredTai, utcOf}
 use Rattle.leap.specs.Places.{tai-at}
 use Rattle.leap.specs.Steps.{steps}
@@ -44,14 +44,17 @@ module _ (ds : List ℤ) (os : List ℕ) (e : ℤ) (w : accepted ds os e ≡ tru
   tai-is = ap (λ (z : ℤ). taiOf ds os z u) (sym day) ∙ tai-at ds os (placeOfDay d) u
 
   -- a TAI count that is not later
-  pub current-to : (c n : ℕ) → taiOf ds os d u ≡ microsAt c → n ≤ c → isExpiredTai ds os e (microsAt n) ≡ false
-  current-to c n q l =
-      let i = sub-inj-same 3456000000000000 (taiAt ds os (placeOfDay d) u) c (sym tai-is ∙ q) in
+  pub current-to : (n : ℕ) → leZ (microsAt n) (taiOf ds os d u) ≡ true → isExpiredTai ds os e (microsAt n) ≡ false
+  current-to n q =
+      let c = taiAt ds os (placeOfDay d) u in
+      let l = leb-true n c (sym (ap (leZ (microsAt n)) tai-is ∙ micros-le n c) ∙ q) in
       expires ds os e w n
-      ∙ lt-leb (taiAt ds os (placeOfDay e + 1) 0) n (omega (arith, i, known-before ds os e w (placeOfDay d) u real by))
+      ∙ lt-leb (taiAt ds os (placeOfDay e + 1) 0) n (omega (arith, l, known-before ds os e w (placeOfDay d) u real by))
 
   pub tai-current : isExpiredTai ds os e (taiOf ds os d u) ≡ false
-  tai-current = ap (isExpiredTai ds os e) tai-is ∙ current-to (taiAt ds os (placeOfDay d) u) (taiAt ds os (placeOfDay d) u) tai-is (omega arith)
+  tai-current =
+      let c = taiAt ds os (placeOfDay d) u in
+      ap (isExpiredTai ds os e) tai-is ∙ current-to c (ap (leZ (microsAt c)) tai-is ∙ micros-le c c ∙ le-leb c c (omega arith))
 
   pub utc-back : utcOf ds os (taiOf ds os d u) ≡ record { day = d; micro = u }
   utc-back =
