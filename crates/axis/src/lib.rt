@@ -1,5 +1,7 @@
 // The one axis: signed days, and signed microseconds and counts since day 0, as naturals and back.
 // Only these eight functions and the two of `inner` meet a signed number; all other code reckons with places.
+#![tactic(auto)]
+
 ghost use Rattle.std.specs.Prelude.{◌≡◌};
 ghost use Rattle.axis.specs.Meaning.{is_between, place_of_day, day_at, place_of_micros, held_micros_at, place_of_counts, signed_of, bits_of};
 

@@ -15,7 +15,7 @@ use crate::{Given, VrkCount, VrkHanded, VrkTime, hand, tick_out, time_out};
 use scales::{Counted, Tick, Written};
 
 #[repr(C)]
-#[derive(Drop)]
+#[derive(Clone, Copy)]
 pub struct VrkWritten {
     pub refusal: u32,
     pub length: u64,
@@ -97,7 +97,7 @@ pub extern "C" fn vrk_sbt_read(bytes: &[u8]) -> VrkCount
 }
 
 // The layouts of a time.
-#[derive(Drop)]
+#[derive(Clone, Copy)]
 enum Layout {
     Cuc,
     Cryosat,

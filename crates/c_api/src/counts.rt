@@ -7,7 +7,7 @@ use crate::{Given, VrkCount, VrkHanded, VrkTime, hand, time_out};
 use goce::Correlation;
 
 #[repr(C)]
-#[derive(Drop)]
+#[derive(Clone, Copy)]
 pub struct VrkGoceCorrelation {
     pub obt0: u64,
     pub utc0: u64,

@@ -1,5 +1,7 @@
 // The C interface: each function a thin cover of a library function, with the same full contract. `include/vrikshonem.h`
 // says it for C.
+#![tactic(auto)]
+
 ghost use Rattle.std.specs.Prelude.{◌≡◌};
 ghost use Rattle.scales.specs.Meaning.{slip, tick_slip};
 ghost use Rattle.decimal.specs.Meaning.{decimal_slip};
@@ -21,7 +23,7 @@ pub mod texts;
 use marks::{MarkNamed, mark_code, mark_named, mark_source};
 
 #[repr(C)]
-#[derive(Drop)]
+#[derive(Clone, Copy)]
 pub struct VrkHanded {
     pub kind: u32,
     pub scale: u32,
@@ -33,7 +35,7 @@ pub struct VrkHanded {
 }
 
 #[repr(C)]
-#[derive(Drop)]
+#[derive(Clone, Copy)]
 pub struct VrkTime {
     pub refusal: u32,
     pub scale: u32,
@@ -44,14 +46,14 @@ pub struct VrkTime {
 }
 
 #[repr(C)]
-#[derive(Drop)]
+#[derive(Clone, Copy)]
 pub struct VrkDecimal {
     pub refusal: u32,
     pub day: f64,
 }
 
 #[repr(C)]
-#[derive(Drop)]
+#[derive(Clone, Copy)]
 pub struct VrkSbtCorrelation {
     pub tick: u32,
     pub scale: u32,
@@ -63,19 +65,19 @@ pub struct VrkSbtCorrelation {
 }
 
 #[repr(C)]
-#[derive(Drop)]
+#[derive(Clone, Copy)]
 pub struct VrkCount {
     pub refusal: u32,
     pub count: u64,
 }
 
-#[derive(Drop)]
+#[derive(Clone, Copy)]
 enum ScaleNamed {
     Scale(Scale),
     Unknown,
 }
 
-#[derive(Drop)]
+#[derive(Clone, Copy)]
 enum Given {
     Handed(Handed),
     Unknown,

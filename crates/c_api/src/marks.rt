@@ -4,7 +4,7 @@ ghost use Rattle.c_api.specs.Marks.{bit_of, marked_by, mark_code, mark_source};
 
 use scales::Mark;
 
-#[derive(Drop)]
+#[derive(Clone, Copy)]
 pub(crate) enum MarkNamed {
     Mark(Mark),
     Unknown,

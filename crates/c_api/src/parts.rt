@@ -15,7 +15,7 @@ use layout_fields::proteus::ProteusParted;
 use layout_fields::siral::SiralParted;
 
 #[repr(C)]
-#[derive(Drop)]
+#[derive(Clone, Copy)]
 pub struct VrkCucFields {
     pub refusal: u32,
     pub seconds: u32,
@@ -23,7 +23,7 @@ pub struct VrkCucFields {
 }
 
 #[repr(C)]
-#[derive(Drop)]
+#[derive(Clone, Copy)]
 pub struct VrkProteusFields {
     pub refusal: u32,
     pub week: u32,
@@ -33,7 +33,7 @@ pub struct VrkProteusFields {
 }
 
 #[repr(C)]
-#[derive(Drop)]
+#[derive(Clone, Copy)]
 pub struct VrkCryosatFields {
     pub refusal: u32,
     pub day: u32,
@@ -42,7 +42,7 @@ pub struct VrkCryosatFields {
 }
 
 #[repr(C)]
-#[derive(Drop)]
+#[derive(Clone, Copy)]
 pub struct VrkSiralFields {
     pub refusal: u32,
     pub day: u32,

@@ -6,7 +6,7 @@ ghost use Rattle.c_api.specs.Runs.{run_of};
 use runs::Ran;
 
 #[repr(C)]
-#[derive(Drop)]
+#[derive(Clone, Copy)]
 pub struct VrkRun {
     pub refusal: u32,
     pub count: u64,

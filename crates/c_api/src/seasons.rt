@@ -10,7 +10,7 @@ use crate::bytes::{VrkWritten, count_out, written_out};
 use season::question::Coverage;
 
 #[repr(C)]
-#[derive(Drop)]
+#[derive(Clone, Copy)]
 pub struct VrkCover {
     pub refusal: u32,
     pub first: i64,

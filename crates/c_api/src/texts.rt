@@ -10,7 +10,7 @@ use crate::{Given, VrkHanded, VrkTime, hand, time_out};
 use text_write::Form;
 
 // A form by its length.
-#[derive(Drop)]
+#[derive(Clone, Copy)]
 pub enum FormNamed {
     Form(Form),
     Unknown,

@@ -1,5 +1,7 @@
 // The Gregorian calendar: the date of a day, the day of a date, and which days are firsts of months.
 // Inside, days are counted from 1 January 1972 and months from January 1972.
+#![tactic(auto)]
+
 ghost use Rattle.std.specs.Prelude.{◌≡◌, ◌+◌, ◌-◌, ◌<◌, ◌≤◌};
 ghost use Rattle.calendar.specs.Meaning.{leap, month_length, is_date, months_to, first_day, walk, date_at, date_slip, date_of_day, day_slip, day_of_date, is_first, all_firsts};
 ghost use Rattle.calendar.specs.Formula.{march_year, scaled_of, first_in};
@@ -9,20 +11,20 @@ use scales::Refusal;
 pub mod inner;
 
 // A date: the month and the day of the month are counted from 1.
-#[derive(Drop)]
+#[derive(Clone, Copy)]
 pub struct Date {
     pub year: u64,
     pub month: u64,
     pub day: u64,
 }
 
-#[derive(Drop)]
+#[derive(Clone, Copy)]
 pub enum DateAnswer {
     Date(Date),
     Refused(Refusal),
 }
 
-#[derive(Drop)]
+#[derive(Clone, Copy)]
 pub enum DayAnswer {
     Day(i64),
     Refused(Refusal),

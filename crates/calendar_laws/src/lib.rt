@@ -1,1 +1,2 @@
 // Theorems over the calendar's meanings, in specs/.
+#![tactic(auto)]

@@ -1,4 +1,6 @@
 // The changes between TAI, UTC and GPS. Each entry that uses a leap list tests it once and hands it to the cores.
+#![tactic(auto)]
+
 ghost use Rattle.std.specs.Prelude.{◌≡◌};
 ghost use Rattle.scales.specs.Meaning.{slip, slip_tai, slip_utc, slip_gps, time_scale, time_count};
 ghost use Rattle.changes.specs.Meaning.{tai_to_gps, gps_to_tai, utc_to_tai, utc_to_gps, tai_to_utc, gps_to_utc, change_of};

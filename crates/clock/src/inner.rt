@@ -13,7 +13,7 @@ use handed::{Handed, Taken};
 use scales::{Dated, DatedTai, DatedUtc, Record, Refusal, Scale, Tai, Time, Timed, Utc};
 
 // A place of the axis.
-#[derive(Drop)]
+#[derive(Clone, Copy)]
 pub enum Place {
     At(u64),
     Outside,
@@ -21,21 +21,21 @@ pub enum Place {
 
 // Where a UTC correlation is accepted, the place of its reference in TAI, in the counter's own parts, and whether its day is not
 // expired.
-#[derive(Drop)]
+#[derive(Clone, Copy)]
 pub enum Base {
     At(u64, bool),
     Outside,
 }
 
 // The places of time(-b) and time(a).
-#[derive(Drop)]
+#[derive(Clone, Copy)]
 pub struct Ends {
     pub from: u64,
     pub to: u64,
 }
 
 // Of a count: whether it is in the window, the window's ends, and the place of its time.
-#[derive(Drop)]
+#[derive(Clone, Copy)]
 pub struct Reckoned {
     pub inside: bool,
     pub ends: Ends,
@@ -43,7 +43,7 @@ pub struct Reckoned {
 }
 
 // The place of a time in the cover, or a refusal.
-#[derive(Drop)]
+#[derive(Clone, Copy)]
 pub enum Placed {
     At(u64),
     Refused(Refusal),

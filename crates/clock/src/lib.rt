@@ -1,3 +1,5 @@
 // A correlated counter's clock: what the dates of SBT's ticks and of GOCE's counts have in common, both ways.
 // Inside, a time is its place on the clock's axis of microseconds, and an elapsed count is held with half the modulus added.
+#![tactic(auto)]
+
 pub mod inner;

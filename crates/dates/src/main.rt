@@ -1,5 +1,7 @@
 // Prints dates of days, days of dates and firsts of months; with the argument `all`, the date of every day of the span
 // and the refusals just outside it.
+#![tactic(auto)]
+
 use calendar::{Date, DateAnswer, DayAnswer};
 use libc::STDOUT_FILENO;
 use scales::Refusal;

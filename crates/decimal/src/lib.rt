@@ -1,4 +1,6 @@
 // Decimal days: an f64 of days read and written.
+#![tactic(auto)]
+
 ghost use Rattle.std.specs.Prelude.{◌≡◌, ◌/◌, ◌^◌, ◌<◌};
 ghost use Rattle.axis.specs.Meaning.{micros_at};
 ghost use Rattle.scales.specs.Meaning.{slip, bound, time_scale, time_count};
@@ -9,7 +11,7 @@ use handed::{Handed, Taken};
 use scales::{Dated, Gps, Refusal, Scale, Tai, Time, Utc};
 
 // A decimal day as it is written, or a refusal.
-#[derive(Drop)]
+#[derive(Clone, Copy)]
 pub enum Decimal {
     Day(f64),
     Refused(Refusal),

@@ -1,18 +1,20 @@
 // Reads text lines from standard input and prints each as TAI with prefix and microseconds, or as its refusal. What is printed for
 // a block is said and proved in `lines`; here bytes are only moved.
+#![tactic(auto)]
+
 ghost use Rattle.std.specs.Prelude.{◌≤◌, length};
 
 use libc::{STDERR_FILENO, STDIN_FILENO, STDOUT_FILENO};
 
 // The bytes of a line that has begun, kept at the front of the block, and whether to go on.
-#[derive(Drop)]
+#[derive(Clone, Copy)]
 struct Turn {
     kept: usize,
     goes_on: bool,
 }
 
 // How many bytes were dated and their answers written; none where a write failed.
-#[derive(Drop)]
+#[derive(Clone, Copy)]
 struct Printed {
     dated: usize,
     failed: bool,

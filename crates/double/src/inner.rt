@@ -4,7 +4,7 @@ ghost use Rattle.std.specs.Prelude.{◌≡◌, true, ◌^◌, ◌<◌};
 ghost use Rattle.double.specs.Meaning.{signed, Holds, bits_of, QuotientOf};
 
 // The sign, the exponent's field and the digits after the first.
-#[derive(Drop)]
+#[derive(Clone, Copy)]
 pub struct Bits {
     pub minus: bool,
     pub exponent: u64,

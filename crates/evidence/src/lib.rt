@@ -1,1 +1,2 @@
 // No code: what shuts a wrong program out, for the crates of laws.
+#![tactic(auto)]

@@ -1,5 +1,7 @@
 // GOCE's correlation: the date of a 48-bit count, and the count of a time.
 // Inside, the reference is a place in counts, a time one in microseconds, both of TAI, and an elapsed count k is held as k + 2^47.
+#![tactic(auto)]
+
 ghost use Rattle.std.specs.Prelude.{◌≡◌, true, ◌<◌};
 ghost use Rattle.scales.specs.Meaning.{slip, count_slip};
 ghost use Rattle.leap.specs.Meaning as Leap;
@@ -11,7 +13,7 @@ use handed::Handed;
 use scales::{Counted, Dated, Mark, Refusal, Scale};
 
 // UTC = Gradient x (OBT - OBT0) + Offset + UTC0, in counts of 1/65536 s and billionths, and the window: counts back and counts ahead.
-#[derive(Drop)]
+#[derive(Clone, Copy)]
 pub struct Correlation {
     pub obt0: u64,
     pub utc0: u64,

@@ -10,7 +10,7 @@ use super::{Handed, Reading, Taken, first_of, read_days, time_of};
 use scales::{Record, Scale};
 
 // A record that nothing has judged yet; a decimal day outside its span becomes a record outside it.
-#[derive(Drop)]
+#[derive(Clone, Copy)]
 pub enum Laid {
     NotFinite(Scale),
     At(Record),

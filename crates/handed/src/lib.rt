@@ -1,4 +1,6 @@
 // A time that a caller hands in, a record or a decimal day: the one place where it is taken apart.
+#![tactic(auto)]
+
 ghost use Rattle.std.specs.Prelude.{◌≡◌, ◌+◌, ◌*◌, ◌/◌, ◌^◌, ◌<◌, ◌≤◌, ltb};
 ghost use Rattle.std.specs.Float.{binary64};
 ghost use Rattle.std.specs.Float.Ieee.{of_bits};
@@ -11,7 +13,7 @@ use scales::{Gps, Mark, Record, Scale, Tai, Time, Timed, Utc};
 pub mod inner;
 
 // What a caller hands in: a record, or a decimal day with its scale.
-#[derive(Drop)]
+#[derive(Clone, Copy)]
 pub enum Handed {
     Record(Record),
     Decimal(f64, Scale),
@@ -31,7 +33,7 @@ impl Handed {
 
 // What a handed time is taken for. One that is not finite is told apart from one outside its span, for
 // other refusals stand between the two.
-#[derive(Drop)]
+#[derive(Clone, Copy)]
 pub enum Taken {
     NotFinite(Scale),
     Outside(Scale),
@@ -39,7 +41,7 @@ pub enum Taken {
 }
 
 // What an f64 is read as: microseconds from day -40000 on, every day having 86,400 s.
-#[derive(Drop)]
+#[derive(Clone, Copy)]
 enum Reading {
     NotFinite,
     Outside,

@@ -5,14 +5,14 @@ ghost use Rattle.layout_fields.specs.Cryosat.{in_limits, front_of, slip, read, w
 
 use scales::{Refusal, Written};
 
-#[derive(Drop)]
+#[derive(Clone, Copy)]
 pub struct Fields {
     pub day: u16,
     pub millisecond: u32,
     pub microsecond: u16,
 }
 
-#[derive(Drop)]
+#[derive(Clone, Copy)]
 pub enum CryosatParted {
     Fields(Fields),
     Refused(Refusal),

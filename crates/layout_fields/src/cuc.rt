@@ -5,13 +5,13 @@ ghost use Rattle.layout_fields.specs.Cuc.{slip, read, write};
 
 use scales::{Refusal, Written};
 
-#[derive(Drop)]
+#[derive(Clone, Copy)]
 pub struct Fields {
     pub seconds: u32,
     pub fraction: u16,
 }
 
-#[derive(Drop)]
+#[derive(Clone, Copy)]
 pub enum CucParted {
     Fields(Fields),
     Refused(Refusal),

@@ -1,4 +1,6 @@
 // Bytes and fields, one module a byte layout: most significant byte first, all fields unsigned.
+#![tactic(auto)]
+
 ghost use Rattle.std.specs.Prelude.{◌≡◌, ◌++◌, ◌+◌, ◌≤◌};
 ghost use Rattle.octets.specs.Meaning.{field};
 ghost use Rattle.scales.specs.Meaning.{wrote, written, outcome};

@@ -5,7 +5,7 @@ ghost use Rattle.layout_fields.specs.Proteus.{slip, read, write, head_of};
 
 use scales::{Refusal, Written};
 
-#[derive(Drop)]
+#[derive(Clone, Copy)]
 pub struct Fields {
     pub week: u16,
     pub h3: bool,
@@ -13,7 +13,7 @@ pub struct Fields {
     pub fraction: u16,
 }
 
-#[derive(Drop)]
+#[derive(Clone, Copy)]
 pub enum ProteusParted {
     Fields(Fields),
     Refused(Refusal),

@@ -6,7 +6,7 @@ ghost use Rattle.layout_fields.specs.Siral.{slip, read, write};
 use crate::cryosat::CryosatParted;
 use scales::{Refusal, Written};
 
-#[derive(Drop)]
+#[derive(Clone, Copy)]
 pub struct Fields {
     pub day: u16,
     pub millisecond: u32,
@@ -14,7 +14,7 @@ pub struct Fields {
     pub extra: u16,
 }
 
-#[derive(Drop)]
+#[derive(Clone, Copy)]
 pub enum SiralParted {
     Fields(Fields),
     Refused(Refusal),

@@ -1,4 +1,6 @@
 // Times in bytes, one module for each layout that stands for a time.
+#![tactic(auto)]
+
 ghost use Rattle.std.specs.Prelude.{◌≡◌, ◌≤◌, ◌<◌};
 ghost use Rattle.axis.specs.Meaning.{day_at};
 ghost use Rattle.scales.specs.Meaning.{outcome, slip, spanned, time_count, valued, count_slip};

@@ -1,5 +1,7 @@
 // The leap list: its acceptance, and the list as published. A list is lent as two slices, the steps' days and TAI minus UTC
 // from each day on, with its last day E.
+#![tactic(auto)]
+
 ghost use Rattle.std.specs.Prelude.{◌≡◌, pos, get_or, drop};
 ghost use Rattle.leap.specs.Meaning.{accepted, published_days, published_offsets};
 ghost use Rattle.leap.specs.Follow.{Tested, rest};

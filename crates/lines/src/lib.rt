@@ -1,4 +1,6 @@
 // Text lines in, dated lines out: each as TAI with prefix and microseconds, or as its refusal, under the published list.
+#![tactic(auto)]
+
 ghost use Rattle.std.specs.Prelude.{◌≡◌, true, [], ◌∷◌, ◌++◌, ◌+◌, ◌-◌, ◌*◌, ◌/◌, ◌≤◌, min, length, drop};
 ghost use Rattle.scales.specs.Meaning.{in_span, number_of, record_moment};
 ghost use Rattle.leap.specs.Meaning.{accepted};
@@ -10,7 +12,7 @@ use scales::{Dated, Record, Refusal, Scale};
 use text_write::Form;
 
 // How many bytes of the input were dated, and how many bytes of answers were written.
-#[derive(Drop)]
+#[derive(Clone, Copy)]
 pub struct Progress {
     pub consumed: usize,
     pub written: usize,

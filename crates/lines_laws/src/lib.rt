@@ -1,1 +1,2 @@
 // The theorems of the Envisat texts stand in specs/.
+#![tactic(auto)]

@@ -1,1 +1,2 @@
 // No code: the paper's marked cases, computed of the meanings.
+#![tactic(auto)]

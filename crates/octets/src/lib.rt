@@ -1,4 +1,6 @@
 // Big-endian fields of any number of bytes, and an image onto the front of a lent slice.
+#![tactic(auto)]
+
 ghost use Rattle.std.specs.Prelude.{◌≡◌, length};
 ghost use Rattle.octets.specs.Meaning.{word, field, has_room, onto};
 

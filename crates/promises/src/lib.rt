@@ -1,1 +1,2 @@
 // The three demands, as theorems over the meanings, stand in specs/.
+#![tactic(auto)]

@@ -1,5 +1,7 @@
 // SIRAL later in the second: its day, millisecond and microsecond stand still from pulse to pulse, while the extra counter of 16 bits
 // counts on and rolls over. Packets of one second that are dated together tell how often it did.
+#![tactic(auto)]
+
 ghost use Rattle.std.specs.Prelude.{◌≡◌, ◌++◌, ◌+◌, ◌*◌, ◌%◌, ◌≤◌, ◌<◌, length, drop};
 ghost use Rattle.octets.specs.Meaning.{PartIs};
 ghost use Rattle.layout_fields.specs.Siral.{slip, read};
@@ -10,7 +12,7 @@ use layout_fields::siral::SiralParted;
 use scales::Refusal;
 
 // How many dates were written, and the last total; or a refusal.
-#[derive(Drop)]
+#[derive(Clone, Copy)]
 pub enum Ran {
     Dates(usize, u64),
     Refused(Refusal),
@@ -53,7 +55,7 @@ fn next(total: u64, before: u64, extra: u64) -> u64
 }
 
 // The last total of packets whose three fields are the same and whose totals are not above the most.
-#[derive(Drop)]
+#[derive(Clone, Copy)]
 enum Unrolled {
     Last(u64),
     Not,
@@ -101,7 +103,7 @@ fn all_in_limits(bytes: &[u8], n: usize) -> bool
 }
 
 // The place of the three fields of a run, and its last total; or 3, 16, 7. Dates never fall, so that the last decides 7.
-#[derive(Drop)]
+#[derive(Clone, Copy)]
 enum Second {
     At(u64, u64),
     Refused(Refusal),

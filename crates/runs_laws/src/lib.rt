@@ -1,1 +1,2 @@
 // No code: the promises of SIRAL's runs, and the wrong programs that they shut out.
+#![tactic(auto)]

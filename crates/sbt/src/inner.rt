@@ -5,7 +5,7 @@ ghost use Rattle.sbt.specs.Places.{covered_by};
 use crate::Correlation;
 use clock::inner::{Ends, Place};
 
-#[derive(Drop)]
+#[derive(Clone, Copy)]
 pub enum Covered {
     At(Ends),
     Outside,

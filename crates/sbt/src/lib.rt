@@ -1,6 +1,8 @@
 // The SBT correlation: the date of a tick, and the tick of a time.
 // Inside, a time is its place on the clock's axis of microseconds, TAI under a UTC correlation, and an elapsed count k is held as
 // k + 2^31.
+#![tactic(auto)]
+
 ghost use Rattle.std.specs.Prelude.{◌≡◌, true, ◌<◌};
 ghost use Rattle.scales.specs.Meaning.{slip, tick_slip};
 ghost use Rattle.leap.specs.Meaning as Leap;
@@ -16,7 +18,7 @@ use handed::Handed;
 use scales::{Dated, Mark, Refusal, Scale, Tick, Ticked};
 
 // A reference tick and its time, the period in picoseconds, and the window: ticks back and ticks ahead.
-#[derive(Drop)]
+#[derive(Clone, Copy)]
 pub struct Correlation {
     pub tick: Tick,
     pub scale: Scale,

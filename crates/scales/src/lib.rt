@@ -1,4 +1,6 @@
 // The paper's words: scales, the counts that are kept apart by them, records as handed in, the refusals and the answers.
+#![tactic(auto)]
+
 ghost use Rattle.std.specs.Prelude.{◌≡◌};
 ghost use Rattle.scales.specs.Meaning.{code_of, number_of, slip, slip_tai, slip_utc, slip_gps, slip_timed, spanned, spanned_as, remark, record_of, marked_record, record_at, time_scale, time_count};
 
@@ -6,7 +8,7 @@ mod spans;
 
 use spans::{Fit, count_of, record_at, time_at};
 
-#[derive(Drop)]
+#[derive(Clone, Copy)]
 pub enum Scale {
     Tai,
     Utc,
@@ -27,23 +29,23 @@ impl Scale {
 }
 
 // Microseconds from day -40000 on, every day having 86,400 s.
-#[derive(Drop)]
+#[derive(Clone, Copy)]
 pub struct Tai(pub u64);
 
-#[derive(Drop)]
+#[derive(Clone, Copy)]
 pub struct Gps(pub u64);
 
 // The same with 86,401 s a day, so that second 60 has a place.
-#[derive(Drop)]
+#[derive(Clone, Copy)]
 pub struct Utc(pub u64);
 
 // A tick of the satellite's binary time counter.
-#[derive(Drop)]
+#[derive(Clone, Copy)]
 pub struct Tick(pub u32);
 
 // Where a record came from: from nothing that it tells, from Proteus with its H3, or from a correlation with its reference tick
 // or count.
-#[derive(Drop)]
+#[derive(Clone, Copy)]
 pub enum Mark {
     Plain,
     Proteus(bool),
@@ -51,7 +53,7 @@ pub enum Mark {
 }
 
 // A time as it is handed in or out: nothing is known of it.
-#[derive(Drop)]
+#[derive(Clone, Copy)]
 pub struct Record {
     pub scale: Scale,
     pub day: i64,
@@ -60,7 +62,7 @@ pub struct Record {
 }
 
 // A time whose scale is known only when the program runs.
-#[derive(Drop)]
+#[derive(Clone, Copy)]
 pub enum Time {
     Tai(Tai),
     Utc(Utc),
@@ -68,7 +70,7 @@ pub enum Time {
 }
 
 // The rows of the refusal slip, as refusals.txt lists them.
-#[derive(Drop)]
+#[derive(Clone, Copy)]
 pub enum Refusal {
     LengthIsNone,
     MarkerWrong,
@@ -116,54 +118,54 @@ impl Refusal {
 }
 
 // A dated record, or a refusal and the scale of its empty record.
-#[derive(Drop)]
+#[derive(Clone, Copy)]
 pub enum Dated {
     At(Record),
     Refused(Refusal, Scale),
 }
 
 // The same where the type tells the scale.
-#[derive(Drop)]
+#[derive(Clone, Copy)]
 pub enum DatedTai {
     At(Tai),
     Refused(Refusal),
 }
 
-#[derive(Drop)]
+#[derive(Clone, Copy)]
 pub enum DatedUtc {
     At(Utc),
     Refused(Refusal),
 }
 
-#[derive(Drop)]
+#[derive(Clone, Copy)]
 pub enum DatedGps {
     At(Gps),
     Refused(Refusal),
 }
 
 // A record taken apart, or a refusal and the scale of its empty record.
-#[derive(Drop)]
+#[derive(Clone, Copy)]
 pub enum Timed {
     At(Time),
     Refused(Refusal, Scale),
 }
 
 // A tick, or a refusal: then tick 0.
-#[derive(Drop)]
+#[derive(Clone, Copy)]
 pub enum Ticked {
     Tick(Tick),
     Refused(Refusal),
 }
 
 // A count, or a refusal: then count 0.
-#[derive(Drop)]
+#[derive(Clone, Copy)]
 pub enum Counted {
     Count(u64),
     Refused(Refusal),
 }
 
 // How many bytes were written onto the front of a lent slice, or a refusal: then none.
-#[derive(Drop)]
+#[derive(Clone, Copy)]
 pub enum Written {
     Bytes(usize),
     Refused(Refusal),

@@ -5,14 +5,14 @@ ghost use Rattle.scales.specs.Place.{span_of, fit_of};
 
 use crate::{Gps, Mark, Record, Scale, Tai, Time, Utc};
 
-#[derive(Drop)]
+#[derive(Clone, Copy)]
 pub enum Fit {
     At(u64),
     Outside,
 }
 
 // A span: its first and last day, and the microseconds of a day.
-#[derive(Drop)]
+#[derive(Clone, Copy)]
 pub struct Span {
     pub first: i64,
     pub last: i64,

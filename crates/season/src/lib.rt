@@ -1,5 +1,7 @@
 // The season's file: TAI correlations of SBT with their covers. A signed number is its place, 2^63 further on than its bits, so that
 // the order of numbers is the order of places.
+#![tactic(auto)]
+
 ghost use Rattle.std.specs.Prelude.{◌≡◌, ◌+◌, ◌*◌, ◌≤◌, ◌<◌, length};
 ghost use Rattle.axis.specs.Signed.{turned};
 ghost use Rattle.octets.specs.Meaning.{part};
@@ -20,7 +22,7 @@ fn turn(bits: u64) -> u64
 }
 
 // The count of a file that has the length for it.
-#[derive(Drop)]
+#[derive(Clone, Copy)]
 enum Sized {
     Count(usize),
     Not,
@@ -43,7 +45,7 @@ fn size(bytes: &[u8]) -> Sized
 }
 
 // An entry of the contents: the places of its cover's ends, and where its body stands.
-#[derive(Drop)]
+#[derive(Clone, Copy)]
 struct Entry {
     from: u64,
     to: u64,

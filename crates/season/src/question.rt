@@ -9,14 +9,14 @@ use clock::inner::Place;
 use scales::{Refusal, Scale};
 
 // The first and last covered microsecond since day 0, or a refusal: then 0 and 0.
-#[derive(Drop)]
+#[derive(Clone, Copy)]
 pub enum Coverage {
     Cover(i64, i64),
     Refused(Refusal),
 }
 
 // Whether an entry covers the receipt, and the places of that cover's ends; else of microsecond 0.
-#[derive(Drop)]
+#[derive(Clone, Copy)]
 struct Seen {
     found: bool,
     from: u64,
@@ -41,7 +41,7 @@ fn pass(s: Seen, e: Entry, receipt: u64) -> Seen
 }
 
 // What is seen in contents that are kept.
-#[derive(Drop)]
+#[derive(Clone, Copy)]
 enum Scan {
     Kept(Seen),
     Broken,

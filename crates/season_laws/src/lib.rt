@@ -1,1 +1,2 @@
 // No code: the promises of the season's file, and the wrong programs that it shuts out.
+#![tactic(auto)]

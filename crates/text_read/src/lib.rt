@@ -1,4 +1,6 @@
 // Reading an Envisat text, dd-mmm-yyyy hh:mm:ss, with .uuuuuu, and with RRR= before either, from any slice.
+#![tactic(auto)]
+
 ghost use Rattle.std.specs.Prelude.{◌≡◌};
 ghost use Rattle.scales.specs.Meaning.{slip};
 ghost use Rattle.text_read.specs.Meaning.{read_text};
@@ -9,7 +11,7 @@ mod columns;
 pub mod inner;
 
 // A text that is refused for what stands in it alone, or the record that it stands for, which nothing has judged yet.
-#[derive(Drop)]
+#[derive(Clone, Copy)]
 pub enum Parsed {
     Refused(Refusal),
     Time(Record),

@@ -1,4 +1,6 @@
 // Writing a time as an Envisat text, in one of its four forms, onto the front of a lent slice.
+#![tactic(auto)]
+
 ghost use Rattle.std.specs.Prelude.{◌≡◌};
 ghost use Rattle.scales.specs.Meaning.{wrote};
 ghost use Rattle.text_write.specs.Meaning.{write_text};
@@ -11,7 +13,7 @@ mod image;
 pub mod inner;
 
 // The forms of 20, 27, 24 and 31 bytes.
-#[derive(Drop)]
+#[derive(Clone, Copy)]
 pub enum Form {
     Plain,
     Micros,
