@@ -51,7 +51,7 @@ pub fn is_step(days: &[i64], place: u64) -> bool
 }
 
 // The UTC count of TAI count t by the offset p.
-fn plain_at_lem(p: u64, t: u64) -> Utc
+fn plain_at(p: u64, t: u64) -> Utc
     requires { (p ≤ 100) × (p * 1000000 ≤ t) × (t < 8640000000000000) }
     ensures { moment_at Scale.Utc result.0 ≡ plain_at p t }
 {
@@ -83,12 +83,12 @@ pub fn utc_at(days: &[i64], offsets: &[u64], t: Tai) -> Utc
         let p = offsets[k];
         let start = s * Tai::BOUND + p * SECOND;
         if start <= c {
-            return plain_at_lem(p, c);
+            return plain_at(p, c);
         }
         if start <= c + SECOND {
             return sixty_at(s, p, c);
         }
         i = k;
     }
-    plain_at_lem(10, c)
+    plain_at(10, c)
 }
