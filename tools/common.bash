@@ -73,7 +73,7 @@ left() {
     # shellcheck disable=SC2046
     sources $(crates)
     for each in $(crates); do
-        sha256sum "crates/$each/out/$each" "crates/$each/out/rlib/$each.rlib/format" 2>/dev/null
+        sha256sum "crates/$each/out/$each" "crates/$each/out/rlib/$each.rlib/format" 2>/dev/null || true
     done
 }
 

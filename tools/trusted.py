@@ -59,8 +59,9 @@ def printed(log):
                 one = listed[head[2]] = Listed()
         elif line.startswith("logic="):
             verdict = _verdict(line)
+            # rt tells those of the libraries below first.
             if one:
-                one.verdict = _verdict(line.strip().removesuffix(_OWN)) if not one.verdict else None
+                one.verdict = _verdict(line.strip().removesuffix(_OWN))
         elif one and (count := _COUNT.match(line)):
             one.counts.append(0 if count[1] == "none" else int(count[1]))
         elif one and (name := _REACHED.fullmatch(line)):

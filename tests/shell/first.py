@@ -11,6 +11,7 @@ from piped import IN, OUT
 from room import KITS, ended, expect, sample, tally, until
 
 NOBODY = 65534
+WHY = "fn scales::f: not proved; a word of why"
 # It runs what it is given as Python 1.0 would say that it does; ./desk asks the Python that runs it.
 PYTHON = f"""#!/bin/sh
 exec '{sys.executable}' -c '
@@ -30,17 +31,22 @@ def talks():
         with sample() as one:
             command = one.desk if name == "desk" else one.build
             done = one.run(command, data=IN)
-            below = [rf"{name}: 2 of 3, scales: proved \(7 s\)"]
-            due = [rf"{name}: proving and building {what}, 3 crates; from nothing this takes some minutes", *below]
-            if name == "build":
-                due += [*below, rf"{name}: 3 of 3, c_api: proved \(\d+ s\)"]
-            due += [rf"{name}: {what} is built \(\d+ s\)"]
+            crate, count = ("desk", 3) if name == "desk" else ("c_api_c", 4)
+            due = [
+                rf"{name}: proving and building {what}, {count} crates; from nothing this takes some minutes",
+                rf"{name}: 2 of {count}, scales: proved \(\d+ s\)",
+                rf"{name}: {count} of {count}, {crate}: proved \(\d+ s\)",
+                rf"{name}: {what} is built \(\d+ s\)",
+            ]
             lines = done.err.splitlines()
             good = len(lines) >= len(due) and all(re.fullmatch(like, line) for like, line in zip(due, lines))
             expect(f"the first run of {name} tells what it does, crate by crate", done, done.status == 0 and good)
             out = OUT if name == "desk" else b""
             expect(f"the first run of {name} prints what a later one does", done, done.out == out)
             calls = one.calls()
+            verb = "run" if name == "desk" else "lib"
+            due = [f"{at} {verb} {crate}" for at in ("begin", "end")]
+            tally.expect(f"the first run of {name} calls rt {verb} once", calls == due, str(calls))
             done = one.run(command, data=IN)
             expect(f"the next run of {name} tells nothing", done, (done.status, done.out, done.err) == (0, out, ""))
             tally.expect(f"the next run of {name} proves nothing", one.calls() == calls, str(one.calls()))
@@ -54,11 +60,13 @@ def again():
         for what, path, proved in [
             ("a source of a crate below", "crates/axis/src/lib.rt", True),
             ("a new file of a crate below", "crates/scales/src/more.rt", True),
+            ("what rt keeps of a crate below", "crates/scales/out/kept", False),
             ("crates.txt", "crates.txt", True),
             ("the program itself", "target/proved/desk", True),
             ("a crate that it does not know", "crates/other/src/lib.rt", False),
             ("a page", "README.md", False),
         ]:
+            os.makedirs(os.path.dirname(one.path(path)), exist_ok=True)
             change(one.path(path), "\n# changed\n")
             done = one.run(one.desk, data=IN)
             more, calls = len(one.calls()) > calls, len(one.calls())
@@ -74,6 +82,70 @@ def again():
         for name, words in ("tools/build", [one.build]), ("fuzz/run", [one.path("fuzz/run"), "replay", "none"]):
             done = one.run(*words, environment={"AS_KIT": "another kit"})
             expect(f"another kit is told by {name}", done, kit.split(":", 1)[1] in done.err)
+
+
+# It keeps a note of its words, and gives the library.
+RATTLE = """#!/bin/sh
+echo "$PWD: $*" >>"$SAMPLE/rattled"
+[ -z "${BROKEN:-}" ] || { echo 'x.rt:1:1: error' && exit 1; }
+echo 'logic=proved functions=1 sum=0a native=nat'
+for word; do out=$word; done
+cp "$PROVED/libc_api.a" "$out"
+"""
+
+
+def after_ci():
+    """What `rt ci` proved is not proved once more, as long as it is what lies there."""
+    with sample() as one:
+        kit = one.path("kit")
+        os.makedirs(os.path.join(kit, "bin"))
+        os.symlink(os.path.join(os.path.dirname(one.environment["DOC"]), "toolchain"), os.path.join(kit, "toolchain"))
+        with open(os.path.join(kit, "bin/rattle"), "w", encoding="utf-8") as file:
+            file.write(RATTLE)
+        os.chmod(os.path.join(kit, "bin/rattle"), 0o755)
+        one.environment["DOC"] = os.path.join(kit, "START-HERE.md")
+        libraries = {crate: f"crates/{crate}/out/rlib/{crate}.rlib" for crate in ("axis", "scales", "c_api")}
+        for library in libraries.values():
+            os.makedirs(one.path(library))
+            change(one.path(library, "format"), "its sums\n")
+        os.makedirs(one.path("crates/desk/out"))
+        shutil.copy(one.path("made/desk"), one.path("crates/desk/out/desk"))
+        os.makedirs(one.path("target/proved"))
+        note = ["bash", "-c", ". tools/common.bash && left >target/proved/ci"]
+        expect("what rt ci left is noted", done := one.run(*note), done.status == 0)
+        done = one.run(one.desk, data=IN)
+        expect("what rt ci left is run", done, (done.status, done.out) == (0, OUT) and not one.calls())
+        done = one.run(one.build)
+        expect("the library is built over what rt ci left", done, done.status == 0 and not one.calls())
+        with open(one.path("rattled"), encoding="utf-8") as file:
+            where, words = file.read().split(": ")
+        due = [
+            f"build --crate-name c_api_c src/lib.rt --crate-type staticlib --extern std={kit}/rlibs/std.rlib ",
+            f" --extern c_api={one.path(libraries['c_api'])} ",
+            *(f" -L dependency={os.path.dirname(one.path(library))} " for library in libraries.values()),
+        ]
+        good = where == one.path("crates/c_api_c") and words.startswith(due[0]) and all(word in words for word in due)
+        tally.expect("the library is built over those libraries", good, words)
+        calls = 0
+        both = one.desk, one.build
+        for what, path, commands in [
+            ("a library", libraries["axis"] + "/format", both),
+            ("a source", "crates/other/src/lib.rt", both),
+            ("a program", "crates/desk/out/desk", [one.desk]),
+        ]:
+            one.run(*note)
+            for kept in ("desk", "libc_api.a"):
+                os.remove(one.path("target/proved", kept))
+            change(one.path(path), "\n# changed\n")
+            for command in commands:
+                done = one.run(command, data=IN)
+                expect(f"after a change of {what} rt proves", done, done.status == 0 and len(one.calls()) == calls + 2)
+                calls = len(one.calls())
+        one.run(*note)
+        done = one.run(one.build, environment={"BROKEN": "1"})
+        lines = done.err.splitlines()
+        good = done.status == 1 and WHY in lines
+        expect("what is not proved over them is proved by rt, and told", done, good)
 
 
 def lacking():
@@ -101,7 +173,8 @@ def refused():
         for name, command in ("desk", one.desk), ("build", one.build):
             done = one.run(command, data=IN, environment={"BROKEN": "1"})
             lines = done.err.splitlines()
-            good = (done.status, done.out) == (1, b"") and len(lines) <= 8 and "rt: scales NOT PROVED (exit 1, 2 s)" in lines
+            due = {WHY, "rt: the library scales did not build, so nothing above it was checked"}
+            good = (done.status, done.out) == (1, b"") and len(lines) <= 8 and due <= set(lines)
             expect(f"{name}: what is not proved is told in a few lines", done, good)
             log = re.fullmatch(r".*; (\S+) has all that was said", lines[-1])
             expect(f"{name}: the last names a file with all that was said", done, log and os.path.getsize(log[1]) > 300)
@@ -178,6 +251,7 @@ def stopped():
 def check():
     talks()
     again()
+    after_ci()
     lacking()
     refused()
     unwritable()

@@ -20,31 +20,36 @@ MOST = 60  # seconds that a command may take
 KITS = "kit 1", "kit 2"  # those of a sample's KIT; its rt is of the last
 tally = Tally()
 
-# It tells two crates, keeps a note of when it began and ended, waits for SLOW seconds or while there is a file `busy`, and gives
-# what the real one made.
+# In a crate's folder it tells a crate below and that one, keeps a note of when it began and ended, waits for SLOW seconds or while
+# there is a file `busy`, and gives what the real one made.
 RT = """#!/usr/bin/env bash
 case $1 in
 version) echo "${AS_KIT:-kit 2}" ;;
 doc) echo "$DOC" ;;
-check | staticlib)
-    echo "begin $*" >>"$SAMPLE/calls"
+run | lib)
+    crate=${PWD##*/}
+    echo "begin $* $crate" >>"$SAMPLE/calls"
     [ -z "${SLOW:-}" ] || { sleep "$SLOW" & echo $! >"$SAMPLE/sleeper" && wait; }
     while [ -e "$SAMPLE/busy" ]; do sleep 0.02; done
     eval "${MEANWHILE:-}"
+    echo 'rt: chose --jobs 2 for scales'
     echo "a prover's word"
     if [ -n "${BROKEN:-}" ]; then
-        for n in $(seq 300); do echo "a prover's word of an error"; done
-        echo 'rt: scales NOT PROVED (exit 1, 2 s)'
-        echo 'rt: FAILED: scales'
-        echo "end $*" >>"$SAMPLE/calls"
+        for n in $(seq 300); do echo "a prover's word"; done
+        echo 'fn scales::f: not proved; a word of why'
+        echo 'rt: the library scales did not build, so nothing above it was checked' >&2
+        echo "end $* $crate" >>"$SAMPLE/calls"
         exit 1
     fi
-    echo 'rt: axis proved (unchanged since it was last proved)'
-    echo 'rt: scales proved (7 s)'
-    mkdir -p target/bin target/staticlib
-    cp "$PROVED/desk" target/bin/desk
-    cp "$PROVED/libc_api.a" target/staticlib/libc_api.a
-    echo "end $*" >>"$SAMPLE/calls"
+    echo 'logic=proved functions=1 sum=0a native=nat'
+    echo "rt: chose --jobs 2 for $crate" >&2
+    echo 'logic=proved functions=1 sum=0a native=nat' >&2
+    mkdir -p out
+    case $crate in
+    desk) cp "$PROVED/desk" out/desk ;;
+    c_api_c) cp "$PROVED/libc_api.a" out/libc_api_c.a ;;
+    esac
+    echo "end $* $crate" >>"$SAMPLE/calls"
     ;;
 *) exit 2 ;;
 esac
@@ -178,8 +183,9 @@ def sample():
         os.chmod(root, 0o755)
         lay_out(root, ("desk", "VERSION", "refusals.txt", "tools", "include", "tests/compare", "fuzz"), KITS)
         with open(os.path.join(root, "crates.txt"), "w", encoding="utf-8") as file:
-            file.write("axis:  # below\nscales: axis\nother:\ndesk: axis scales libc\nc_api: axis scales\n")
-        for crate in ("axis", "scales", "other", "desk", "c_api"):
+            file.write("axis:  # below\nscales: axis\nother:\ndesk: axis scales hex\nc_api: axis scales\n")
+            file.write("c_api_c staticlib: c_api  # for C\n")
+        for crate in ("axis", "scales", "other", "desk", "c_api", "c_api_c"):
             os.makedirs(os.path.join(root, "crates", crate, "src"))
             with open(os.path.join(root, "crates", crate, "src/lib.rt"), "w", encoding="utf-8") as file:
                 file.write(crate)
