@@ -14,7 +14,7 @@ returns c =
     let k = d.before in
     let s = k.before.before in
     let a = s.args in
-    c.time-out.ensures
+    c.time_out.ensures
     ∙ ap time_out
     (d.date.ensures
     ∙ (λ i. date_of (k.correlate.ensures i) a.tick (to_z-of_z s.ranges.receipt-day i) a.receipt-micro a.days.now a.offsets.now (to_z-of_z s.ranges.last i)))

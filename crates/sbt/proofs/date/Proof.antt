@@ -17,9 +17,9 @@ returns c =
     let s = n.before.before in
     let a = s.args in
     let k = clock_of a.c a.days.now a.offsets.now in
-    c.with-mark.ensures
+    c.with_mark.ensures
     ∙ ap (remark (mark_of k))
-    (n.unmarked.ensures
+    (n.unmarked-d.ensures
     ∙ (λ i. unmarked_of a.c a.tick.0 (to_z-of_z s.ranges.receipt-day i) a.receipt-micro a.days.now a.offsets.now (to_z-of_z s.ranges.last i)))
     ∙ remark_is (mark_of k) a.c.scale (dating a.c a.tick.0 a.receipt-day a.receipt-micro a.days.now a.offsets.now a.last) refl
 

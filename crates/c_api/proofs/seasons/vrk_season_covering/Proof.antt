@@ -12,7 +12,7 @@ returns : tie.Need-returns
 returns c =
     let k = c.before in
     let s = k.before.before in
-    c.cover-out.ensures
+    c.cover_out.ensures
     ∙ ap cover_out (k.covering.ensures ∙ ap (λ (d : ℤ). covering s.args.bytes.now d s.args.receipt-micro) (to_z-of_z s.ranges.receipt-day))
 
 pub vrk_season_covering_spec : {M : Type 1} → statement M

@@ -9,35 +9,25 @@ use borrow.Author.Rules.{rules}
 use Rattle.layout_times.proofs.cuc.read.Statement.{statement}
 use Rattle.layout_times.proofs.cuc.read.Tie as tie
 
-returns : tie.Need-returns
+returns : tie.Need-returns-in-Fields
 unfolding read fieldsRead
 returns c =
-    let k = c.before.before.before.before in
-    let f = k.f.given.0.0 in
-    let b = k.before.before in
-    let s = b.before.before.args.b.now in
+    let k = c in
+    let f = k.in-Fields.f in
+    let b = k in
+    let s = b.args.b.now in
     c.since.ensures
-    ∙ read_at S.Gps epoch micros_of empty (fieldsReading s) refl f (sym (ap fieldsSlip k.f.given.1) ∙ b.read.ensures) _
-    (ap (λ (x : ℕ). f.seconds * 1000000 + x) c.before.fraction-micros.ensures)
+    ∙ read_at S.Gps epoch micros_of empty (fieldsReading s) refl f (sym (ap fieldsSlip k.in-Fields.is) ∙ b.read.ensures) _
+    (ap (λ (x : ℕ). f.seconds * 1000000 + x) c.fraction_micros.ensures)
 
-returns_2 : tie.Need-returns-2
+returns_2 : tie.Need-returns-in-Refused
 unfolding read fieldsRead
 returns_2 c =
-    let k = c.before in
-    let b = k.before.before in
-    read_no S.Gps epoch micros_of empty (fieldsReading b.before.before.args.b.now) k.r.given.0.0 (sym (ap fieldsSlip k.r.given.1) ∙ b.read.ensures)
+    let k = c in
+    let b = k in
+    read_no S.Gps epoch micros_of empty (fieldsReading b.args.b.now) k.in-Refused.r (sym (ap fieldsSlip k.in-Refused.is) ∙ b.read.ensures)
 
 pub read_spec : {M : Type 1} → statement M
 read_spec =
     tie.close
-    (tie.spec
-    (λ c κs. search rules)
-    (λ c. search rules)
-    (λ c. search rules)
-    (λ c. search rules)
-    (λ c κs. search rules)
-    (λ c. search rules)
-    (λ c κs. search rules)
-    (λ c. search rules)
-    returns
-    returns_2)
+    (tie.spec (λ c κs. search rules) (λ c. search rules) (λ c. search rules) (λ c. search rules) (λ c κs. search rules) (λ c. search rules) (λ c κs. search rules) (λ c. search rules) returns returns_2)

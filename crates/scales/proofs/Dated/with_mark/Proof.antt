@@ -9,12 +9,12 @@ use Rattle.scales.specs.declared.Dated.TheVariants as D
 use Rattle.scales.proofs.Dated.with_mark.Statement.{statement}
 use Rattle.scales.proofs.Dated.with_mark.Tie as tie
 
-returns : tie.Need-returns
-returns c = let b = c.before.before.before.before.args in
-    ap (λ (r : Record). slip (D.At r)) c.with-mark.ensures ∙ ap (λ (d : Dated). remark b.mark (slip d)) (sym c.before.before.self.given.1)
+returns : tie.Need-returns-in-At
+returns c = let b = c.args in
+    ap (λ (r : Record). slip (D.At r)) c.with_mark.ensures ∙ ap (λ (d : Dated). remark b.mark (slip d)) (sym c.in-At.is)
 
-returns_2 : tie.Need-returns-2
-returns_2 c = let b = c.before.before.before.args in let g = c.before.self2.given in
+returns_2 : tie.Need-returns-in-Refused
+returns_2 c = let b = c.args in let g = ((c.in-Refused.f, (c.in-Refused.s, tt)), c.in-Refused.is) in
     remark_refused b.mark g.0.0 g.0.1.0 ∙ ap (λ (d : Dated). remark b.mark (slip d)) (sym g.1)
 
 pub with_mark_spec : {M : Type 1} → statement M
