@@ -51,8 +51,7 @@ returns_2 c =
     let l = c.before in
     let b = l.before.before.before.before in
     let a = b.args in
-    let g = ((l.in-At.t, tt), l.in-At.is) in
-    let k = told_at a.h b.take.result b.take.ensures g.0.0 g.1 in
+    let k = told_at a.h b.take.result b.take.ensures l.in-At.t l.in-At.is in
     change_unlisted a.h a.to a.days.now a.offsets.now a.last k.finite (sym (lacking_2 l) ∙ c.if-lacks_list-2.true)
 
 change_requires : tie.Need-change-requires

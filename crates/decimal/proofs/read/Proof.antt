@@ -34,26 +34,23 @@ returns : tie.Need-returns-in-NotFinite
 returns c =
     let b = c.before in
     let a = b.args in
-    let g = ((c.in-NotFinite.s, tt), c.in-NotFinite.is) in
-    let k = told_nothing (H.Decimal a.day a.scale) b.take_decimal.result b.take_decimal.ensures g.0.0 g.1 in
-    nothing a.day a.scale g.0.0 k.0 k.1
+    let k = told_nothing (H.Decimal a.day a.scale) b.take_decimal.result b.take_decimal.ensures c.in-NotFinite.s c.in-NotFinite.is in
+    nothing a.day a.scale c.in-NotFinite.s k.0 k.1
 
 returns_2 : tie.Need-returns-in-Outside
 returns_2 c =
     let b = c.before in
     let a = b.args in
-    let g = ((c.in-Outside.s, tt), c.in-Outside.is) in
-    let k = told_outside (H.Decimal a.day a.scale) b.take_decimal.result b.take_decimal.ensures g.0.0 g.1 in
-    outside a.day a.scale g.0.0 k.0 k.1 k.2
+    let k = told_outside (H.Decimal a.day a.scale) b.take_decimal.result b.take_decimal.ensures c.in-Outside.s c.in-Outside.is in
+    outside a.day a.scale c.in-Outside.s k.0 k.1 k.2
 
 returns_3 : tie.Need-returns-in-At
 returns_3 c =
     let d = c in
     let b = d in
     let a = b.args in
-    let g = ((d.in-At.t, tt), d.in-At.is) in
-    at a.day a.scale g.0.0 c.to_record.result
-    (told_at (H.Decimal a.day a.scale) b.take_decimal.result b.take_decimal.ensures g.0.0 g.1)
+    at a.day a.scale d.in-At.t c.to_record.result
+    (told_at (H.Decimal a.day a.scale) b.take_decimal.result b.take_decimal.ensures d.in-At.t d.in-At.is)
     c.to_record.ensures
 
 pub read_spec : {M : Type 1} → statement M

@@ -9,22 +9,19 @@ write_time_requires : tie.Need-write_time-requires
 write_time_requires c κs =
     let b = c.before in
     let h = b.args.h in
-    let g = ((c.in-At.t, tt), c.in-At.is) in
-    count_small h g.0.0 (told_at h b.take.result b.take.ensures g.0.0 g.1)
+    count_small h c.in-At.t (told_at h b.take.result b.take.ensures c.in-At.t c.in-At.is)
 
 returns : tie.Need-returns-in-NotFinite
 returns c =
     let b = c.before in
     let h = b.args.h in
-    let g = ((c.in-NotFinite.field-0, tt), c.in-NotFinite.is) in
-    wrote_nothing h (told_nothing h b.take.result b.take.ensures g.0.0 g.1).0
+    wrote_nothing h (told_nothing h b.take.result b.take.ensures c.in-NotFinite.field-0 c.in-NotFinite.is).0
 
 returns_2 : tie.Need-returns-in-Outside
 returns_2 c =
     let b = c.before in
     let h = b.args.h in
-    let g = ((c.in-Outside.field-0, tt), c.in-Outside.is) in
-    let k = told_outside h b.take.result b.take.ensures g.0.0 g.1 in
+    let k = told_outside h b.take.result b.take.ensures c.in-Outside.field-0 c.in-Outside.is in
     wrote_outside h k.0 k.1
 
 returns_3 : tie.Need-returns-in-At
@@ -32,8 +29,7 @@ returns_3 c =
     let d = c in
     let b = d in
     let h = b.args.h in
-    let g = ((d.in-At.t, tt), d.in-At.is) in
-    wrote_at h g.0.0 (told_at h b.take.result b.take.ensures g.0.0 g.1) c.write_time.result c.write_time.ensures
+    wrote_at h d.in-At.t (told_at h b.take.result b.take.ensures d.in-At.t d.in-At.is) c.write_time.result c.write_time.ensures
 
 pub write_spec : {M : Type 1} → statement M
 write_spec =

@@ -14,8 +14,7 @@ returns c =
 returns_2 : tie.Need-returns-in-Refused
 returns_2 c =
     let b = c.before in
-    let g = ((c.in-Refused.field-0, (c.in-Refused.s, tt)), c.in-Refused.is) in
-    record_out b.args.r g.0.0 g.0.1.0 (sym (ap slip_timed g.1) ∙ b.to_time.ensures)
+    record_out b.args.r c.in-Refused.field-0 c.in-Refused.s (sym (ap slip_timed c.in-Refused.is) ∙ b.to_time.ensures)
 
 pub take_record_spec : {M : Type 1} → statement M
 take_record_spec =

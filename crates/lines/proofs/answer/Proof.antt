@@ -36,33 +36,30 @@ told c t q =
 
 print_requires : tie.Need-print-requires
 print_requires c κs =
-    let g = ((c.in-At.t, tt), c.in-At.is) in
     let d = c.before.before in
     let s = d.before.before.before.before in
     let x = s.args in
-    let k = told d g.0.0 g.1 in (
-      ap (λ (z : Scale). in_span z g.0.0.day g.0.0.micro) k.0 ∙ line_inside x.days.now x.offsets.now x.last x.line.now (record_moment g.0.0) k.1,
+    let k = told d c.in-At.t c.in-At.is in (
+      ap (λ (z : Scale). in_span z c.in-At.t.day c.in-At.t.micro) k.0 ∙ line_inside x.days.now x.offsets.now x.last x.line.now (record_moment c.in-At.t) k.1,
       s.requires.in_bounds,
     )
 
 returns : tie.Need-returns-in-At
 returns c =
-    let g = ((c.in-At.t, tt), c.in-At.is) in
     let d = c.before.before.before.before.before in
     let x = d.args in
-    let k = told d g.0.0 g.1 in
+    let k = told d c.in-At.t c.in-At.is in
     subst (λ (image : List ℕ). Put image x.out.now c.print.new.1.0 c.print.result)
-    (ap (λ (z : Scale). image_of F.PrefixedMicros z (record_moment g.0.0) ++ (10 ∷ [])) k.0 ∙ answer_is x.days.now x.offsets.now x.last x.line.now (answer (record_moment g.0.0)) k.1)
+    (ap (λ (z : Scale). image_of F.PrefixedMicros z (record_moment c.in-At.t) ++ (10 ∷ [])) k.0 ∙ answer_is x.days.now x.offsets.now x.last x.line.now (answer (record_moment c.in-At.t)) k.1)
     c.print.ensures
 
 returns_2 : tie.Need-returns-in-Refused
 returns_2 c =
-    let g = ((c.in-Refused.f, (c.in-Refused.field-1, tt)), c.in-Refused.is) in
     let d = c.before.before.before.before.before in
     let x = d.args in
-    let o = line_refused x.days.now x.offsets.now x.last x.line.now g.0.0 g.0.1.0 (ap slip (sym g.1) ∙ said d) in
+    let o = line_refused x.days.now x.offsets.now x.last x.line.now c.in-Refused.f c.in-Refused.field-1 (ap slip (sym c.in-Refused.is) ∙ said d) in
     subst (λ (image : List ℕ). Put image x.out.now c.refuse.new.1.0 c.refuse.result)
-    (refused_is (number_of g.0.0) ∙ answer_is x.days.now x.offsets.now x.last x.line.now (refused (number_of g.0.0)) o)
+    (refused_is (number_of c.in-Refused.f) ∙ answer_is x.days.now x.offsets.now x.last x.line.now (refused (number_of c.in-Refused.f)) o)
     c.refuse.ensures
 
 pub answer_spec : {M : Type 1} → statement M

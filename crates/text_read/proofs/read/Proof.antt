@@ -19,11 +19,10 @@ returns : tie.Need-returns-then-lacks_list
 returns c =
     let l = c.before in
     let u = l.before in
-    let g = ((u.in-Time.r, tt), u.in-Time.is) in
     let p = u.before.before in
     let s = p.before.before.before in
     let x = s.args in
-    read_lacks x.text.now x.days.now x.offsets.now x.last p.parse.result p.parse.ensures g.0.0 g.1
+    read_lacks x.text.now x.days.now x.offsets.now x.last p.parse.result p.parse.ensures u.in-Time.r u.in-Time.is
     (sym (ap₂ (λ (y : Bool) (z : ℤ). y && not (accepted x.days.now x.offsets.now z)) u.is_utc-used.ensures (to_z-of_z s.ranges.last))
     ∙ sym l.lacks_list.ensures ∙ c.if-lacks_list.true)
 
@@ -38,21 +37,19 @@ read_time_requires c κs =
 
 returns_2 : tie.Need-returns-in-Refused
 returns_2 c =
-    let g = ((c.in-Refused.f, tt), c.in-Refused.is) in
     let p = c.before in
     let x = p.args in
-    read_refused x.text.now x.days.now x.offsets.now x.last p.parse.result p.parse.ensures g.0.0 g.1
+    read_refused x.text.now x.days.now x.offsets.now x.last p.parse.result p.parse.ensures c.in-Refused.f c.in-Refused.is
 
 returns_3 : tie.Need-returns-else-lacks_list
 returns_3 c =
     let u = c.before.before.before in
-    let g = ((u.in-Time.r, tt), u.in-Time.is) in
     let p = u.before.before in
     let s = p.before.before.before in
     let x = s.args in
     c.read_time.ensures
-    ∙ ap (λ (z : ℤ). dated_in g.0.0.scale (outcome (record_asked g.0.0 x.days.now x.offsets.now z))) (to_z-of_z s.ranges.last)
-    ∙ read_parsed x.text.now x.days.now x.offsets.now x.last p.parse.result p.parse.ensures g.0.0 g.1
+    ∙ ap (λ (z : ℤ). dated_in u.in-Time.r.scale (outcome (record_asked u.in-Time.r x.days.now x.offsets.now z))) (to_z-of_z s.ranges.last)
+    ∙ read_parsed x.text.now x.days.now x.offsets.now x.last p.parse.result p.parse.ensures u.in-Time.r u.in-Time.is
 
 pub read_spec : {M : Type 1} → statement M
 read_spec =

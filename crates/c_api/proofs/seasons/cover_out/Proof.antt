@@ -14,11 +14,10 @@ use Rattle.c_api.proofs.seasons.cover_out.Tie as tie
 
 returns : tie.Need-returns-in-Cover
 returns c =
-    let g = ((c.in-Cover.first, (c.in-Cover.last, tt)), c.in-Cover.is) in
     ap₂ {C = VrkCover} (λ (x y : ℤ). record { refusal = 0; first = x; last = y })
-    (to_z-of_z {w = w64} {z = g.0.0} (record { sfits = c.in-Cover.known_told-1-own.given.0.1 }))
-    (to_z-of_z {w = w64} {z = g.0.1.0} (record { sfits = c.in-Cover.known_told-1-own.given.1.0.1 }))
-    ∙ sym (ap (λ (v : Coverage). cover_out (cover_slip v)) g.1)
+    (to_z-of_z {w = w64} {z = c.in-Cover.first} (record { sfits = c.in-Cover.known_told-1-own.given.0.1 }))
+    (to_z-of_z {w = w64} {z = c.in-Cover.last} (record { sfits = c.in-Cover.known_told-1-own.given.1.0.1 }))
+    ∙ sym (ap (λ (v : Coverage). cover_out (cover_slip v)) c.in-Cover.is)
 
 returns_2 : tie.Need-returns-in-Refused
 returns_2 c =

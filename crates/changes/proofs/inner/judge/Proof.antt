@@ -20,8 +20,7 @@ inside : (c : tie.In-At) → let r = c.args.r in in_span r.scale r.day r.micro �
 inside c =
     let j = c.before in
     let r = j.args.r in
-    let g = ((c.in-At.field-0, tt), c.in-At.is) in
-    (timed_at r.scale r.day r.micro g.0.0 (ap slip_timed (sym g.1) ∙ j.to_time.ensures)).0
+    (timed_at r.scale r.day r.micro c.in-At.field-0 (ap slip_timed (sym c.in-At.is) ∙ j.to_time.ensures)).0
 
 -- the plain record of the same time; the callee read the day from its bits
 unmarked : (c : tie.After-new-t) → let r = c.args.r in
@@ -82,11 +81,10 @@ returns_3 c =
 
 returns_4 : tie.Need-returns-in-Refused
 returns_4 c =
-    let g = ((c.in-Refused.f, (c.in-Refused.z, tt)), c.in-Refused.is) in
     let j = c.before in
     let s = j.before.before in
     let a = s.args in
-    judge_outside a.days.now a.offsets.now a.last a.r s.requires g.0.0 g.0.1.0 (ap slip_timed (sym g.1) ∙ j.to_time.ensures)
+    judge_outside a.days.now a.offsets.now a.last a.r s.requires c.in-Refused.f c.in-Refused.z (ap slip_timed (sym c.in-Refused.is) ∙ j.to_time.ensures)
 
 returns_5 : tie.Need-returns-else-not-has_micro
 returns_5 c =

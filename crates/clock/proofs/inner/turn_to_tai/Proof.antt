@@ -21,10 +21,9 @@ turn_utc_requires c κs =
 
 returns : tie.Need-returns-in-Tai
 returns c =
-    let e = ((c.in-Tai.field-0, tt), c.in-Tai.is) in
     let s = c.before.before in
     let a = s.args in
-    rw e.1 (turn_12 S.Tai e.0.0.0 a.v a.days.now a.offsets.now a.last (rw e.1 at s.requires.spanned) refl)
+    rw c.in-Tai.is (turn_12 S.Tai c.in-Tai.field-0.0 a.v a.days.now a.offsets.now a.last (rw c.in-Tai.is at s.requires.spanned) refl)
 
 returns_2 : tie.Need-returns-in-Utc
 returns_2 c =
@@ -38,10 +37,9 @@ returns_2 c =
 
 returns_3 : tie.Need-returns-in-Gps
 returns_3 c =
-    let e = ((c.in-Gps.field-0, tt), c.in-Gps.is) in
     let s = c.before.before in
     let a = s.args in
-    rw e.1 (turn_12 S.Gps e.0.0.0 a.v a.days.now a.offsets.now a.last (rw e.1 at s.requires.spanned) refl)
+    rw c.in-Gps.is (turn_12 S.Gps c.in-Gps.field-0.0 a.v a.days.now a.offsets.now a.last (rw c.in-Gps.is at s.requires.spanned) refl)
 
 pub turn_to_tai_spec : {M : Type 1} → statement M
 turn_to_tai_spec =

@@ -8,7 +8,7 @@ use Rattle.handed.proofs.inner.lay.Statement.{statement}
 use Rattle.handed.proofs.inner.lay.Tie as tie
 
 returns : tie.Need-returns-in-Record
-returns c = let g = ((c.in-Record.r, tt), c.in-Record.is) in subst (λ (h : Handed). Lays h (L.At g.0.0)) (sym g.1) (lays_record g.0.0)
+returns c = subst (λ (h : Handed). Lays h (L.At c.in-Record.r)) (sym c.in-Record.is) (lays_record c.in-Record.r)
 
 returns_2 : tie.Need-returns-in-Decimal
 returns_2 c = subst (λ (h : Handed). Lays h c.lay_decimal.result) (sym c.in-Decimal.is) c.lay_decimal.ensures

@@ -43,8 +43,7 @@ returns_3 c =
     let d = c in
     let b = d in
     let z = b in
-    let g = ((d.in-At.n, tt), d.in-At.is) in
-    back z.before.before.before.before c.record_of.ensures (read_lays z.args.day z.args.scale (subst T (sym z.well-formed.0.1) tt) g.0.0 (tells b.before.before g.1))
+    back z.before.before.before.before c.record_of.ensures (read_lays z.args.day z.args.scale (subst T (sym z.well-formed.0.1) tt) d.in-At.n (tells b.before.before d.in-At.is))
 
 pub lay_decimal_spec : {M : Type 1} → statement M
 lay_decimal_spec =

@@ -14,8 +14,7 @@ returns c = let b = c.args in
     ap (λ (r : Record). slip (D.At r)) c.with_mark.ensures ∙ ap (λ (d : Dated). remark b.mark (slip d)) (sym c.in-At.is)
 
 returns_2 : tie.Need-returns-in-Refused
-returns_2 c = let b = c.args in let g = ((c.in-Refused.f, (c.in-Refused.s, tt)), c.in-Refused.is) in
-    remark_refused b.mark g.0.0 g.0.1.0 ∙ ap (λ (d : Dated). remark b.mark (slip d)) (sym g.1)
+returns_2 c = let b = c.args in remark_refused b.mark c.in-Refused.f c.in-Refused.s ∙ ap (λ (d : Dated). remark b.mark (slip d)) (sym c.in-Refused.is)
 
 pub with_mark_spec : {M : Type 1} → statement M
 with_mark_spec = tie.close (tie.spec (λ c. search rules) (λ c κs. search rules) (λ c. search rules) returns returns_2)

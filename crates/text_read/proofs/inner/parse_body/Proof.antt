@@ -93,12 +93,11 @@ returns_5 c =
     let d = c.before.before.before in
     let k = known d in
     let x = d.args in
-    let g = ((c.in-Day.day, tt), c.in-Day.is) in
-    let q = ap day_slip (sym g.1) ∙ k.day in
+    let q = ap day_slip (sym c.in-Day.is) ∙ k.day in
     let u = c.micro_of.ensures ∙ ap stamp_micro k.stamp in
     subst (λ (r : Record). ParsesBody x.z x.s.now (P.Time r))
     (sym (c.new.ensures ∙ ap₂ (λ (a : ℤ) (n : ℕ). record_of x.z a n) (to_z-of_z (record { sfits = c.in-Day.known_told-1-own.given.0.1 })) u))
-    (body_at x.z x.s.now k.marks k.limits g.0.0 q)
+    (body_at x.z x.s.now k.marks k.limits c.in-Day.day q)
 
 returns_6 : tie.Need-returns-else-number-eq3
 returns_6 c =

@@ -24,17 +24,15 @@ judge_requires c κs = let s = c.before in let x = s.args in λ h. subst (λ (z 
 
 returns : tie.Need-returns-in-At
 returns c =
-    let g = ((c.in-At.t, tt), c.in-At.is) in
     let j = c.before in
     let x = j.args in
-    in_answer x.r.scale (outcome (record_asked x.r x.days.now x.offsets.now x.last)) (asked_sound x.r x.days.now x.offsets.now x.last) g.0.0 (ap slip (sym g.1) ∙ said j)
+    in_answer x.r.scale (outcome (record_asked x.r x.days.now x.offsets.now x.last)) (asked_sound x.r x.days.now x.offsets.now x.last) c.in-At.t (ap slip (sym c.in-At.is) ∙ said j)
 
 returns_2 : tie.Need-returns-in-Refused
 returns_2 c =
-    let g = ((c.in-Refused.f, (c.in-Refused.field-1, tt)), c.in-Refused.is) in
     let j = c.before in
     let x = j.args in
-    in_refused x.r.scale (outcome (record_asked x.r x.days.now x.offsets.now x.last)) g.0.0 g.0.1.0 (ap slip (sym g.1) ∙ said j)
+    in_refused x.r.scale (outcome (record_asked x.r x.days.now x.offsets.now x.last)) c.in-Refused.f c.in-Refused.field-1 (ap slip (sym c.in-Refused.is) ∙ said j)
 
 pub read_time_spec : {M : Type 1} → statement M
 read_time_spec = tie.close (tie.spec judge_requires (λ c. search rules) (λ c. search rules) returns returns_2)

@@ -24,28 +24,25 @@ returns c =
 
 put_text_requires : tie.Need-put_text-requires
 put_text_requires c κs =
-    let g = ((c.in-Date.date, tt), c.in-Date.is) in
     let d = c.before.before.before in
     let s = d.before.before.before.before.before in
     let r = s.args.r in
-    rw c.stamp_of.ensures (date_fits r.day g.0.0 (ap date_slip (sym g.1) ∙ dated d) r.micro (micro_under r.scale r.day r.micro s.requires))
+    rw c.stamp_of.ensures (date_fits r.day c.in-Date.date (ap date_slip (sym c.in-Date.is) ∙ dated d) r.micro (micro_under r.scale r.day r.micro s.requires))
 
 returns_2 : tie.Need-returns-in-Date
 returns_2 c =
-    let g = ((c.in-Date.date, tt), c.in-Date.is) in
     let d = c.before.before.before.before.before.before in
     let x = d.args in
     c.put_text.ensures
     ∙ ap (λ (t : Stamp). putting (full_text x.form x.r.scale t) x.out.now) c.stamp_of.ensures
-    ∙ image_put x.form x.r.scale (record_moment x.r) x.out.now (sym d.has_image.ensures ∙ not-false _ d.if-not-has_image.false-raw) g.0.0 (ap date_slip (sym g.1) ∙ dated d)
+    ∙ image_put x.form x.r.scale (record_moment x.r) x.out.now (sym d.has_image.ensures ∙ not-false _ d.if-not-has_image.false-raw) c.in-Date.date (ap date_slip (sym c.in-Date.is) ∙ dated d)
 
 returns_3 : tie.Need-returns-in-Refused
 returns_3 c =
-    let g = ((c.in-Refused.f, tt), c.in-Refused.is) in
     let d = c.before in
     let s = d.before.before.before.before.before in
     let x = s.args in
-    absurd (has_date x.form x.r.scale (record_moment x.r) x.out.now s.requires g.0.0 (ap date_slip (sym g.1) ∙ dated d))
+    absurd (has_date x.form x.r.scale (record_moment x.r) x.out.now s.requires c.in-Refused.f (ap date_slip (sym c.in-Refused.is) ∙ dated d))
 
 pub write_record_spec : {M : Type 1} → statement M
 write_record_spec =

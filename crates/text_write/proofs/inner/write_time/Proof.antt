@@ -24,24 +24,21 @@ judge_requires c κs = let s = c.before.before in let x = s.args in λ h. subst 
 
 write_record_requires : tie.Need-write_record-requires
 write_record_requires c κs =
-    let g = ((c.in-At.t, tt), c.in-At.is) in
     let j = c.before.before in
     let x = j.args in
-    write_inside x.r x.form x.days.now x.offsets.now x.last x.out.now j.judge.result (said j) g.0.0 g.1
+    write_inside x.r x.form x.days.now x.offsets.now x.last x.out.now j.judge.result (said j) c.in-At.t c.in-At.is
 
 returns : tie.Need-returns-in-At
 returns c =
-    let g = ((c.in-At.t, tt), c.in-At.is) in
     let j = c.before.before.before.before.before in
     let x = j.args in
-    c.write_record.ensures ∙ write_answer x.r x.form x.days.now x.offsets.now x.last x.out.now j.judge.result (said j) g.0.0 g.1
+    c.write_record.ensures ∙ write_answer x.r x.form x.days.now x.offsets.now x.last x.out.now j.judge.result (said j) c.in-At.t c.in-At.is
 
 returns_2 : tie.Need-returns-in-Refused
 returns_2 c =
-    let g = ((c.in-Refused.f, (c.in-Refused.field-1, tt)), c.in-Refused.is) in
     let j = c.before in
     let x = j.args in
-    write_refused x.r x.form x.days.now x.offsets.now x.last x.out.now j.judge.result (said j) g.0.0 g.0.1.0 g.1
+    write_refused x.r x.form x.days.now x.offsets.now x.last x.out.now j.judge.result (said j) c.in-Refused.f c.in-Refused.field-1 c.in-Refused.is
 
 pub write_time_spec : {M : Type 1} → statement M
 write_time_spec =
