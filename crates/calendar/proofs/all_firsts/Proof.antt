@@ -9,6 +9,7 @@ use lib.ListN.{length, drop, drop_of_length-le}
 use lib.Seq.{drop-cons}
 use lib.IntN.{pos}
 use mir.Facts.{to_z-of_z}
+use mir.Syntax.{w64}
 use borrow.Author.Rules.{rules}
 use borrow.Author.Tests.{not-true, not-false}
 use Rattle.calendar.specs.Meaning.{is_first, all_firsts}
@@ -33,7 +34,7 @@ step c =
     l.loop-i.invariant.1
     ∙ ap all_firsts (drop-cons s l.loop-i.i (pos 0) (omega arith))
     ∙ ap (λ (b : Bool). b && all_firsts (drop (suc l.loop-i.i) s))
-    (sym (c.is_first.ensures ∙ ap is_first (to_z-of_z (record { sfits = c.is_first-arg-1.given }))))
+    (sym (c.is_first.ensures ∙ ap is_first (to_z-of_z {w = w64} (record { sfits = c.is_first-arg-1.given }))))
 
 returns : tie.Need-returns-then-not-is_first invariant_loop decreases_loop
 returns c = rw (step c.before, not-true c.is_first.result c.if-not-is_first.true-raw)

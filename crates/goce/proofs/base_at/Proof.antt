@@ -33,7 +33,7 @@ small c =
     let k = c.before in
     let s = entry k in
     let a = s.args in
-    omega (arith, c.offset_on-offset.ensures, offset_small a.days.now a.offsets.now a.last s.requires.last_value (place k / 5662310400))
+    omega (arith, c.offset_on-offset.ensures, offset_small a.days.now a.offsets.now a.last s.requires.0 (place k / 5662310400))
 
 -- what is answered of the place that was matched
 answered : (c : tie.Start) (p : Place) → c.args.reference ≡ p → {x : Base} → x ≡ base_at p c.args.days.now c.args.offsets.now c.args.last →
@@ -47,13 +47,13 @@ offset_on_requires : tie.Need-offset_on-offset-requires
 offset_on_requires c κs =
     let s = entry c in
     let a = s.args in
-    (usable a.days.now a.offsets.now a.last s.requires.last_value, omega (arith, few c))
+    (usable a.days.now a.offsets.now a.last s.requires.0, omega (arith, few c))
 
 is_current_requires : tie.Need-is_current-current-requires
 is_current_requires c κs =
     let s = entry c.before in
     let a = s.args in
-    let l = steps a.days.now a.offsets.now a.last s.requires.last_value in
+    let l = steps a.days.now a.offsets.now a.last s.requires.0 in
     let e = ap place_of_day (to_z-of_z s.ranges.last) in
     (omega (arith, e, l.from), omega (arith, e, l.to))
 

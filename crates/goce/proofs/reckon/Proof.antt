@@ -8,13 +8,13 @@ use Rattle.goce.proofs.reckon.Statement.{statement}
 use Rattle.goce.proofs.reckon.Tie as tie
 
 in_window_requires : tie.Need-in_window-inside-requires
-in_window_requires c κs = let p = c.requires.windowed in (p.back_to, omega (arith, p.ahead_to))
+in_window_requires c κs = let p = c.requires.0 in (p.back_to, omega (arith, p.ahead_to))
 
 ends_of_requires : tie.Need-ends_of-ends-requires
-ends_of_requires c κs = c.requires.windowed
+ends_of_requires c κs = c.requires.0
 
 time_at_requires : tie.Need-time_at-at-requires
-time_at_requires c κs = let n = c.before.before in (n.requires.windowed.based, omega (arith, n.count-k.ensures))
+time_at_requires c κs = let n = c.before.before in (n.requires.0.based, omega (arith, n.count-k.ensures))
 
 returns : tie.Need-returns
 returns c =

@@ -13,7 +13,7 @@ returns_2 c =
     let k = l.before.before.before.before in
     let i = k.before.before in
     let a = i.args in
-    two_laid a.n a.m a.x a.y a.out.now i.if-out-end.false k.lay.new.1.0 l.lay-2.new.1.0 k.lay.ensures l.lay-2.ensures
+    two_laid a.n a.m a.x a.y a.out.now i.if-out-end.false k.lay.new.out l.lay-2.new.out k.lay.ensures l.lay-2.ensures
 
 pub place_two_spec : {M : Type 1} → statement M
 place_two_spec =

@@ -41,7 +41,7 @@ print_requires c κs =
     let x = s.args in
     let k = told d c.in-At.t c.in-At.is in (
       ap (λ (z : Scale). in_span z c.in-At.t.day c.in-At.t.micro) k.0 ∙ line_inside x.days.now x.offsets.now x.last x.line.now (record_moment c.in-At.t) k.1,
-      s.requires.in_bounds,
+      s.requires.1,
     )
 
 returns : tie.Need-returns-in-At
@@ -49,7 +49,7 @@ returns c =
     let d = c.before.before.before.before.before in
     let x = d.args in
     let k = told d c.in-At.t c.in-At.is in
-    subst (λ (image : List ℕ). Put image x.out.now c.print.new.1.0 c.print.result)
+    subst (λ (image : List ℕ). Put image x.out.now c.print.new.out c.print.result)
     (ap (λ (z : Scale). image_of F.PrefixedMicros z (record_moment c.in-At.t) ++ (10 ∷ [])) k.0 ∙ answer_is x.days.now x.offsets.now x.last x.line.now (answer (record_moment c.in-At.t)) k.1)
     c.print.ensures
 
@@ -58,7 +58,7 @@ returns_2 c =
     let d = c.before.before.before.before.before in
     let x = d.args in
     let o = line_refused x.days.now x.offsets.now x.last x.line.now c.in-Refused.f c.in-Refused.field-1 (ap slip (sym c.in-Refused.is) ∙ said d) in
-    subst (λ (image : List ℕ). Put image x.out.now c.refuse.new.1.0 c.refuse.result)
+    subst (λ (image : List ℕ). Put image x.out.now c.refuse.new.out c.refuse.result)
     (refused_is (number_of c.in-Refused.f) ∙ answer_is x.days.now x.offsets.now x.last x.line.now (refused (number_of c.in-Refused.f)) o)
     c.refuse.ensures
 

@@ -42,7 +42,7 @@ moved : (c : tie.After-slice_known-in-loop-out-1 invariant_loop decreases_loop) 
     let x = l.args in
     Upto x.days.now x.offsets.now (seen x.last) x.input.now x.out.now (f.newline_from-end.result + 1) (l.loop-out.written + c.answer-written.result)
     (take l.loop-out.written l.loop-out.out
-    ++ (c.answer-written.new.1.1.1.1.0 ++ drop (length l.loop-out.out - l.loop-out.written) (drop l.loop-out.written l.loop-out.out)))
+    ++ (c.answer-written.new.out ++ drop (length l.loop-out.out - l.loop-out.written) (drop l.loop-out.written l.loop-out.out)))
 moved c =
     let w = c.before.before in
     let f = c.before.before.before.before.before.before in
@@ -55,7 +55,7 @@ moved c =
     let o = l.loop-out.out in
     let at = l.loop-out.at in
     let n = l.loop-out.written in
-    let a = w.answer-written.new.1.1.1.1.0 in
+    let a = w.answer-written.new.out in
     let r = w.answer-written.result in
     let k = before_newline (drop at s) in
     let u = l.loop-out.invariant in

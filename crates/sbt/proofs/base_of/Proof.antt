@@ -27,33 +27,33 @@ known_p : (c : tie.In-At) → place_of (entry c).args.c ≡ P.At (place c)
 known_p c = sym c.reference_of.ensures ∙ c.in-At.is
 
 few : (c : tie.In-At) → place c < 6611760000000000
-few c = let s = entry c in let a = s.args in place_few a.c a.days.now a.offsets.now a.last s.requires.scale_value (place c) (known_p c)
+few c = let s = entry c in let a = s.args in place_few a.c a.days.now a.offsets.now a.last s.requires.0 (place c) (known_p c)
 
 small : (c : tie.After-offset_on-offset) → c.offset_on-offset.result ≤ 73
 small c =
     let k = c.before in
     let s = entry k in
     let a = s.args in
-    omega (arith, c.offset_on-offset.ensures, offset_small a.days.now a.offsets.now a.last s.requires.last_value (place k / 86400000000))
+    omega (arith, c.offset_on-offset.ensures, offset_small a.days.now a.offsets.now a.last s.requires.1 (place k / 86400000000))
 
 returns : tie.Need-returns-in_default
 returns c =
     let b = c.before in
     let s = b.before.before in
     let a = s.args in
-    base_none a.c a.days.now a.offsets.now a.last s.requires.scale_value (sym b.reference_of.ensures ∙ c.in_default.is)
+    base_none a.c a.days.now a.offsets.now a.last s.requires.0 (sym b.reference_of.ensures ∙ c.in_default.is)
 
 offset_on_requires : tie.Need-offset_on-offset-requires
 offset_on_requires c κs =
     let s = entry c in
     let a = s.args in
-    (usable a.days.now a.offsets.now a.last s.requires.last_value, omega (arith, few c))
+    (usable a.days.now a.offsets.now a.last s.requires.1, omega (arith, few c))
 
 is_current_requires : tie.Need-is_current-current-requires
 is_current_requires c κs =
     let s = entry c.before in
     let a = s.args in
-    let l = steps a.days.now a.offsets.now a.last s.requires.last_value in
+    let l = steps a.days.now a.offsets.now a.last s.requires.1 in
     let e = ap place_of_day (to_z-of_z s.ranges.last) in
     (omega (arith, e, l.from), omega (arith, e, l.to))
 
@@ -69,7 +69,7 @@ returns_2 c =
     let k = b.before in
     let s = entry k in
     let a = s.args in
-    base_is a.c a.days.now a.offsets.now a.last s.requires.scale_value (place k) (known_p k) b.offset_on-offset.result b.offset_on-offset.ensures c.is_current-current.result
+    base_is a.c a.days.now a.offsets.now a.last s.requires.0 (place k) (known_p k) b.offset_on-offset.result b.offset_on-offset.ensures c.is_current-current.result
     (c.is_current-current.ensures ∙ ap (λ (e : ℤ). is_current S.Utc e (day_at (place k / 86400000000))) (to_z-of_z s.ranges.last))
 
 pub base_of_spec : {M : Type 1} → statement M

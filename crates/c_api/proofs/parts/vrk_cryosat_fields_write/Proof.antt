@@ -25,7 +25,7 @@ unfolding write
 returns_2 c =
     let w = c.before.before.before in
     let a = w.args in
-    c.written_out.ensures w.write.new.1.0 ∙ w.write.ensures
+    c.written_out.ensures w.write.new.out ∙ w.write.ensures
     ∙ past (cryosat_fields_writing a.day a.millisecond a.microsecond) a.out.now
     (on (rw (lt-ltb a.day 65536 (omega arith), lt-ltb a.microsecond 65536 (omega (arith, leb-false)))) done)
 

@@ -21,7 +21,7 @@ unfolding write
 returns_2 c =
     let w = c.before.before.before in
     let a = w.args in
-    c.written_out.ensures w.write.new.1.0 ∙ w.write.ensures
+    c.written_out.ensures w.write.new.out ∙ w.write.ensures
     ∙ past (cuc_fields_writing a.seconds a.fraction) a.out.now
     (on (lt-ltb a.fraction 65536 (omega arith)) done)
 

@@ -26,7 +26,7 @@ unfolding write
 returns_2 c =
     let w = c.before.before.before in
     let a = w.args in
-    c.written_out.ensures w.write.new.1.0 ∙ w.write.ensures
+    c.written_out.ensures w.write.new.out ∙ w.write.ensures
     ∙ past (proteus_fields_writing a.week a.h3 a.second a.fraction) a.out.now
     (on (rw (lt-ltb a.week 65536 (omega arith), le-leb a.h3 1 (omega (arith, ltb-false)), lt-ltb a.fraction 65536 (omega (arith, leb-false)))) done)
 

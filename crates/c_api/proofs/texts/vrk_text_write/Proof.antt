@@ -31,7 +31,7 @@ returns_2 c =
     let s = n in
     let a = s.args in
     let g = form_good a.form f.in-Form.f (sym n.form_named.ensures ∙ f.in-Form.is) in
-    c.written_out.ensures w.write.new.1.1.1.1.1.0 ∙ w.write.ensures
+    c.written_out.ensures w.write.new.out ∙ w.write.ensures
     ∙ ap₂ (λ (x : Form) (z : ℤ). write_text k.in-Handed.h x a.days.now a.offsets.now z a.out.now) g.1 (to_z-of_z s.ranges.last)
     ∙ handed_past (text_writing a.form a.days.now a.offsets.now a.last) a.time a.out.now k.in-Handed.h
     (sym b.hand.ensures ∙ k.in-Handed.is) (on g.0 done)

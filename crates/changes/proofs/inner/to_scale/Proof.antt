@@ -10,7 +10,7 @@ use Rattle.changes.proofs.inner.to_scale.Tie as tie
 to_utc_requires : tie.Need-to_utc-requires
 to_utc_requires c κs =
     let s = c.before.before in
-    (far_on s.requires.on_the_way, rw (to_z-of_z s.ranges.last) (s.requires.last_value (ap is_utc c.in-Utc.is)))
+    (far_on s.requires.0, rw (to_z-of_z s.ranges.last) (s.requires.1 (ap is_utc c.in-Utc.is)))
 
 returns : tie.Need-returns-in-Tai
 returns c = rw c.in-Tai.is (c.dated_tai.ensures ∙ c.to_tai.ensures)

@@ -32,7 +32,7 @@ own c =
     ap is_utc
     (scales_same (time_scale s.args.t) s.args.due
     (sym (k.code.ensures ∙ ap code_of k.scale.ensures) ∙ c.if-code.false ∙ k.code-2.ensures))
-    ∙ s.requires.due_value
+    ∙ s.requires.1
 
 tested : (c : tie.After-covers) → let a = (entry c.before.before.before).args in c.covers.result ≡ within_at a.v (time_count a.t)
 tested c = c.covers.ensures ∙ ap (within_at (entry c.before.before.before).args.v) c.count_of-w.ensures
@@ -41,14 +41,14 @@ returns : tie.Need-returns-then-code
 returns c =
     let s = entry c.before in
     let a = s.args in
-    own_12 a.due a.v (time_scale a.t) (time_count a.t) s.requires.spanned (codes c.before ∙ ne_eqb _ _ c.if-code.true)
+    own_12 a.due a.v (time_scale a.t) (time_count a.t) s.requires.0 (codes c.before ∙ ne_eqb _ _ c.if-code.true)
 
 returns_2 : tie.Need-returns-then-not-covers
 returns_2 c =
     let e = c.before.before.before in
     let s = entry e.before in
     let a = s.args in
-    own_8 a.due a.v (time_scale a.t) (time_count a.t) s.requires.spanned (same e) (own e) (sym (tested c.before) ∙ not-true _ c.if-not-covers.true-raw)
+    own_8 a.due a.v (time_scale a.t) (time_count a.t) s.requires.0 (same e) (own e) (sym (tested c.before) ∙ not-true _ c.if-not-covers.true-raw)
 
 returns_3 : tie.Need-returns
 returns_3 c =
@@ -56,7 +56,7 @@ returns_3 c =
     let s = entry e.before in
     let a = s.args in
     ap (λ (n : ℕ). answer (micros_at n)) c.count_of-w.ensures
-    ∙ own_in a.due a.v (time_scale a.t) (time_count a.t) s.requires.spanned (same e) (own e) (sym (tested c.before) ∙ not-false _ c.if-not-covers.false-raw)
+    ∙ own_in a.due a.v (time_scale a.t) (time_count a.t) s.requires.0 (same e) (own e) (sym (tested c.before) ∙ not-false _ c.if-not-covers.false-raw)
 
 pub turn_time_spec : {M : Type 1} → statement M
 turn_time_spec =

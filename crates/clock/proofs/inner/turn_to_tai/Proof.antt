@@ -17,13 +17,13 @@ turn_utc_requires : tie.Need-turn_utc-requires
 turn_utc_requires c κs =
     let k = c in
     let s = k in
-    ((rw k.in-Utc.is at s.requires.spanned), rw (to_z-of_z s.ranges.last) s.requires.last_value)
+    ((rw k.in-Utc.is at s.requires.0), rw (to_z-of_z s.ranges.last) s.requires.1)
 
 returns : tie.Need-returns-in-Tai
 returns c =
     let s = c.before.before in
     let a = s.args in
-    rw c.in-Tai.is (turn_12 S.Tai c.in-Tai.field-0.0 a.v a.days.now a.offsets.now a.last (rw c.in-Tai.is at s.requires.spanned) refl)
+    rw c.in-Tai.is (turn_12 S.Tai c.in-Tai.field-0.0 a.v a.days.now a.offsets.now a.last (rw c.in-Tai.is at s.requires.0) refl)
 
 returns_2 : tie.Need-returns-in-Utc
 returns_2 c =
@@ -39,7 +39,7 @@ returns_3 : tie.Need-returns-in-Gps
 returns_3 c =
     let s = c.before.before in
     let a = s.args in
-    rw c.in-Gps.is (turn_12 S.Gps c.in-Gps.field-0.0 a.v a.days.now a.offsets.now a.last (rw c.in-Gps.is at s.requires.spanned) refl)
+    rw c.in-Gps.is (turn_12 S.Gps c.in-Gps.field-0.0 a.v a.days.now a.offsets.now a.last (rw c.in-Gps.is at s.requires.0) refl)
 
 pub turn_to_tai_spec : {M : Type 1} → statement M
 turn_to_tai_spec =

@@ -21,7 +21,7 @@ placed : (c : tie.After-from_utc) → let a = (entry c).args in
 placed c =
     let s = entry c in
     let a = s.args in
-    left_placing (moment_at S.Utc a.t.0) a.days.now a.offsets.now a.last c.from_utc.result a.t.0 s.requires.spanned refl
+    left_placing (moment_at S.Utc a.t.0) a.days.now a.offsets.now a.last c.from_utc.result a.t.0 s.requires.0 refl
     (rw (to_z-of_z s.ranges.last) at c.from_utc.ensures)
 
 found : (c : tie.In-At) → let a = (entry c.before).args in
@@ -33,7 +33,7 @@ returns c =
     let w = c in
     let s = entry w.before.before.before in
     let a = s.args in
-    turn_8 a.v a.t.0 a.days.now a.offsets.now a.last s.requires.spanned w.in-At.w.0 (found w.before.before)
+    turn_8 a.v a.t.0 a.days.now a.offsets.now a.last s.requires.0 w.in-At.w.0 (found w.before.before)
     (sym c.covers.ensures ∙ not-true _ c.if-not-covers.true-raw)
 
 returns_2 : tie.Need-returns-else-not-covers
@@ -41,7 +41,7 @@ returns_2 c =
     let w = c in
     let s = entry w.before.before.before in
     let a = s.args in
-    turn_in a.v a.t.0 a.days.now a.offsets.now a.last s.requires.spanned w.in-At.w.0 (found w.before.before)
+    turn_in a.v a.t.0 a.days.now a.offsets.now a.last s.requires.0 w.in-At.w.0 (found w.before.before)
     (sym c.covers.ensures ∙ not-false _ c.if-not-covers.false-raw)
 
 returns_3 : tie.Need-returns-in-Refused
@@ -50,7 +50,7 @@ returns_3 c =
     let b = f in
     let s = entry b.before in
     let a = s.args in
-    turn_lacks a.v a.t.0 a.days.now a.offsets.now a.last s.requires.spanned _ (ap counted (sym f.in-Refused.is) ∙ placed b.before)
+    turn_lacks a.v a.t.0 a.days.now a.offsets.now a.last s.requires.0 _ (ap counted (sym f.in-Refused.is) ∙ placed b.before)
 
 pub turn_utc_spec : {M : Type 1} → statement M
 turn_utc_spec =

@@ -8,7 +8,7 @@ returns : tie.Need-returns
 returns c =
     let z = c.before.before in
     quotient_is z.args.neg z.args.n z.args.d c.held.result c.held-2.result c.held.ensures c.held-2.ensures
-    z.requires.n_bound.0 z.requires.n_bound.1 z.requires.d_nonzero.0 z.requires.d_nonzero.1
+    z.requires.0.0 z.requires.0.1 z.requires.1.0 z.requires.1.1
 
 pub quotient_spec : {M : Type 1} → statement M
 quotient_spec = tie.close (tie.spec (λ c κs. search rules) (λ c κs. search rules) returns)

@@ -25,10 +25,10 @@ loop_holds c =
     let b = c.before in
     let a = b.args in
     let n = a.t.0 in
-    (omega arith, start (begun (micros_at n)) (plain 10 (micros_at n)) a.days.now a.offsets.now b.requires.usable.even)
+    (omega arith, start (begun (micros_at n)) (plain 10 (micros_at n)) a.days.now a.offsets.now b.requires.0.even)
 
 shared_slice_read_p : tie.Need-bounds-offsets-k invariant_loop decreases_loop
-shared_slice_read_p c = let l = c.before.before.before in omega (arith, l.requires.usable.even)
+shared_slice_read_p c = let l = c.before.before.before in omega (arith, l.requires.0.even)
 
 -- what is known of step i - 1
 record Facts (s p x : ℕ) : Type 0 where
@@ -46,8 +46,8 @@ facts c =
     let a = b.args in
     let h : l.loop-i.i - 1 < length a.days.now = omega arith in
     let e = c.step_day-s.ensures in
-    let w = b.requires.usable.within (l.loop-i.i - 1) h in
-    let v = b.requires.usable.small (l.loop-i.i - 1) h in
+    let w = b.requires.0.within (l.loop-i.i - 1) h in
+    let v = b.requires.0.small (l.loop-i.i - 1) h in
     record { is = e; low = omega (arith, e, w.0); high = omega (arith, e, w.1); least = v.0; most = v.1 }
 
 mul_start : tie.Need-overflow_mul-start invariant_loop decreases_loop
@@ -63,7 +63,7 @@ plain_at_requires : tie.Need-plain_at-requires invariant_loop decreases_loop
 plain_at_requires c κs =
     let f = facts c.before in
     let b = c.before.before.before.before.before.before in
-    (omega (arith, f.most), omega (arith, c.if-start-c.true), b.requires.le_t.1)
+    (omega (arith, f.most), omega (arith, c.if-start-c.true), b.requires.1.1)
 
 returns : tie.Need-returns-then-start-c invariant_loop decreases_loop
 returns c =
@@ -73,12 +73,12 @@ returns c =
     let a = b.args in
     let f = facts k in
     c.plain_at.ensures
-    ∙ utc_plain a.days.now a.offsets.now b.requires.usable l.loop-i.i k.loop-i-test.true l.loop-i.invariant.0 a.t.0
+    ∙ utc_plain a.days.now a.offsets.now b.requires.0 l.loop-i.i k.loop-i-test.true l.loop-i.invariant.0 a.t.0
     (omega (arith, f.is, c.if-start-c.true))
     ∙ l.loop-i.invariant.1
 
 add_if2 : tie.Need-overflow_add-c invariant_loop decreases_loop
-add_if2 c = let b = c.before.before.before.before.before.before in omega (arith, b.requires.le_t.1)
+add_if2 c = let b = c.before.before.before.before.before.before in omega (arith, b.requires.1.1)
 
 sixty_at_requires : tie.Need-sixty_at-requires invariant_loop decreases_loop
 sixty_at_requires c κs =
@@ -96,7 +96,7 @@ returns_2 c =
     let a = b.args in
     let f = facts k in
     c.sixty_at.ensures ∙ ap (λ (n : ℕ). sixty_at n (get_or a.offsets.now (l.loop-i.i - 1) 0) a.t.0) f.is
-    ∙ utc_sixty a.days.now a.offsets.now b.requires.usable l.loop-i.i k.loop-i-test.true l.loop-i.invariant.0 a.t.0
+    ∙ utc_sixty a.days.now a.offsets.now b.requires.0 l.loop-i.i k.loop-i-test.true l.loop-i.invariant.0 a.t.0
     (omega (arith, f.is, c.if-start-c.false)) (omega (arith, f.is, f.least, c.if-start-c-2.true))
     ∙ l.loop-i.invariant.1
 
@@ -108,7 +108,7 @@ loop_again c =
     let a = b.args in
     let f = facts k in (
       omega arith,
-      utc_on a.days.now a.offsets.now b.requires.usable l.loop-i.i k.loop-i-test.true l.loop-i.invariant.0 a.t.0
+      utc_on a.days.now a.offsets.now b.requires.0 l.loop-i.i k.loop-i-test.true l.loop-i.invariant.0 a.t.0
           (omega (arith, f.is, f.least, c.if-start-c-2.false))
           ∙ l.loop-i.invariant.1,
     )
@@ -116,14 +116,14 @@ loop_again c =
 plain_at_requires_2 : tie.Need-plain_at-requires-2 invariant_loop decreases_loop
 plain_at_requires_2 c κs =
     let b = c.before.before.before in
-    (omega arith, omega (arith, b.requires.le_t.0), b.requires.le_t.1)
+    (omega arith, omega (arith, b.requires.1.0), b.requires.1.1)
 
 returns_3 : tie.Need-returns invariant_loop decreases_loop
 returns_3 c =
     let l = c.before.before in
     let b = l.before.before in
     let a = b.args in
-    c.plain_at-2.ensures ∙ sym (plain_at_lem 10 a.t.0 (omega (arith, b.requires.le_t.0)))
+    c.plain_at-2.ensures ∙ sym (plain_at_lem 10 a.t.0 (omega (arith, b.requires.1.0)))
     ∙ nothing (begun (micros_at a.t.0)) (plain 10 (micros_at a.t.0)) a.days.now a.offsets.now l.loop-i.i (omega (arith, c.loop-i-test.false))
     ∙ l.loop-i.invariant.1
 

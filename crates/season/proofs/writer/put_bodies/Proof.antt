@@ -55,7 +55,7 @@ loop_again c =
     let a = l.args in (
       omega arith,
       fill_turn 28 (body_bytes a.words.now) l.loop-k.k a.out.now l.loop-k.out l.loop-k.invariant.1
-          x.put_body.new.1.1.0 x.put_body.ensures (body_length a.words.now l.loop-k.k),
+          x.put_body.new.out x.put_body.ensures (body_length a.words.now l.loop-k.k),
     )
 
 same_length : tie.Need-shape_of-out invariant_loop decreases_loop

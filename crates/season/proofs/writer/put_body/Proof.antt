@@ -42,7 +42,7 @@ returns c =
     let r = t.correlation_at-c.result in
     let p = d.place_of_day.result in
     body_laid a.words.now a.k w r p u.bits_of.result a.out.now
-    l1.lay.new.1.0 l2.lay-2.new.1.0 l3.lay-3.new.1.0 l4.lay-4.new.1.0 l5.lay-5.new.1.0
+    l1.lay.new.out l2.lay-2.new.out l3.lay-3.new.out l4.lay-4.new.out l5.lay-5.new.out
     b.requires.2 t.correlation_at-c.ensures (day_place d).0
     (micros_read (p * 86400000000 + r.micro) u.bits_of.result u.micros_at.result u.micros_at.ensures u.bits_of.ensures)
     l1.lay.ensures l2.lay-2.ensures l3.lay-3.ensures l4.lay-4.ensures l5.lay-5.ensures

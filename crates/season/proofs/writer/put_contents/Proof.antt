@@ -57,7 +57,7 @@ loop_again c =
     let a = l.args in (
       omega arith,
       fill_turn 20 (entry_bytes a.n a.words.now) l.loop-k.k a.out.now l.loop-k.out l.loop-k.invariant.1
-          x.put_entry.new.1.1.1.0 x.put_entry.ensures (entry_length a.n a.words.now l.loop-k.k),
+          x.put_entry.new.out x.put_entry.ensures (entry_length a.n a.words.now l.loop-k.k),
     )
 
 same_length : tie.Need-shape_of-out invariant_loop decreases_loop

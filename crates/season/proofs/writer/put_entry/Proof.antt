@@ -26,7 +26,7 @@ returns_2 c =
     let a = b.args in
     let w = writes a.words.now a.k b.requires.0 in
     entry_laid a.words.now a.k w a.n e.bits_of.result f.bits_of-2.result v.in-At.v a.out.now
-    n.lay.new.1.0 m.lay-2.new.1.0 l.lay-3.new.1.0 b.requires.4 (sym x.cover_at.ensures ∙ v.in-At.is)
+    n.lay.new.out m.lay-2.new.out l.lay-3.new.out b.requires.4 (sym x.cover_at.ensures ∙ v.in-At.is)
     (micros_read v.in-At.v.from e.bits_of.result e.micros_at.result e.micros_at.ensures e.bits_of.ensures)
     (micros_read v.in-At.v.to f.bits_of-2.result f.micros_at-2.result f.micros_at-2.ensures f.bits_of-2.ensures)
     n.lay.ensures m.lay-2.ensures l.lay-3.ensures

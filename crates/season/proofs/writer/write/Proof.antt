@@ -45,7 +45,7 @@ put_contents_requires c κs =
       rising e,
       omega arith,
       x.if-n-gt512.false,
-      contents_length (length a.words.now / 7) a.out.now l.lay.new.1.0 f.if-out-end.false l.lay.ensures,
+      contents_length (length a.words.now / 7) a.out.now l.lay.new.out f.if-out-end.false l.lay.ensures,
     )
 
 put_bodies_requires : tie.Need-put_bodies-requires
@@ -59,8 +59,8 @@ put_bodies_requires c κs =
       rising e,
       omega arith,
       x.if-n-gt512.false,
-      bodies_length (length a.words.now / 7) a.out.now l.lay.new.1.0 f.if-out-end.false l.lay.ensures
-          m.put_contents.new.1.1.0 a.words.now m.put_contents.ensures,
+      bodies_length (length a.words.now / 7) a.out.now l.lay.new.out f.if-out-end.false l.lay.ensures
+          m.put_contents.new.out a.words.now m.put_contents.ensures,
     )
 
 returns_5 : tie.Need-returns
@@ -73,8 +73,8 @@ returns_5 c =
     let x = e.before in
     let a = x.args in
     filed a.words.now a.out.now x.if-words-ne0.false x.if-n-gt512.false (rising e) f.if-out-end.false
-    (all_laid (length a.words.now / 7) a.out.now l.lay.new.1.0 f.if-out-end.false l.lay.ensures
-    m.put_contents.new.1.1.0 a.words.now m.put_contents.ensures r.put_bodies.new.1.1.0 r.put_bodies.ensures)
+    (all_laid (length a.words.now / 7) a.out.now l.lay.new.out f.if-out-end.false l.lay.ensures
+    m.put_contents.new.out a.words.now m.put_contents.ensures r.put_bodies.new.out r.put_bodies.ensures)
 
 pub write_spec : {M : Type 1} → statement M
 write_spec =

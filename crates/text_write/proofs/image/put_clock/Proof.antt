@@ -9,57 +9,57 @@ use Rattle.text_write.proofs.image.put_clock.Statement.{statement}
 use Rattle.text_write.proofs.image.put_clock.Tie as tie
 
 -- the slice keeps its length
-long : (c : tie.After-put_two) → length c.put_two.new.1.0 ≡ length c.args.out.now
+long : (c : tie.After-put_two) → length c.put_two.new.out ≡ length c.args.out.now
 long c =
     let x = c.args in
-    marked_long (pair x.t.hour) x.out.now c.put_two.new.1.0 11 32 12 c.put_two.ensures
+    marked_long (pair x.t.hour) x.out.now c.put_two.new.out 11 32 12 c.put_two.ensures
 
-long_2 : (c : tie.After-put_two-2) → length c.put_two-2.new.1.0 ≡ length c.args.out.now
+long_2 : (c : tie.After-put_two-2) → length c.put_two-2.new.out ≡ length c.args.out.now
 long_2 c =
     let w = c.before.before.before.before in
     let x = w.args in
-    marked_long (pair x.t.minute) w.put_two.new.1.0 c.put_two-2.new.1.0 14 58 15 c.put_two-2.ensures
+    marked_long (pair x.t.minute) w.put_two.new.out c.put_two-2.new.out 14 58 15 c.put_two-2.ensures
     ∙ long w
 
 put_two_requires : tie.Need-put_two-requires
-put_two_requires c κs = let s = c.before.before in (s.requires.fits.hours, simp length-set (omega (arith, s.requires.in_bounds)))
+put_two_requires c κs = let s = c.before.before in (s.requires.0.hours, simp length-set (omega (arith, s.requires.1)))
 
 slice_write_out_2 : tie.Need-bounds-out-14
 slice_write_out_2 c =
     let w = c.before.before in
     let s = w.before.before.before in
-    let g : 14 < length w.put_two.new.1.0 = omega (arith, long w, s.requires.in_bounds) in
+    let g : 14 < length w.put_two.new.out = omega (arith, long w, s.requires.1) in
     g
 
 put_two_requires_2 : tie.Need-put_two-requires-2
 put_two_requires_2 c κs =
     let w = c.before.before.before in
     let s = w.before.before.before in
-    let o = w.put_two.new.1.0 in
-    let g : 17 ≤ length (set o 14 58) = omega (arith, length-set o 14 58, long w, s.requires.in_bounds) in
-    (s.requires.fits.minutes, g)
+    let o = w.put_two.new.out in
+    let g : 17 ≤ length (set o 14 58) = omega (arith, length-set o 14 58, long w, s.requires.1) in
+    (s.requires.0.minutes, g)
 
 slice_write_out_3 : tie.Need-bounds-out-17
 slice_write_out_3 c =
     let w = c.before.before in
     let s = w.before.before.before.before.before.before.before in
-    let g : 17 < length w.put_two-2.new.1.0 = omega (arith, long_2 w, s.requires.in_bounds) in
+    let g : 17 < length w.put_two-2.new.out = omega (arith, long_2 w, s.requires.1) in
     g
 
 put_two_requires_3 : tie.Need-put_two-requires-3
 put_two_requires_3 c κs =
     let w = c.before.before.before in
     let s = w.before.before.before.before.before.before.before in
-    let o = w.put_two-2.new.1.0 in
-    let g : 20 ≤ length (set o 17 58) = omega (arith, length-set o 17 58, long_2 w, s.requires.in_bounds) in
-    (s.requires.fits.seconds, g)
+    let o = w.put_two-2.new.out in
+    let g : 20 ≤ length (set o 17 58) = omega (arith, length-set o 17 58, long_2 w, s.requires.1) in
+    (s.requires.0.seconds, g)
 
 same_length : tie.Need-shape_of-out
 same_length c =
     let w = c.before.before in
     let v = w.before.before.before.before in
     let x = v.args in
-    marked_long (pair x.t.second) v.put_two-2.new.1.0 w.put_two-3.new.1.0 17 58 18 w.put_two-3.ensures
+    marked_long (pair x.t.second) v.put_two-2.new.out w.put_two-3.new.out 17 58 18 w.put_two-3.ensures
     ∙ long_2 v
 
 returns : tie.Need-returns

@@ -9,32 +9,32 @@ use Rattle.text_write.proofs.image.put_micro.Statement.{statement}
 use Rattle.text_write.proofs.image.put_micro.Tie as tie
 
 -- the slice keeps its length
-long : (c : tie.After-put_two) → length c.put_two.new.1.0 ≡ length c.args.out.now
+long : (c : tie.After-put_two) → length c.put_two.new.out ≡ length c.args.out.now
 long c =
     let x = c.args in
-    marked_long (pair (x.t.micro / 10000)) x.out.now c.put_two.new.1.0 20 46 21 c.put_two.ensures
+    marked_long (pair (x.t.micro / 10000)) x.out.now c.put_two.new.out 20 46 21 c.put_two.ensures
 
-long_2 : (c : tie.After-put_two-2) → length c.put_two-2.new.1.0 ≡ length c.args.out.now
+long_2 : (c : tie.After-put_two-2) → length c.put_two-2.new.out ≡ length c.args.out.now
 long_2 c =
     let w = c.before.before.before.before in
     let x = w.args in
-    as_long (pair (x.t.micro / 100 % 100)) w.put_two.new.1.0 c.put_two-2.new.1.0 23 c.put_two-2.ensures ∙ long w
+    as_long (pair (x.t.micro / 100 % 100)) w.put_two.new.out c.put_two-2.new.out 23 c.put_two-2.ensures ∙ long w
 
 put_two_requires : tie.Need-put_two-requires
-put_two_requires c κs = let s = c.before.before in (omega (arith, s.requires.fits.micros), simp length-set (omega (arith, s.requires.in_bounds)))
+put_two_requires c κs = let s = c.before.before in (omega (arith, s.requires.0.micros), simp length-set (omega (arith, s.requires.1)))
 
 put_two_requires_2 : tie.Need-put_two-requires-2
 put_two_requires_2 c κs =
     let w = c.before.before.before in
     let s = w.before.before.before in
-    let g : 25 ≤ length w.put_two.new.1.0 = omega (arith, long w, s.requires.in_bounds) in
+    let g : 25 ≤ length w.put_two.new.out = omega (arith, long w, s.requires.1) in
     (omega arith, g)
 
 put_two_requires_3 : tie.Need-put_two-requires-3
 put_two_requires_3 c κs =
     let w = c.before.before.before in
     let s = w.before.before.before.before.before.before.before in
-    let g : 27 ≤ length w.put_two-2.new.1.0 = omega (arith, long_2 w, s.requires.in_bounds) in
+    let g : 27 ≤ length w.put_two-2.new.out = omega (arith, long_2 w, s.requires.1) in
     (omega arith, g)
 
 same_length : tie.Need-shape_of-out
@@ -42,7 +42,7 @@ same_length c =
     let w = c.before.before in
     let v = w.before.before.before.before in
     let x = v.args in
-    as_long (pair (x.t.micro % 100)) v.put_two-2.new.1.0 w.put_two-3.new.1.0 25 w.put_two-3.ensures ∙ long_2 v
+    as_long (pair (x.t.micro % 100)) v.put_two-2.new.out w.put_two-3.new.out 25 w.put_two-3.ensures ∙ long_2 v
 
 returns : tie.Need-returns
 returns c =

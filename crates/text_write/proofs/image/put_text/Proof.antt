@@ -28,13 +28,13 @@ put_prefix_requires c κs =
     front_room x.form x.z x.t x.out.now n.size_of-n.result n.size_of-n.ensures e.if-out-n.false
 
 -- the prefix is not longer than the slice
-inside : (c : tie.After-put_prefix-from) → c.put_prefix-from.result ≤ length c.put_prefix-from.new.1.1.0
+inside : (c : tie.After-put_prefix-from) → c.put_prefix-from.result ≤ length c.put_prefix-from.new.out
 inside c =
     let e = c.before.before in
     let n = e.before in
     let x = n.args in
     from_room x.form x.z x.t x.out.now n.size_of-n.result n.size_of-n.ensures e.if-out-n.false
-    c.put_prefix-from.result c.put_prefix-from.ensures.0 c.put_prefix-from.new.1.1.0 c.put_prefix-from.ensures.1
+    c.put_prefix-from.result c.put_prefix-from.ensures.0 c.put_prefix-from.new.out c.put_prefix-from.ensures.1
 
 sub_fill : tie.Need-slice_bounds-fill-count
 sub_fill c = inside c.before.before.before
@@ -50,7 +50,7 @@ fill_requires c κs =
     let n = e.before in
     let s = n.before.before in
     let x = s.args in
-    let o = p.put_prefix-from.new.1.1.0 in
+    let o = p.put_prefix-from.new.out in
     let k = p.put_prefix-from.result in
     let g = rest_room x.form x.z x.t x.out.now n.size_of-n.result n.size_of-n.ensures e.if-out-n.false
     k p.put_prefix-from.ensures.0 o p.put_prefix-from.ensures.1 in
@@ -64,9 +64,9 @@ returns_2 c =
     let e = p.before.before in
     let n = e.before in
     let x = n.args in
-    let o = p.put_prefix-from.new.1.1.0 in
+    let o = p.put_prefix-from.new.out in
     let k = p.put_prefix-from.result in
-    let b = f.fill.new.1.1.0 in
+    let b = f.fill.new.out in
     ap (wrote (W.Bytes n.size_of-n.result)) (rest_back k o b)
     ∙ text_put x.form x.z x.t x.out.now n.size_of-n.result n.size_of-n.ensures e.if-out-n.false
     k p.put_prefix-from.ensures.0 o p.put_prefix-from.ensures.1 b

@@ -27,10 +27,10 @@ returns : tie.Need-returns-then-is_expired
 returns c =
     let s = entry c.before in
     let a = s.args in
-    utc_expired a.c.0 a.days.now a.offsets.now a.last s.requires.last_value (sym (expired c.before) ∙ c.if-is_expired.true)
+    utc_expired a.c.0 a.days.now a.offsets.now a.last s.requires.1 (sym (expired c.before) ∙ c.if-is_expired.true)
 
 unexpired_to_utc_requires : tie.Need-unexpired_to_utc-requires
-unexpired_to_utc_requires c κs = let s = entry c.before in (s.requires.le_c, (rw (to_z-of_z s.ranges.last) s.requires.last_value, rw (to_z-of_z s.ranges.last) (unexpired c)))
+unexpired_to_utc_requires c κs = let s = entry c.before in (s.requires.0, (rw (to_z-of_z s.ranges.last) s.requires.1, rw (to_z-of_z s.ranges.last) (unexpired c)))
 
 returns_2 : tie.Need-returns
 returns_2 c =

@@ -9,19 +9,19 @@ returns : tie.Need-returns-then-c
 returns c =
     let s = c.before.before.before in
     let a = s.args in
-    utc_early a.c.0 a.days.now a.offsets.now a.last s.requires.last_value.0 s.requires.last_value.1 s.requires.le_c c.if-c.true
+    utc_early a.c.0 a.days.now a.offsets.now a.last s.requires.1.0 s.requires.1.1 s.requires.0 c.if-c.true
 
 utc_at_requires : tie.Need-utc_at-requires
 utc_at_requires c κs =
     let s = c.before.before.before in
     let a = s.args in
-    (usable a.days.now a.offsets.now a.last s.requires.last_value.0, (s.requires.le_c, unexpired_few a.c.0 a.days.now a.offsets.now a.last s.requires.last_value.0 s.requires.last_value.1))
+    (usable a.days.now a.offsets.now a.last s.requires.1.0, (s.requires.0, unexpired_few a.c.0 a.days.now a.offsets.now a.last s.requires.1.0 s.requires.1.1))
 
 returns_2 : tie.Need-returns
 returns_2 c =
     let s = c.before.before.before.before in
     let a = s.args in
-    utc_in_lem a.c.0 a.days.now a.offsets.now a.last s.requires.last_value.0 s.requires.last_value.1 c.if-c.false c.utc_at.result.0 c.utc_at.ensures
+    utc_in_lem a.c.0 a.days.now a.offsets.now a.last s.requires.1.0 s.requires.1.1 c.if-c.false c.utc_at.result.0 c.utc_at.ensures
 
 pub unexpired_to_utc_spec : {M : Type 1} → statement M
 unexpired_to_utc_spec =
