@@ -19,7 +19,7 @@ float_to_bits_read_bits c = no_nan c.args.day c.if-day.false
 returns_2 : tie.Need-returns
 returns_2 c =
     let z = c.before.before in
-    c.read_bits.ensures ∙ ap (λ (y : Float). found z.args.first y) (of_bits-to_bits binary64 z.args.day (subst T (sym z.well-formed.1.0.1) tt))
+    c.read_bits.ensures ∙ ap (λ (y : Float). found z.args.first y) (of_bits-to_bits binary64 z.args.day (subst T (sym z.well_formed.1.0.1) tt))
 
 pub read_days_spec : {M : Type 1} → statement M
 read_days_spec = tie.close (tie.spec returns float_to_bits_read_bits (λ c κs. search rules) returns_2)

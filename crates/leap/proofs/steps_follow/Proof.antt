@@ -34,7 +34,7 @@ decreases_loop days offsets l o₀ o = o
 last : (c : tie.After-t9-1 invariant_loop decreases_loop) → let a = c.args in
     let d = get_or a.days.now (length a.days.now + 9 - 10) (pos 0) in
     lt_z (to_z w64 (of_z w64 a.end)) (to_z w64 (of_z w64 d)) ≡ lt_z a.end d
-last c = ap₂ lt_z (to_z-of_z c.ranges.end) (to_z-of_z (record { sfits = c.t9-1.given }))
+last c = ap₂ lt_z (to_z-of_z c.ranges.end) (to_z-of_z {w = w64} (record { sfits = c.t9-1.given }))
 
 returns : tie.Need-returns-then-end-days invariant_loop decreases_loop
 returns c =
@@ -56,7 +56,7 @@ loop_holds c =
     )
 
 -- step k, and step j before it
-module _ (c : tie.In-loop invariant_loop decreases_loop) where
+module _ (c : tie.In-loop-o invariant_loop decreases_loop) where
   abbrev start : tie.Start invariant_loop decreases_loop
   start = c.before.before.before.before.before
 
@@ -88,7 +88,7 @@ module _ (c : tie.In-loop invariant_loop decreases_loop) where
   under = c.loop-o.invariant.1
 
   to : place_of_day d ≤ place_of_day l
-  to = rw (to_z-of_z start.fits.end) at c.loop-o.invariant.2
+  to = rw (to_z-of_z start.ranges.end) at c.loop-o.invariant.2
 
 returns_2 : tie.Need-returns-then-offsets-o invariant_loop decreases_loop
 returns_2 c =
@@ -96,11 +96,11 @@ returns_2 c =
     after_other_offset (ds b) (os b) (l b) (start b).requires (j b) (k b) (next b) (under b) (λ q. c.if-offsets-o.true (omega (arith, q)))
 
 day : (c : tie.After-d-1 invariant_loop decreases_loop) → let b = c.before.before.before in to_z w64 (of_z w64 (d b)) ≡ d b
-day c = to_z-of_z (record { sfits = c.d-1.given })
+day c = to_z-of_z {w = w64} (record { sfits = c.d-1.given })
 
 order : (c : tie.After-t18-1 invariant_loop decreases_loop) → let b = c.before.before.before.before in
     le_z (to_z w64 (of_z w64 (d b))) (to_z w64 (of_z w64 (s b))) ≡ le_z (d b) (s b)
-order c = ap₂ le_z (day c.before) (to_z-of_z (record { sfits = c.t18-1.given }))
+order c = ap₂ le_z (day c.before) (to_z-of_z {w = w64} (record { sfits = c.t18-1.given }))
 
 returns_3 : tie.Need-returns-then-d-days invariant_loop decreases_loop
 returns_3 c =

@@ -19,7 +19,7 @@ read_days_requires c κs = subst (λ (n : ℕ). (0 < n) × (n ≤ 36525)) (sym c
 tells : (c : tie.After-read_days) {r : Reading} → c.read_days.result ≡ r → let a = c.args in Found a.day a.scale r
 tells c e =
     let a = c.before.before.args in
-    read_tells a.day a.scale c.before.first_of.ensures (sym e ∙ c.read-days.ensures)
+    read_tells a.day a.scale c.before.first_of.ensures (sym e ∙ c.read_days.ensures)
 
 -- the record that a callee made
 back : (z : tie.Start) {r t : Record} → r ≡ t → let h = H.Decimal z.args.day z.args.scale in Lays h (L.At t) → Lays h (L.At r)
@@ -43,7 +43,7 @@ returns_3 c =
     let d = c in
     let b = d in
     let z = b in
-    back z.before.before.before.before c.record_of.ensures (read_lays z.args.day z.args.scale (subst T (sym z.well-formed.0.1) tt) d.in-At.n (tells b.before.before d.in-At.is))
+    back z.before.before.before.before c.record_of.ensures (read_lays z.args.day z.args.scale (subst T (sym z.well_formed.0.1) tt) d.in-At.n (tells b.before.before d.in-At.is))
 
 pub lay_decimal_spec : {M : Type 1} → statement M
 lay_decimal_spec =

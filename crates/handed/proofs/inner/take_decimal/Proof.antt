@@ -27,7 +27,7 @@ module _ (x : Float) (z : Scale) {n : ℕ} (r : Reading) (e : n ≡ first_of z) 
 
 -- an f64 has its format's digits
 narrow : (z : tie.Start) → T (fits binary64 z.args.day)
-narrow z = subst T (sym z.well-formed.0.1) tt
+narrow z = subst T (sym z.well_formed.0.1) tt
 
 take_reading_requires : tie.Need-take_reading-requires
 take_reading_requires c κs = small c.args.day S.Tai c.read_days.result c.first_of.ensures c.read_days.ensures

@@ -5,6 +5,7 @@ use mathlib.Core.Path.{◌≡◌, sym, ap, ap₂, subst, ◌∙◌}
 use native.Mathlib.Omega.{arith}
 use mathlib.Core.Bool.{true}
 use borrow.Author.Tests.{not-true, not-false}
+use mir.Syntax.{w64}
 use mir.Facts.{to_z-of_z}
 use lib.IntN.{ℤ}
 use Prim.Native.Nat.{ℕ, ◌<◌}
@@ -96,7 +97,7 @@ returns_5 c =
     let q = ap day_slip (sym c.in-Day.is) ∙ k.day in
     let u = c.micro_of.ensures ∙ ap stamp_micro k.stamp in
     subst (λ (r : Record). ParsesBody x.z x.s.now (P.Time r))
-    (sym (c.new.ensures ∙ ap₂ (λ (a : ℤ) (n : ℕ). record_of x.z a n) (to_z-of_z (record { sfits = c.in-Day.known_told-1-own.given.0.1 })) u))
+    (sym (c.new.ensures ∙ ap₂ (λ (a : ℤ) (n : ℕ). record_of x.z a n) (to_z-of_z {w = w64} (record { sfits = c.in-Day.known_told-1-own.given.0.1 })) u))
     (body_at x.z x.s.now k.marks k.limits c.in-Day.day q)
 
 returns_6 : tie.Need-returns-else-number-eq3
