@@ -63,7 +63,7 @@ turned c =
     let s = entry (start k).before in
     let a = s.args in
     c.turn_by_list.ensures
-    ∙ ap₂ (λ (v : Ends) (e : ℤ). outcome (covering S.Utc (current k) (cover_of v) a.h a.days.now a.offsets.now e)) c.ends_of-v.ensures (to_z-of_z s.fits.last)
+    ∙ ap₂ (λ (v : Ends) (e : ℤ). outcome (covering S.Utc (current k) (cover_of v) a.h a.days.now a.offsets.now e)) c.ends_of-v.ensures (to_z-of_z s.ranges.last)
 
 found : (c : tie.In-At-turn_by_list) → let k = c in let a = (entry (start k.before.before.before).before).args in
     answer (micros_at c.in-At-turn_by_list.w)

@@ -104,7 +104,7 @@ date_by_list_requires c κs =
         time_far (clock_of a.c a.days.now a.offsets.now) (place k * 1000000000)
             (clock_based a.c a.days.now a.offsets.now a.last (listed (start k)) (place k) (current k) (known_s k)) (count_from a.obt a.c.obt0),
       ),
-      rw (to_z-of_z s.fits.last) (listed (start k)),
+      rw (to_z-of_z s.ranges.last) (listed (start k)),
     )
 
 returns_4 : tie.Need-returns
@@ -124,7 +124,7 @@ returns_4 c =
     ∙ date_at_lem a.c ds os a.last a.obt a.receipt-day a.receipt-micro (narrow (start k)) _
     (date_found (accepted a.c) (is_accepted_lem a.c ds os a.last l r m q) (clock_of a.c ds os) ds os a.last l
     (r * 1000000000) (clock_based a.c ds os a.last l r m q) a.obt m (current_is a.c ds os a.last l r m q)
-    n.reckon-k.result n.reckon-k.ensures _ a.receipt-day (to_z-of_z s.fits.receipt-day) a.receipt-micro _ (to_z-of_z s.fits.last))
+    n.reckon-k.result n.reckon-k.ensures _ a.receipt-day (to_z-of_z s.ranges.receipt-day) a.receipt-micro _ (to_z-of_z s.ranges.last))
 
 pub date_spec : {M : Type 1} → statement M
 date_spec =

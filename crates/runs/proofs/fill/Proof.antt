@@ -27,7 +27,7 @@ abbrev start : tie.At-loop-i invariant_loop decreases_loop → tie.Start invaria
 start c = c.before.before
 
 extra_of_requires : tie.Need-extra_of-extra-requires invariant_loop decreases_loop
-extra_of_requires c κs = omega (arith, c.loop-i-test, (start c.before).pre.bytes)
+extra_of_requires c κs = omega (arith, c.loop-i-test, (start c.before).requires.bytes)
 
 -- the totals before and after packet i, and the slice
 before_most : (c : tie.At-loop-i invariant_loop decreases_loop) → c.loop-i.total ≤ 484848
@@ -62,7 +62,7 @@ mul_micros_at : tie.Need-overflow_mul-total invariant_loop decreases_loop
 mul_micros_at c = omega (arith, after_most c)
 
 add_micros_at : tie.Need-overflow_add-from invariant_loop decreases_loop
-add_micros_at c = omega (arith, after_most c, (start c.before.before.before).pre.begins)
+add_micros_at c = omega (arith, after_most c, (start c.before.before.before).requires.begins)
 
 mul_t15 : tie.Need-offset_bounds-dates-i invariant_loop decreases_loop
 mul_t15 c = search rules
@@ -70,7 +70,7 @@ mul_t15 c = search rules
 slice_set_from_dates : tie.Need-bounds-dates-i invariant_loop decreases_loop
 slice_set_from_dates c =
     let i = c.before.before.before in
-    omega (arith, i.loop-i-test, long i.before, (start i.before).pre.room)
+    omega (arith, i.loop-i-test, long i.before, (start i.before).requires.room)
 
 add_i : tie.Need-overflow_add-i invariant_loop decreases_loop
 add_i c = search rules

@@ -44,7 +44,7 @@ returns_3 c =
     let m = c in
     let j = judged m.before in
     let a = (start j).args in
-    sym (run_short a.bytes.now a.told a.dates.now (are_bytes_lem j) j.if-bytes-ne0.left (some j)
+    sym (run_short a.bytes.now a.told a.dates.now (are_bytes_lem j) j.if-bytes-ne0.false (some j)
     m.in-At.from m.in-At.last (at m.before) (omega (arith, c.if-dates-n.true)))
 
 fill_requires : tie.Need-fill-requires
@@ -52,7 +52,7 @@ fill_requires c κs =
     let m = c in
     let j = judged m.before.before in
     let a = (start j).args in
-    filling a.bytes.now a.told a.dates.now (are_bytes_lem j) j.if-bytes-ne0.left (some j)
+    filling a.bytes.now a.told a.dates.now (are_bytes_lem j) j.if-bytes-ne0.false (some j)
     m.in-At.from m.in-At.last (at m.before.before) (omega (arith, c.if-dates-n.false))
 
 returns_4 : tie.Need-returns-else-dates-n
@@ -62,7 +62,7 @@ returns_4 c =
     let j = judged m.before.before.before in
     let a = (start j).args in
     ap (λ (l : List ℤ). record { number = 0; count = length a.bytes.now / 10; last = m.in-At.last; lent = l }) w.fill.ensures
-    ∙ sym (run_all a.bytes.now a.told a.dates.now (are_bytes_lem j) j.if-bytes-ne0.left (some j)
+    ∙ sym (run_all a.bytes.now a.told a.dates.now (are_bytes_lem j) j.if-bytes-ne0.false (some j)
     m.in-At.from m.in-At.last (at m.before.before.before) (omega (arith, w.if-dates-n.false)))
 
 returns_5 : tie.Need-returns-in-Refused

@@ -57,7 +57,7 @@ stands : (c : tie.In-At) → let a = (entry (start c).before).args in Standing a
 stands c =
     let s = entry (start c).before in
     let a = s.args in
-    utc_stands a.c a.days.now a.offsets.now a.last s.pre (listed (start c)) (place c) (current c) (known_r c)
+    utc_stands a.c a.days.now a.offsets.now a.last s.requires (listed (start c)) (place c) (current c) (known_r c)
 
 returns : tie.Need-returns-then-not-is_accepted
 returns c =
@@ -93,7 +93,7 @@ date_by_list_requires c κs =
         ap (λ (x : Reckoned). x.at) c.reckon-k.ensures,
         time_far (clock_of a.c a.days.now a.offsets.now) (place k * 1000000) (stands k).based (count_from a.tick.0 a.c.tick.0),
       ),
-      rw (to_z-of_z s.fits.last) (listed (start k)),
+      rw (to_z-of_z s.ranges.last) (listed (start k)),
     )
 
 returns_3 : tie.Need-returns
@@ -107,12 +107,12 @@ returns_3 c =
     let os = a.offsets.now in
     let z = stands k in
     let r = n.reckon-k.result in
-    let u = utc_scale a.c ds os a.last s.pre (λ (y : Scale). y) in
+    let u = utc_scale a.c ds os a.last s.requires (λ (y : Scale). y) in
     c.date_by_list.ensures
-    ∙ (λ i. dated (u i) (outcome (judging (u i) (current k) r.inside (cover_of r.ends) (micros_at r.at) (to_z-of_z s.fits.receipt-day i) a.receipt-micro ds os (to_z-of_z s.fits.last i))))
+    ∙ (λ i. dated (u i) (outcome (judging (u i) (current k) r.inside (cover_of r.ends) (micros_at r.at) (to_z-of_z s.ranges.receipt-day i) a.receipt-micro ds os (to_z-of_z s.ranges.last i))))
     ∙ ap (dated a.c.scale)
     (date_found (accepted a.c) z.accepts (clock_of a.c ds os) ds os a.last z.serves (place k * 1000000) z.based a.tick.0
-    (current k) (current_is a.c ds os a.last s.pre (listed (start k)) (place k) (current k) (known_r k))
+    (current k) (current_is a.c ds os a.last s.requires (listed (start k)) (place k) (current k) (known_r k))
     r n.reckon-k.ensures a.receipt-day a.receipt-day refl a.receipt-micro a.last refl)
 
 pub date_by_list_spec : {M : Type 1} → statement M

@@ -54,7 +54,7 @@ stands : (c : tie.In-At) → let a = (entry (start c).before).args in Standing a
 stands c =
     let s = entry (start c).before in
     let a = s.args in
-    utc_stands a.c a.days.now a.offsets.now a.last s.pre (listed (start c)) (place c) (current c) (known_r c)
+    utc_stands a.c a.days.now a.offsets.now a.last s.requires (listed (start c)) (place c) (current c) (known_r c)
 
 turned : (c : tie.After-turn_by_list) → let k = c.before.before in let a = (entry (start k).before).args in
     landed c.turn_by_list.result
@@ -65,10 +65,10 @@ turned c =
     let a = s.args in
     let ds = a.days.now in
     let os = a.offsets.now in
-    let m = current_is a.c ds os a.last s.pre (listed (start k)) (place k) (current k) (known_r k) in
-    let u = utc_scale a.c ds os a.last s.pre (λ (y : Scale). y) in
+    let m = current_is a.c ds os a.last s.requires (listed (start k)) (place k) (current k) (known_r k) in
+    let u = utc_scale a.c ds os a.last s.requires (λ (y : Scale). y) in
     c.turn_by_list.ensures
-    ∙ (λ i. outcome (covering (u i) (m i) (cover_of (c.ends_of-v.ensures i)) a.h ds os (to_z-of_z s.fits.last i)))
+    ∙ (λ i. outcome (covering (u i) (m i) (cover_of (c.ends_of-v.ensures i)) a.h ds os (to_z-of_z s.ranges.last i)))
 
 returns : tie.Need-returns-then-not-is_accepted
 returns c =

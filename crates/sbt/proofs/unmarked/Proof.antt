@@ -75,7 +75,7 @@ returns_3 c =
     ∙ ap (dated a.c.scale)
     (judging_own_lem a.c.scale i ds os a.last r.inside (cover_of r.ends) (micros_at r.at) _ a.receipt-micro
     ∙ date_found (accepted a.c) z.accepts (clock_of a.c ds os) ds os a.last z.serves (place k * 1000000) z.based a.tick.0
-    true (sym (current_own a.c.scale i ds os a.last a.c.day)) r n.reckon-k.ensures _ a.receipt-day (to_z-of_z s.fits.receipt-day) a.receipt-micro
+    true (sym (current_own a.c.scale i ds os a.last a.c.day)) r n.reckon-k.ensures _ a.receipt-day (to_z-of_z s.ranges.receipt-day) a.receipt-micro
     a.last refl)
 
 pub unmarked_spec : {M : Type 1} → statement M

@@ -57,7 +57,7 @@ placed c =
     let s = entry (made k) in
     let a = s.args in
     left_placing (record { day = a.receipt-day; micro = a.receipt-micro }) a.days.now a.offsets.now a.last c.from_utc.result (receipt k).0
-    (ap (λ (m : Moment). in_span S.Utc m.day m.micro) (moment_is k) ∙ received k) (moment_is k) (rw (to_z-of_z s.fits.last) at c.from_utc.ensures)
+    (ap (λ (m : Moment). in_span S.Utc m.day m.micro) (moment_is k) ∙ received k) (moment_is k) (rw (to_z-of_z s.ranges.last) at c.from_utc.ensures)
 
 found : (c : tie.In-At-from_utc) → let a = (entry (made (told c.before.before))).args in
     answer (micros_at c.in-At-from_utc.w.0) ≡ outcome (placing (record { day = a.receipt-day; micro = a.receipt-micro }) a.days.now a.offsets.now a.last)
@@ -117,11 +117,11 @@ unexpired_to_utc_requires c κs =
     let k = told w.before.before.before.before.before.before.before.before in
     let s = entry (made k) in
     let a = s.args in (
-      s.pre.0,
+      s.requires.0,
       (
-        rw (to_z-of_z s.fits.last) s.pre.1,
-        rw (to_z-of_z s.fits.last)
-            (unexpired (record { day = a.receipt-day; micro = a.receipt-micro }) a.days.now a.offsets.now a.last s.pre.1 (received k)
+        rw (to_z-of_z s.ranges.last) s.requires.1,
+        rw (to_z-of_z s.ranges.last)
+            (unexpired (record { day = a.receipt-day; micro = a.receipt-micro }) a.days.now a.offsets.now a.last s.requires.1 (received k)
             w.in-At-from_utc.w.0 a.k.at (found w.before.before.before.before.before.before) c.if-w-k.false),
       ),
     )
@@ -138,7 +138,7 @@ returns_6 c =
     let a = s.args in
     c.dated_utc.ensures
     ∙ c.unexpired_to_utc.ensures
-    ∙ ap (λ (y : ℤ). dated S.Utc (outcome (to_utc a.days.now a.offsets.now y (micros_at a.k.at)))) (to_z-of_z s.fits.last)
+    ∙ ap (λ (y : ℤ). dated S.Utc (outcome (to_utc a.days.now a.offsets.now y (micros_at a.k.at)))) (to_z-of_z s.ranges.last)
     ∙ date_at_lem a.current a.k.inside a.k.ends a.k.at a.receipt-day a.receipt-micro a.days.now a.offsets.now a.last
     (received k) (not-false _ e.if-not-k.false) (not-false _ e.if-not-current.false-raw) w.in-At-from_utc.w.0 (found w.before.before)
     (sym v.covers.ensures ∙ not-false _ z.if-not-covers.false-raw) y.if4.false
@@ -152,7 +152,7 @@ returns_7 c =
     let a = s.args in
     let n = number_of f.in-Refused.f in
     c.without_receipt.ensures
-    ∙ ap (λ (y : ℤ). dated S.Utc (refused (lacking_at n (micros_at a.k.at) a.days.now a.offsets.now y))) (to_z-of_z s.fits.last)
+    ∙ ap (λ (y : ℤ). dated S.Utc (refused (lacking_at n (micros_at a.k.at) a.days.now a.offsets.now y))) (to_z-of_z s.ranges.last)
     ∙ date_lacks a.current a.k.inside a.k.ends a.k.at a.receipt-day a.receipt-micro a.days.now a.offsets.now a.last
     (received k) (not-false _ e.if-not-k.false) (not-false _ e.if-not-current.false-raw) n (lacking f.before)
 

@@ -110,10 +110,10 @@ returns_3 c =
 
 -- all of it below a count's most
 mul_body : tie.Need-overflow_mul-n invariant_loop decreases_loop
-mul_body c = omega (arith, (start c.before.before.before).pre.most)
+mul_body c = omega (arith, (start c.before.before.before).requires.most)
 
 add_body : tie.Need-overflow_add-n invariant_loop decreases_loop
-add_body c = omega (arith, (start c.before.before.before).pre.most)
+add_body c = omega (arith, (start c.before.before.before).requires.most)
 
 mul_body_2 : tie.Need-overflow_mul-k invariant_loop decreases_loop
 mul_body_2 c = let i = c.before.before.before in omega (arith, i.loop-k-test, (start i).requires.most)

@@ -48,19 +48,19 @@ entry_at_requires : tie.Need-entry_at-e-requires invariant_loop decreases_loop
 entry_at_requires c κs = let f = (start c).requires.fit in (omega (arith, f.length_is), omega (arith, f.most))
 
 mul_body : tie.Need-overflow_mul-n invariant_loop decreases_loop
-mul_body c = omega (arith, (start c.before).pre.fit.most)
+mul_body c = omega (arith, (start c.before).requires.fit.most)
 
 add_body : tie.Need-overflow_add-n invariant_loop decreases_loop
-add_body c = omega (arith, (start c.before).pre.fit.most)
+add_body c = omega (arith, (start c.before).requires.fit.most)
 
 mul_body_2 : tie.Need-overflow_mul-k invariant_loop decreases_loop
-mul_body_2 c = omega (arith, c.loop-k-test, (start c.before).pre.fit.most)
+mul_body_2 c = omega (arith, c.loop-k-test, (start c.before).requires.fit.most)
 
 add_body_2 : tie.Need-overflow_add-n-in-loop-k invariant_loop decreases_loop
-add_body_2 c = omega (arith, c.loop-k-test, (start c.before).pre.fit.most)
+add_body_2 c = omega (arith, c.loop-k-test, (start c.before).requires.fit.most)
 
 body_requires : tie.Need-body-c-requires invariant_loop decreases_loop
-body_requires c κs = omega (arith, c.loop-k-test, (start c.before).pre.fit.length_is)
+body_requires c κs = omega (arith, c.loop-k-test, (start c.before).requires.fit.length_is)
 
 mul_at : tie.Need-overflow_mul-at invariant_loop decreases_loop
 mul_at c = let i = c.before.before in omega (arith, i.loop-k-test, (start i).requires.fit.most)
