@@ -15,7 +15,7 @@ returns c =
     let b = u.before in
     let a = b.args in
     c.empty_out.ensures
-    ∙ change_unknown_lem a.time a.to-scale a.days.now a.offsets.now a.last (sym b.scale_named.ensures ∙ u.in_default.is)
+    ∙ change_unknown_lem a.time a.to_scale a.days.now a.offsets.now a.last (sym b.scale_named.ensures ∙ u.in_default.is)
 
 returns_2 : tie.Need-returns-in-Handed
 returns_2 c =
@@ -30,7 +30,7 @@ returns_2 c =
     ∙ ap time_out
     (g.change.ensures
     ∙ ap (λ (z : ℤ). change_of h.in-Handed.h o.in-Scale.to a.days.now a.offsets.now z) (to_z-of_z s.ranges.last))
-    ∙ change_known a.time a.to-scale a.days.now a.offsets.now a.last o.in-Scale.to
+    ∙ change_known a.time a.to_scale a.days.now a.offsets.now a.last o.in-Scale.to
     (sym b.scale_named.ensures ∙ o.in-Scale.is) h.in-Handed.h (sym d.hand.ensures ∙ h.in-Handed.is)
 
 returns_3 : tie.Need-returns-in-Unknown
@@ -42,7 +42,7 @@ returns_3 c =
     let b = o in
     let a = b.args in
     c.empty_out-in-Unknown.ensures ∙ ap (empty_out 3) n.code.ensures
-    ∙ change_kind a.time a.to-scale a.days.now a.offsets.now a.last o.in-Scale.to
+    ∙ change_kind a.time a.to_scale a.days.now a.offsets.now a.last o.in-Scale.to
     (sym b.scale_named.ensures ∙ o.in-Scale.is) (sym d.hand.ensures ∙ k.in-Unknown.is)
 
 pub vrk_change_spec : {M : Type 1} → statement M

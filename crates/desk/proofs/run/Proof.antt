@@ -25,7 +25,7 @@ same_length_2 : tie.Need-same-length-2 invariant_loop decreases_loop
 same_length_2 c = omega (arith, c.before.before.before.before.before.before.before.before.before.before.loop.invariant.2)
 
 loop_again : tie.Need-loop-preserved invariant_loop decreases_loop
-loop_again c = let l = c.before.before.before.before.before.before.before.before.before.before in (c.before.before.before.before.before.before.read-block.ensures, omega (arith, l.loop.invariant.1), omega (arith, l.loop.invariant.2))
+loop_again c = let l = c.before.before.before.before.before.before.before.before.before.before in (c.before.before.before.before.before.before.read_block.ensures, omega (arith, l.loop.invariant.1), omega (arith, l.loop.invariant.2))
 
 same_length_3 : tie.Need-same-length-3 invariant_loop decreases_loop
 same_length_3 c = c.before.loop.invariant.1

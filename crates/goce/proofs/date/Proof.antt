@@ -66,13 +66,13 @@ windowed c =
 returns : tie.Need-returns-then-obt-ge281474976710656
 returns c =
     let a = c.args in
-    date_3 a.c a.days.now a.offsets.now a.last a.obt a.receipt-day a.receipt-micro c.if-obt-ge281474976710656.true
+    date_3 a.c a.days.now a.offsets.now a.last a.obt a.receipt_day a.receipt_micro c.if-obt-ge281474976710656.true
 
 returns_2 : tie.Need-returns-then-not-is_accepted
 returns_2 c =
     let b = c.before in
     let a = (entry b).args in
-    date_5 a.c a.days.now a.offsets.now a.last a.obt a.receipt-day a.receipt-micro b.if-obt-ge281474976710656.false
+    date_5 a.c a.days.now a.offsets.now a.last a.obt a.receipt_day a.receipt_micro b.if-obt-ge281474976710656.false
     (sym (list b) ∙ not-true _ c.if-not-is_accepted.true-raw)
 
 base_at_requires : tie.Need-base_at-requires
@@ -85,7 +85,7 @@ returns_3 : tie.Need-returns-in_default
 returns_3 c =
     let b = c.before in
     let a = (entry b.before.before).args in
-    date_6 a.c a.days.now a.offsets.now a.last (listed b.before) (sym (base b) ∙ c.in_default.is) a.obt a.receipt-day a.receipt-micro
+    date_6 a.c a.days.now a.offsets.now a.last (listed b.before) (sym (base b) ∙ c.in_default.is) a.obt a.receipt_day a.receipt_micro
     (narrow b.before)
 
 reckon_requires : tie.Need-reckon-k-requires
@@ -121,10 +121,10 @@ returns_4 c =
     let m = current k in
     let q = known_s k in
     c.with_mark.ensures ∙ ap (remark (mark_of (clock_of a.c ds os))) v.date_by_list-d.ensures
-    ∙ date_at_lem a.c ds os a.last a.obt a.receipt-day a.receipt-micro (narrow (start k)) _
+    ∙ date_at_lem a.c ds os a.last a.obt a.receipt_day a.receipt_micro (narrow (start k)) _
     (date_found (accepted a.c) (is_accepted_lem a.c ds os a.last l r m q) (clock_of a.c ds os) ds os a.last l
     (r * 1000000000) (clock_based a.c ds os a.last l r m q) a.obt m (current_is a.c ds os a.last l r m q)
-    n.reckon-k.result n.reckon-k.ensures _ a.receipt-day (to_z-of_z s.ranges.receipt-day) a.receipt-micro _ (to_z-of_z s.ranges.last))
+    n.reckon-k.result n.reckon-k.ensures _ a.receipt_day (to_z-of_z s.ranges.receipt_day) a.receipt_micro _ (to_z-of_z s.ranges.last))
 
 pub date_spec : {M : Type 1} → statement M
 date_spec =

@@ -20,8 +20,8 @@ returns c =
     c.with_mark.ensures
     ∙ ap (remark (mark_of k))
     (n.unmarked-d.ensures
-    ∙ (λ i. unmarked_of a.c a.tick.0 (to_z-of_z s.ranges.receipt-day i) a.receipt-micro a.days.now a.offsets.now (to_z-of_z s.ranges.last i)))
-    ∙ remark_is (mark_of k) a.c.scale (dating a.c a.tick.0 a.receipt-day a.receipt-micro a.days.now a.offsets.now a.last) refl
+    ∙ (λ i. unmarked_of a.c a.tick.0 (to_z-of_z s.ranges.receipt_day i) a.receipt_micro a.days.now a.offsets.now (to_z-of_z s.ranges.last i)))
+    ∙ remark_is (mark_of k) a.c.scale (dating a.c a.tick.0 a.receipt_day a.receipt_micro a.days.now a.offsets.now a.last) refl
 
 pub date_spec : {M : Type 1} → statement M
 date_spec = tie.close (tie.spec (λ c κs. search rules) (λ c. search rules) (λ c κs. search rules) returns)

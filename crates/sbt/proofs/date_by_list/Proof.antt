@@ -65,7 +65,7 @@ returns c =
     let s = entry b in
     let a = s.args in
     utc_scale a.c a.days.now a.offsets.now a.last s.requires (λ (z : Scale). dated z (refused 5))
-    ∙ date_5 a.c a.days.now a.offsets.now a.last s.requires (sym (list b) ∙ not-true _ c.if-not-is_accepted.true-raw) a.tick.0 a.receipt-day a.receipt-micro
+    ∙ date_5 a.c a.days.now a.offsets.now a.last s.requires (sym (list b) ∙ not-true _ c.if-not-is_accepted.true-raw) a.tick.0 a.receipt_day a.receipt_micro
 
 base_of_requires : tie.Need-base_of-requires
 base_of_requires c κs = let s = entry c.before in (s.requires, rw (to_z-of_z s.ranges.last) (listed c))
@@ -78,7 +78,7 @@ returns_2 c =
     let a = s.args in
     utc_scale a.c a.days.now a.offsets.now a.last s.requires (λ (z : Scale). dated z (refused 6))
     ∙ date_6 a.c a.days.now a.offsets.now a.last (serves_utc a.c a.days.now a.offsets.now a.last s.requires (listed e))
-    (utc_none a.c a.days.now a.offsets.now a.last s.requires (listed e) (sym (base b) ∙ c.in_default.is)) a.tick.0 a.receipt-day a.receipt-micro
+    (utc_none a.c a.days.now a.offsets.now a.last s.requires (listed e) (sym (base b) ∙ c.in_default.is)) a.tick.0 a.receipt_day a.receipt_micro
 
 reckon_requires : tie.Need-reckon-k-requires
 reckon_requires c κs = (stands c).windowed
@@ -109,11 +109,11 @@ returns_3 c =
     let r = n.reckon-k.result in
     let u = utc_scale a.c ds os a.last s.requires (λ (y : Scale). y) in
     c.date_by_list.ensures
-    ∙ (λ i. dated (u i) (outcome (judging (u i) (current k) r.inside (cover_of r.ends) (micros_at r.at) (to_z-of_z s.ranges.receipt-day i) a.receipt-micro ds os (to_z-of_z s.ranges.last i))))
+    ∙ (λ i. dated (u i) (outcome (judging (u i) (current k) r.inside (cover_of r.ends) (micros_at r.at) (to_z-of_z s.ranges.receipt_day i) a.receipt_micro ds os (to_z-of_z s.ranges.last i))))
     ∙ ap (dated a.c.scale)
     (date_found (accepted a.c) z.accepts (clock_of a.c ds os) ds os a.last z.serves (place k * 1000000) z.based a.tick.0
     (current k) (current_is a.c ds os a.last s.requires (listed (start k)) (place k) (current k) (known_r k))
-    r n.reckon-k.ensures a.receipt-day a.receipt-day refl a.receipt-micro a.last refl)
+    r n.reckon-k.ensures a.receipt_day a.receipt_day refl a.receipt_micro a.last refl)
 
 pub date_by_list_spec : {M : Type 1} → statement M
 date_by_list_spec =

@@ -46,7 +46,7 @@ returns c =
     let s = entry c.before.before in
     let a = s.args in
     c.date_by_list.ensures
-    ∙ (λ i. unmarked_of a.c a.tick.0 (to_z-of_z s.ranges.receipt-day i) a.receipt-micro a.days.now a.offsets.now (to_z-of_z s.ranges.last i))
+    ∙ (λ i. unmarked_of a.c a.tick.0 (to_z-of_z s.ranges.receipt_day i) a.receipt_micro a.days.now a.offsets.now (to_z-of_z s.ranges.last i))
 
 returns_2 : tie.Need-returns-in_default
 returns_2 c =
@@ -54,7 +54,7 @@ returns_2 c =
     let e = b.before in
     let a = (entry e.before).args in
     date_6 a.c a.days.now a.offsets.now a.last (serves_it a.c a.days.now a.offsets.now a.last (own e))
-    (own_none a.c a.days.now a.offsets.now a.last (own e) (sym b.reference_of.ensures ∙ c.in_default.is)) a.tick.0 a.receipt-day a.receipt-micro
+    (own_none a.c a.days.now a.offsets.now a.last (own e) (sym b.reference_of.ensures ∙ c.in_default.is)) a.tick.0 a.receipt_day a.receipt_micro
 
 reckon_requires : tie.Need-reckon-k-requires
 reckon_requires c κs = (stands c).windowed
@@ -73,9 +73,9 @@ returns_3 c =
     let r = n.reckon-k.result in
     c.date.ensures
     ∙ ap (dated a.c.scale)
-    (judging_own_lem a.c.scale i ds os a.last r.inside (cover_of r.ends) (micros_at r.at) _ a.receipt-micro
+    (judging_own_lem a.c.scale i ds os a.last r.inside (cover_of r.ends) (micros_at r.at) _ a.receipt_micro
     ∙ date_found (accepted a.c) z.accepts (clock_of a.c ds os) ds os a.last z.serves (place k * 1000000) z.based a.tick.0
-    true (sym (current_own a.c.scale i ds os a.last a.c.day)) r n.reckon-k.ensures _ a.receipt-day (to_z-of_z s.ranges.receipt-day) a.receipt-micro
+    true (sym (current_own a.c.scale i ds os a.last a.c.day)) r n.reckon-k.ensures _ a.receipt_day (to_z-of_z s.ranges.receipt_day) a.receipt_micro
     a.last refl)
 
 pub unmarked_spec : {M : Type 1} → statement M

@@ -13,7 +13,7 @@ returns c =
     let k = c.before in
     let s = k.before.before in
     c.cover_out.ensures
-    ∙ ap cover_out (k.covering.ensures ∙ ap (λ (d : ℤ). covering s.args.bytes.now d s.args.receipt-micro) (to_z-of_z s.ranges.receipt-day))
+    ∙ ap cover_out (k.covering.ensures ∙ ap (λ (d : ℤ). covering s.args.bytes.now d s.args.receipt_micro) (to_z-of_z s.ranges.receipt_day))
 
 pub vrk_season_covering_spec : {M : Type 1} → statement M
 vrk_season_covering_spec = tie.close (tie.spec (λ c κs. search rules) (λ c κs. search rules) returns)

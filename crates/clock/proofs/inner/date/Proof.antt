@@ -11,35 +11,35 @@ use Rattle.clock.proofs.inner.date.Statement.{statement}
 use Rattle.clock.proofs.inner.date.Tie as tie
 
 -- the receipt's place
-seen : (c : tie.After-place_in) → let a = c.args in c.place_in.result ≡ place_in a.scale a.receipt-day a.receipt-micro
+seen : (c : tie.After-place_in) → let a = c.args in c.place_in.result ≡ place_in a.scale a.receipt_day a.receipt_micro
 seen c =
     let z = c.before in
-    c.place_in.ensures ∙ ap (λ (d : ℤ). place_in z.args.scale d z.args.receipt-micro) (to_z-of_z z.ranges.receipt-day)
+    c.place_in.ensures ∙ ap (λ (d : ℤ). place_in z.args.scale d z.args.receipt_micro) (to_z-of_z z.ranges.receipt_day)
 
 abbrev entry : tie.In-At → tie.Start
 entry c = c.before.before
 
-known_w : (c : tie.In-At) → let a = (entry c).args in place_in a.scale a.receipt-day a.receipt-micro ≡ P.At c.in-At.w
+known_w : (c : tie.In-At) → let a = (entry c).args in place_in a.scale a.receipt_day a.receipt_micro ≡ P.At c.in-At.w
 known_w c = sym (seen c.before) ∙ c.in-At.is
 
 returns : tie.Need-returns-in_default
 returns c =
     let b = c.before in
     let a = b.args in
-    own_7 a.scale a.k.inside a.k.ends a.k.at a.receipt-day a.receipt-micro (sym (seen b) ∙ c.in_default.is)
+    own_7 a.scale a.k.inside a.k.ends a.k.at a.receipt_day a.receipt_micro (sym (seen b) ∙ c.in_default.is)
 
 returns_2 : tie.Need-returns-then-not-k
 returns_2 c =
     let k = c.before.before in
     let a = (entry k).args in
-    own_out a.scale a.k.inside a.k.ends a.k.at a.receipt-day a.receipt-micro k.in-At.w (known_w k) (not-true _ c.if-not-k.true)
+    own_out a.scale a.k.inside a.k.ends a.k.at a.receipt_day a.receipt_micro k.in-At.w (known_w k) (not-true _ c.if-not-k.true)
 
 returns_3 : tie.Need-returns-then-not-covers
 returns_3 c =
     let e = c.before.before.before in
     let k = e.before.before in
     let a = (entry k).args in
-    own_8 a.scale a.k.inside a.k.ends a.k.at a.receipt-day a.receipt-micro k.in-At.w (known_w k) (not-false _ e.if-not-k.false)
+    own_8 a.scale a.k.inside a.k.ends a.k.at a.receipt_day a.receipt_micro k.in-At.w (known_w k) (not-false _ e.if-not-k.false)
     (sym c.covers.ensures ∙ not-true _ c.if-not-covers.true-raw)
 
 returns_4 : tie.Need-returns-then-w-k
@@ -49,7 +49,7 @@ returns_4 c =
     let e = v.before.before in
     let k = e.before.before in
     let a = (entry k).args in
-    own_17 a.scale a.k.inside a.k.ends a.k.at a.receipt-day a.receipt-micro k.in-At.w (known_w k) (not-false _ e.if-not-k.false)
+    own_17 a.scale a.k.inside a.k.ends a.k.at a.receipt_day a.receipt_micro k.in-At.w (known_w k) (not-false _ e.if-not-k.false)
     (sym v.covers.ensures ∙ not-false _ f.if-not-covers.false-raw) c.if-w-k.true
 
 returns_5 : tie.Need-returns
@@ -60,7 +60,7 @@ returns_5 c =
     let k = e.before.before in
     let a = (entry k).args in
     c.record_at.ensures
-    ∙ own_at a.scale a.k.inside a.k.ends a.k.at a.receipt-day a.receipt-micro k.in-At.w (known_w k) (not-false _ e.if-not-k.false)
+    ∙ own_at a.scale a.k.inside a.k.ends a.k.at a.receipt_day a.receipt_micro k.in-At.w (known_w k) (not-false _ e.if-not-k.false)
     (sym v.covers.ensures ∙ not-false _ f.if-not-covers.false-raw) c.if-w-k.false
 
 pub date_spec : {M : Type 1} → statement M

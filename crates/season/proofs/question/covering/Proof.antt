@@ -25,10 +25,10 @@ fits c =
     fit_at (start c).args.bytes.now n.in-Count.n (sym n.size.ensures ∙ n.in-Count.is)
 
 -- the receipt's place
-place_is : (c : tie.After-place_in) → c.place_in.result ≡ place_in S.Tai (start c).args.receipt-day (start c).args.receipt-micro
+place_is : (c : tie.After-place_in) → c.place_in.result ≡ place_in S.Tai (start c).args.receipt_day (start c).args.receipt_micro
 place_is c =
     let s = start c in
-    c.place_in.ensures ∙ ap (λ (d : ℤ). place_in S.Tai d s.args.receipt-micro) (to_z-of_z s.ranges.receipt-day)
+    c.place_in.ensures ∙ ap (λ (d : ℤ). place_in S.Tai d s.args.receipt_micro) (to_z-of_z s.ranges.receipt_day)
 
 bytes_in_lem : (c : tie.After-place_in) → Bytes (start c).args.bytes.now
 bytes_in_lem c =
@@ -38,17 +38,17 @@ returns : tie.Need-returns-in_default
 returns c =
     let z = c.before in
     let a = z.args in
-    ask_unsized a.bytes.now a.receipt-day a.receipt-micro (sym z.size.ensures ∙ c.in_default.is)
+    ask_unsized a.bytes.now a.receipt_day a.receipt_micro (sym z.size.ensures ∙ c.in_default.is)
 
 -- where it lies in the span
-known_p : (c : tie.In-At) → let s = start c.before in place_in S.Tai s.args.receipt-day s.args.receipt-micro ≡ P.At c.in-At.p
+known_p : (c : tie.In-At) → let s = start c.before in place_in S.Tai s.args.receipt_day s.args.receipt_micro ≡ P.At c.in-At.p
 known_p c = sym (place_is c.before) ∙ c.in-At.is
 
 add_look_over : tie.Need-overflow_add-p
 add_look_over c =
     let p = c in
     let a = (start p.before).args in
-    record { fits = omega (arith, spot_lt a.receipt-day a.receipt-micro p.in-At.p (known_p p)) }
+    record { fits = omega (arith, spot_lt a.receipt_day a.receipt_micro p.in-At.p (known_p p)) }
 
 look_over_requires : tie.Need-look_over-requires
 look_over_requires c κs = fits c.before
@@ -60,7 +60,7 @@ returns_2 c =
     let m = p in
     let a = (start m.before.before).args in
     c.answer.ensures ∙ ap answered l.look_over.ensures
-    ∙ ask_at a.bytes.now a.receipt-day a.receipt-micro m.in-Count.n (fits m.before.before) (bytes_in_lem m.before.before) p.in-At.p (known_p p.before)
+    ∙ ask_at a.bytes.now a.receipt_day a.receipt_micro m.in-Count.n (fits m.before.before) (bytes_in_lem m.before.before) p.in-At.p (known_p p.before)
 
 look_over_requires_2 : tie.Need-look_over-requires-in-Outside
 look_over_requires_2 c κs = fits c.before
@@ -71,7 +71,7 @@ returns_3 c =
     let o = l.before in
     let m = o.before in
     let a = (start m).args in
-    ask_outside a.bytes.now a.receipt-day a.receipt-micro m.in-Count.n (fits m) (sym (place_is m) ∙ o.in-Outside.is)
+    ask_outside a.bytes.now a.receipt_day a.receipt_micro m.in-Count.n (fits m) (sym (place_is m) ∙ o.in-Outside.is)
     c.in-Kept.field-0 (sym l.look_over-in-Outside.ensures ∙ c.in-Kept.is)
 
 returns_4 : tie.Need-returns-in-Broken
@@ -79,7 +79,7 @@ returns_4 c =
     let l = c.before in
     let m = l.before.before in
     let a = (start m).args in
-    ask_broken a.bytes.now a.receipt-day a.receipt-micro m.in-Count.n (fits m) (sym l.look_over-in-Outside.ensures ∙ c.in-Broken.is)
+    ask_broken a.bytes.now a.receipt_day a.receipt_micro m.in-Count.n (fits m) (sym l.look_over-in-Outside.ensures ∙ c.in-Broken.is)
 
 pub covering_spec : {M : Type 1} → statement M
 covering_spec =
