@@ -141,7 +141,7 @@ returns_6 c =
     ∙ ap (λ (y : ℤ). dated S.Utc (outcome (to_utc a.days.now a.offsets.now y (micros_at a.k.at)))) (to_z-of_z s.ranges.last)
     ∙ date_at_lem a.current a.k.inside a.k.ends a.k.at a.receipt_day a.receipt_micro a.days.now a.offsets.now a.last
     (received k) (not-false _ e.if-not-k.false) (not-false _ e.if-not-current.false-raw) w.in-At-from_utc.w.0 (found w.before.before)
-    (sym v.covers.ensures ∙ not-false _ z.if-not-covers.false-raw) y.if4.false
+    (sym v.covers.ensures ∙ not-false _ z.if-not-covers.false-raw) c.if-w-k.false
 
 returns_7 : tie.Need-returns-in-Refused
 returns_7 c =
