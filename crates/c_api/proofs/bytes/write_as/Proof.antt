@@ -23,7 +23,7 @@ arm h out e f g p = rw (e, f, g) p
 
 same_length : tie.Need-shape_of-out
 same_length c =
-    ⊎_elim (λ v. search rules) (⊎_elim (λ v. search rules) (⊎_elim (λ v. search rules) (λ v. search rules))) c.match-layout.branch
+    ⊎_elim (λ v. search rules) (⊎_elim (λ v. search rules) (⊎_elim (λ v. search rules) (λ v. search rules))) c.match-layout.branch-raw
 
 returns : tie.Need-returns-after-layout
 unfolding writes Cuc.write Cryosat.write Siral.write Proteus.write
@@ -34,11 +34,11 @@ returns c =
     let a = b.args in
     let h = k.in-Handed.h in
     c.written_out.ensures m.match-layout.out
-    ∙ ⊎_elim (λ v. arm h a.out.now v.1.given.1 v.7 v.6 v.3.ensures)
-    (⊎_elim (λ v. arm h a.out.now v.1.given.1 v.7 v.6 v.3.ensures)
-    (⊎_elim (λ v. arm h a.out.now v.1.given.1 v.7 v.6 v.3.ensures)
-    (λ v. arm h a.out.now v.1.given.1 v.7 v.6 v.3.ensures)))
-    m.match-layout.branch
+    ∙ ⊎_elim (λ v. arm h a.out.now v.in-Cuc.is v.w-is v.out-is v.write-w.ensures)
+    (⊎_elim (λ v. arm h a.out.now v.in-Cryosat.is v.w-is v.out-is v.write-w-in-Cryosat.ensures)
+    (⊎_elim (λ v. arm h a.out.now v.in-Siral.is v.w-is v.out-is v.write-w-in-Siral.ensures)
+    (λ v. arm h a.out.now v.in-Proteus.is v.w-is v.out-is v.write-w-in-Proteus.ensures)))
+    m.match-layout.branch-raw
     ∙ handed_past (writing_of a.layout) a.time a.out.now h (sym b.hand.ensures ∙ k.in-Handed.is) done
 
 returns_2 : tie.Need-returns-in-Unknown

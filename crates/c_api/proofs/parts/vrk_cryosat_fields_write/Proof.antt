@@ -16,9 +16,9 @@ returns : tie.Need-returns-then-day-ge65536
 returns c =
     let a = c.args in
     three (cryosat_fields_writing a.day a.millisecond a.microsecond) a.out.now
-    (here (⊎_elim (λ w. rw (le-ltb a.day 65536 w.true))
-    (λ w. rw (le-ltb a.microsecond 65536 (leb-true 65536 a.microsecond w.1.true), and_false))
-    c.then-day-ge65536.branch))
+    (here (⊎_elim (λ w. rw (le-ltb a.day 65536 w))
+    (λ w. rw (le-ltb a.microsecond 65536 w.1, and_false))
+    c.then-day-ge65536.either))
 
 returns_2 : tie.Need-returns
 unfolding write

@@ -16,10 +16,10 @@ returns : tie.Need-returns-then-week-ge65536
 returns c =
     let a = c.args in
     three (proteus_fields_writing a.week a.h3 a.second a.fraction) a.out.now
-    (here (⊎_elim (λ w. rw (le-ltb a.week 65536 w.true))
-    (⊎_elim (λ w. rw (lt-leb a.h3 1 (ltb-true 1 a.h3 w.1.true), and_false))
-    (λ w. rw (le-ltb a.fraction 65536 (leb-true 65536 a.fraction w.2.true), and_false, and_false)))
-    c.then-week-ge65536.branch))
+    (here (⊎_elim (λ w. rw (le-ltb a.week 65536 w))
+    (⊎_elim (λ w. rw (lt-leb a.h3 1 w.1, and_false))
+    (λ w. rw (le-ltb a.fraction 65536 w.2, and_false, and_false)))
+    c.then-week-ge65536.either))
 
 returns_2 : tie.Need-returns
 unfolding write

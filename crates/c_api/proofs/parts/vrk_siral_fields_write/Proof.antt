@@ -16,10 +16,10 @@ returns : tie.Need-returns-then-day-ge65536
 returns c =
     let a = c.args in
     three (siral_fields_writing a.day a.millisecond a.microsecond a.extra) a.out.now
-    (here (⊎_elim (λ w. rw (le-ltb a.day 65536 w.true))
-    (⊎_elim (λ w. rw (le-ltb a.microsecond 65536 (leb-true 65536 a.microsecond w.1.true), and_false))
-    (λ w. rw (le-ltb a.extra 65536 (leb-true 65536 a.extra w.2.true), and_false, and_false)))
-    c.then-day-ge65536.branch))
+    (here (⊎_elim (λ w. rw (le-ltb a.day 65536 w))
+    (⊎_elim (λ w. rw (le-ltb a.microsecond 65536 w.1, and_false))
+    (λ w. rw (le-ltb a.extra 65536 w.2, and_false, and_false)))
+    c.then-day-ge65536.either))
 
 returns_2 : tie.Need-returns
 unfolding write
