@@ -1,12 +1,13 @@
 -- `c_api::parts::vrk_cryosat_fields_write` meets its contract. Assumes nothing.
-use mathlib.Core.Path.{◌∙◌}
+use mathlib.Core.Bool.{false, ◌&&◌}
+use mathlib.Core.Path.{◌≡◌, ◌∙◌}
 use mathlib.Core.Logic.{⊎_elim}
 use native.Mathlib.Omega.{arith}
 use borrow.Author.Tests.{le-ltb, lt-ltb, leb-true, leb-false}
 use Rattle.scales.specs.Order.{here}
 use Rattle.scales.specs.Place.{and_false}
 use Rattle.layout_fields.specs.Cryosat.{write}
-use Rattle.c_api.specs.Parts.{cryosat_fields_writing}
+use Rattle.c_api.specs.Parts.{narrow, cryosat_fields_writing}
 use Rattle.c_api.proofs.Layouts.{done, on, three, past}
 use borrow.Author.Rules.{rules}
 use Rattle.c_api.proofs.parts.vrk_cryosat_fields_write.Statement.{statement}
@@ -15,10 +16,11 @@ use Rattle.c_api.proofs.parts.vrk_cryosat_fields_write.Tie as tie
 returns : tie.Need-returns-then-day-ge65536
 returns c =
     let a = c.args in
-    three (cryosat_fields_writing a.day a.millisecond a.microsecond) a.out.now
-    (here (⊎_elim (λ w. rw (le-ltb a.day 65536 w))
+    let wide : (narrow a.day && narrow a.microsecond) ≡ false =
+    ⊎_elim (λ w. rw (le-ltb a.day 65536 w))
     (λ w. rw (le-ltb a.microsecond 65536 w.1, and_false))
-    c.then-day-ge65536.either))
+    c.then-day-ge65536.either in
+    three (cryosat_fields_writing a.day a.millisecond a.microsecond) a.out.now (here wide)
 
 returns_2 : tie.Need-returns
 unfolding write

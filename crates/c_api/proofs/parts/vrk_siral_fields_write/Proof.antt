@@ -1,12 +1,13 @@
 -- `c_api::parts::vrk_siral_fields_write` meets its contract. Assumes nothing.
-use mathlib.Core.Path.{◌∙◌}
+use mathlib.Core.Bool.{false, ◌&&◌}
+use mathlib.Core.Path.{◌≡◌, ◌∙◌}
 use mathlib.Core.Logic.{⊎_elim}
 use native.Mathlib.Omega.{arith}
 use borrow.Author.Tests.{le-ltb, lt-ltb, leb-true, leb-false}
 use Rattle.scales.specs.Order.{here}
 use Rattle.scales.specs.Place.{and_false}
 use Rattle.layout_fields.specs.Siral.{write}
-use Rattle.c_api.specs.Parts.{siral_fields_writing}
+use Rattle.c_api.specs.Parts.{narrow, siral_fields_writing}
 use Rattle.c_api.proofs.Layouts.{done, on, three, past}
 use borrow.Author.Rules.{rules}
 use Rattle.c_api.proofs.parts.vrk_siral_fields_write.Statement.{statement}
@@ -15,11 +16,12 @@ use Rattle.c_api.proofs.parts.vrk_siral_fields_write.Tie as tie
 returns : tie.Need-returns-then-day-ge65536
 returns c =
     let a = c.args in
-    three (siral_fields_writing a.day a.millisecond a.microsecond a.extra) a.out.now
-    (here (⊎_elim (λ w. rw (le-ltb a.day 65536 w))
+    let wide : (narrow a.day && (narrow a.microsecond && narrow a.extra)) ≡ false =
+    ⊎_elim (λ w. rw (le-ltb a.day 65536 w))
     (⊎_elim (λ w. rw (le-ltb a.microsecond 65536 w.1, and_false))
     (λ w. rw (le-ltb a.extra 65536 w.2, and_false, and_false)))
-    c.then-day-ge65536.either))
+    c.then-day-ge65536.either in
+    three (siral_fields_writing a.day a.millisecond a.microsecond a.extra) a.out.now (here wide)
 
 returns_2 : tie.Need-returns
 unfolding write

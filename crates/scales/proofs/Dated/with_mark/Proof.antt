@@ -1,5 +1,5 @@
 -- `scales::Dated::with_mark` meets its contract. Assumes nothing.
-use mathlib.Core.Path.{◌≡◌, ap, sym, ◌∙◌}
+use mathlib.Core.Path.{ap, sym, ◌∙◌}
 use borrow.Author.Rules.{rules}
 use Rattle.scales.specs.Meaning.{slip, remark}
 use Rattle.scales.specs.Marks.{remark_refused}
