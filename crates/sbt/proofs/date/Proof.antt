@@ -1,5 +1,5 @@
 -- `sbt::date` meets its contract: the date, and its mark. Assumes nothing.
-use mathlib.Core.Path.{◌≡◌, refl, ap, ◌∙◌}
+use mathlib.Core.Path.{refl, ap, ◌∙◌}
 use borrow.Author.Rules.{rules}
 use mir.Facts.{to_z-of_z}
 use Rattle.scales.specs.Meaning.{remark}

@@ -1,14 +1,14 @@
 -- `c_api::parts::vrk_proteus_fields_write` meets its contract. Assumes nothing.
+use Rattle.std.proofs.Common.{leb, ltb}
 use mathlib.Core.Bool.{false, ◌&&◌}
 use mathlib.Core.Path.{◌≡◌, ◌∙◌}
-use Prim.Native.Nat.{leb}
 use mathlib.Core.Logic.{⊎_elim}
 use native.Mathlib.Omega.{arith}
 use borrow.Author.Tests.{le-leb, lt-leb, le-ltb, lt-ltb, ltb-true, ltb-false, leb-true, leb-false}
 use Rattle.scales.specs.Order.{here}
 use Rattle.scales.specs.Place.{and_false}
 use Rattle.layout_fields.specs.Proteus.{write}
-use Rattle.c_api.specs.Parts.{narrow, proteus_fields_writing}
+use Rattle.c_api.specs.Parts.{proteus_fields_writing}
 use Rattle.c_api.proofs.Layouts.{done, on, three, past}
 use borrow.Author.Rules.{rules}
 use Rattle.c_api.proofs.parts.vrk_proteus_fields_write.Statement.{statement}
@@ -17,7 +17,7 @@ use Rattle.c_api.proofs.parts.vrk_proteus_fields_write.Tie as tie
 returns : tie.Need-returns-then-week-ge65536
 returns c =
     let a = c.args in
-    let wide : (narrow a.week && (leb a.h3 1 && narrow a.fraction)) ≡ false =
+    let wide : (ltb a.week 65536 && (leb a.h3 1 && ltb a.fraction 65536)) ≡ false =
     ⊎_elim (λ w. rw (le-ltb a.week 65536 w))
     (⊎_elim (λ w. rw (lt-leb a.h3 1 w.1, and_false))
     (λ w. rw (le-ltb a.fraction 65536 w.2, and_false, and_false)))

@@ -1,4 +1,5 @@
 -- `c_api::parts::vrk_siral_fields_write` meets its contract. Assumes nothing.
+use Rattle.std.proofs.Common.{ltb}
 use mathlib.Core.Bool.{false, ◌&&◌}
 use mathlib.Core.Path.{◌≡◌, ◌∙◌}
 use mathlib.Core.Logic.{⊎_elim}
@@ -7,7 +8,7 @@ use borrow.Author.Tests.{le-ltb, lt-ltb, leb-true, leb-false}
 use Rattle.scales.specs.Order.{here}
 use Rattle.scales.specs.Place.{and_false}
 use Rattle.layout_fields.specs.Siral.{write}
-use Rattle.c_api.specs.Parts.{narrow, siral_fields_writing}
+use Rattle.c_api.specs.Parts.{siral_fields_writing}
 use Rattle.c_api.proofs.Layouts.{done, on, three, past}
 use borrow.Author.Rules.{rules}
 use Rattle.c_api.proofs.parts.vrk_siral_fields_write.Statement.{statement}
@@ -16,7 +17,7 @@ use Rattle.c_api.proofs.parts.vrk_siral_fields_write.Tie as tie
 returns : tie.Need-returns-then-day-ge65536
 returns c =
     let a = c.args in
-    let wide : (narrow a.day && (narrow a.microsecond && narrow a.extra)) ≡ false =
+    let wide : (ltb a.day 65536 && (ltb a.microsecond 65536 && ltb a.extra 65536)) ≡ false =
     ⊎_elim (λ w. rw (le-ltb a.day 65536 w))
     (⊎_elim (λ w. rw (le-ltb a.microsecond 65536 w.1, and_false))
     (λ w. rw (le-ltb a.extra 65536 w.2, and_false, and_false)))
