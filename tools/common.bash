@@ -40,6 +40,47 @@ kit() {
     tell "warning: rt is '$have', and the file KIT names${listed#,}"
 }
 
+# The names in crates.txt.
+crates() {
+    sed 's/#.*//; s/:.*//' crates.txt | awk 'NF { print $1 }'
+}
+
+# The crate and those of the repository below it, lowest first.
+with_below() { # CRATE
+    awk -v wanted="$1" '
+        function visit(crate, n, k, below) {
+            if (!(crate in knows) || seen[crate]++) return
+            n = split(knows[crate], below, " ")
+            for (k = 1; k <= n; k++) visit(below[k])
+            print crate
+        }
+        { sub(/#.*/, "") }
+        split($0, part, ":") == 2 { split(part[1], head, " "); knows[head[1]] = part[2] }
+        END { visit(wanted) }' crates.txt
+}
+
+# A sum of all that is proved of these crates and of what that rests on: the kit, crates.txt, and all their files but what rt makes.
+sources() { # CRATE..
+    { rt version && cat crates.txt && cd crates &&
+        find "$@" -regex '[^/]*/out' -prune -o -type f -print0 | LC_ALL=C sort -z | xargs -0 sha256sum; } | sha256sum
+}
+
+# What `rt ci` proved and left below crates/: the sum of the sources, and each library, by the file that holds its sums, and each
+# program. Where no library was there before, tests/steps/20-proofs writes it into target/proved/ci, and while that stays so these
+# need not be proved once more.
+left() {
+    local each
+    # shellcheck disable=SC2046
+    sources $(crates)
+    for each in $(crates); do
+        sha256sum "crates/$each/out/$each" "crates/$each/out/rlib/$each.rlib/format" 2>/dev/null
+    done
+}
+
+is_left() {
+    [ -s target/proved/ci ] && [ "$(left)" = "$(<target/proved/ci)" ]
+}
+
 # Waits until no other command holds the folder, and holds it until this one, and all that it started, has ended; what it
 # starts need not wait. The folder itself is locked, so that no clean-up of target/ takes the lock away, and
 # target/FOLDER.held tells who has it.

@@ -98,7 +98,7 @@ def crates(root):
     if not os.path.isfile(path):
         raise Unreadable("there is no crates.txt")
     lines = [line.split("#")[0] for line in read(path).splitlines()]
-    return [line.split(":")[0].strip() for line in lines if line.strip()]
+    return [line.split(":")[0].split()[0] for line in lines if line.strip()]
 
 
 _ANTT_DEF = re.compile(

@@ -1,13 +1,15 @@
 #!/usr/bin/env python3
 """Holds the section "What is trusted" of docs/PROMISES.md to what the checker prints: trusted.py LOG [ROOT]
 
-LOG is what `rt ci` said. Of a program it names the C functions whose contracts are assumed, and counts them; no other crate
-may reach any. The words behind a verdict's sum, on what the checker itself takes on trust, stand on the page as printed."""
+LOG is what `rt ci` said and, behind it, tools/assumed. Of a program the page names the C functions whose contracts are assumed,
+and counts them; no other crate, and not the library that C links, may reach any. The words behind a verdict's sum, on what the
+checker itself takes on trust, stand on the page as printed. Of a crate that an earlier run proved, `rt ci` says only that it is
+kept; rt lets no verdict of other words pass."""
 
 import os
 import re
 import sys
-from dataclasses import dataclass
+from dataclasses import dataclass, field
 
 sys.dont_write_bytecode = True
 
@@ -17,68 +19,116 @@ from tally import Tally
 PAGE = "docs/PROMISES.md"
 OTHERS = "every other crate"
 _ROW = re.compile(rf"^\| (?:`(\w+)`|{OTHERS}) \| (\d+) \| (.*) \|$", re.M)
-_AXIOMS = re.compile(r"axioms \w+: (.+) \(\d+ of the \d+ declared\)")
-_VERDICT = re.compile(r"logic=proved functions=\d+(?: axioms=(\d+))?(?: target=\S+)? sum=\w+ (.+)")
-_PROVED = re.compile(r"rt: (\w+) proved \(")
+_VERDICT = re.compile(r"logic=proved functions=\d+(?: axioms=(\d+))?(?: target=\S+)?(?: cpu=\S+)? sum=\w+ (native=.+)")
+# rt, unlike rt ci, takes what it kept of its own earlier work; what is assumed is the same.
+_OWN = " incremental=trusted"
+_HEAD = re.compile(r"== (what )?(\w+)( assumes|: its tests)?")
+_PROVED = re.compile(r"rt: (\w+) proved")
+_KEPT = re.compile(r"rt: (\w+) is kept: an earlier run on this machine proved the same files over the same libraries")
+_COUNT = re.compile(r"axioms \w+: (\d+|none) reached of the \d+ declared")
+_REACHED = re.compile(r" +(\S+) +reached")
 
 
 @dataclass
-class Printed:
-    names: list  # the C functions that are assumed
-    number: int
-    words: str  # what else the verdict trusts
+class Verdict:
+    number: int  # of the C functions that are assumed
+    words: str  # what else it trusts
+
+
+@dataclass
+class Listed:
+    """What tools/assumed lists of a crate that is linked."""
+
+    names: list = field(default_factory=list)  # the C functions that are assumed
+    counts: list = field(default_factory=list)  # how many, library by library
+    verdict: object = None
+
+
+def _verdict(line):
+    said = _VERDICT.fullmatch(line.strip())
+    return said and Verdict(int(said[1] or 0), said[2])
 
 
 def printed(log):
-    """What the checker says of each crate that it proved."""
-    found, names, verdict = {}, [], None
+    """What is said of each crate: the Verdict, or None of one that is kept; and of each that is linked what is Listed."""
+    said, listed, verdict, one = {}, {}, None, None
     for line in log.splitlines():
-        if said := _AXIOMS.match(line):
-            names += said[1].split(", ")
+        if head := _HEAD.fullmatch(line):
+            verdict, one = None, None
+            if head[1]:
+                one = listed[head[2]] = Listed()
         elif line.startswith("logic="):
-            verdict = _VERDICT.fullmatch(line.strip())
-        elif said := _PROVED.match(line):
+            verdict = _verdict(line)
+            if one:
+                one.verdict = _verdict(line.strip().removesuffix(_OWN)) if not one.verdict else None
+        elif one and (count := _COUNT.match(line)):
+            one.counts.append(0 if count[1] == "none" else int(count[1]))
+        elif one and (name := _REACHED.fullmatch(line)):
+            one.names.append(name[1])
+        elif proved := _PROVED.fullmatch(line):
             if verdict:
-                found[said[1]] = Printed(names, int(verdict[1] or 0), verdict[2])
-            names, verdict = [], None
-    return found
+                said[proved[1]] = verdict
+            verdict = None
+        elif kept := _KEPT.fullmatch(line):
+            said[kept[1]] = None
+    return said, listed
 
 
-def _wrong(told, said, page):
-    """What is wrong with the row of a crate, or ''."""
-    if not said:
+def _wrong(name, told, said, listed, page):
+    """What is wrong with the row of a crate, or ''. Of one that is not linked nothing is listed."""
+    if name not in said:
         return "the checker's log has no verdict that can be read"
     if len(told) != 1:
         return f"{PAGE} has {len(told)} rows for it"
     number, names = told[0]
-    if not number == said.number == len(said.names):
-        return f"{PAGE} counts {number}, the checker {said.number}, and it names {len(said.names)}"
-    if sorted(names) != sorted(said.names):
-        return f"{PAGE} names {', '.join(names) or 'none'}, the checker {', '.join(said.names)}"
-    return "" if f"`{said.words}`" in page else f"{PAGE} does not have the words '{said.words}'"
+    if number != len(names):
+        return f"{PAGE} counts {number}, and names {len(names)}"
+    verdicts = [said[name]] if said[name] else []
+    if listed:
+        if not listed.verdict or not listed.counts:
+            return "what it assumes is not listed"
+        verdicts.append(listed.verdict)
+        if sum(listed.counts) != len(listed.names):
+            return f"{sum(listed.counts)} functions are counted, and {len(listed.names)} are named"
+        if sorted(names) != sorted(listed.names):
+            return f"{PAGE} names {', '.join(names) or 'none'}, the checker {', '.join(listed.names) or 'none'}"
+    for verdict in verdicts:
+        if number != verdict.number:
+            return f"{PAGE} counts {number}, the checker {verdict.number}"
+        if f"`{verdict.words}`" not in page:
+            return f"{PAGE} does not have the words '{verdict.words}'"
+    return ""
 
 
-def _needs(root):
-    """The crates that each of ours names, and that are the kit's: there the C functions are declared."""
+def _lines(root):
+    """The crates: whether each is a static library, and the crates of the kit that its line names."""
     ours = crates(root)
-    lines = [line.split("#")[0].partition(":") for line in read(os.path.join(root, "crates.txt")).splitlines()]
-    return {name.strip(): set(needs.split()) - set(ours) for name, _, needs in lines if name.strip()}
+    for line in read(os.path.join(root, "crates.txt")).splitlines():
+        head, _, needs = line.split("#")[0].partition(":")
+        if head.strip():
+            name, *kind = head.split()
+            yield name, "staticlib" in kind, set(needs.split()) - set(ours)
 
 
 def tell(root, log, tally):
     """Counts a test for each crate and each row that names one, and says what fails."""
-    path, said, needs = os.path.join(root, PAGE), printed(log), _needs(root)
+    path, (said, listed) = os.path.join(root, PAGE), printed(log)
     page = read(path) if os.path.isfile(path) else ""
     rows = [(name, (int(number), re.findall(r"`([^`]+)`", cell))) for name, number, cell in _ROW.findall(page)]
-    programs = [name for name in needs if os.path.isfile(os.path.join(root, "crates", name, "src", "main.rt"))]
-    for name, kit in needs.items():
-        told = [row for known, row in rows if known == (name if name in programs else "")]
-        wrong = _wrong(told, said.get(name), page)
-        if kit and name not in programs:
+    programs = []
+    for name, is_static, kit in _lines(root):
+        is_program = os.path.isfile(os.path.join(root, "crates", name, "src", "main.rt"))
+        programs += [name] if is_program else []
+        told = [row for known, row in rows if known == (name if is_program else "")]
+        wrong = _wrong(name, told, said, listed.get(name, Listed()) if is_program or is_static else None, page)
+        if kit and not is_program:
             wrong = f"it is no program, and names {', '.join(sorted(kit))}, of the kit"
         tally.expect(f"what {name} assumes", not wrong, wrong)
     for name in filter(None, (name for name, _ in rows)):
         tally.expect(f"{PAGE}: the row of {name}", name in programs, "it is no program")
+    # Where all crates are kept, no word of a verdict is seen but of those that are linked.
+    seen = [verdict for verdict in [*said.values(), *(one.verdict for one in listed.values())] if verdict]
+    tally.expect("a verdict is read", seen, "the checker's log has none")
 
 
 def main():

@@ -1,5 +1,5 @@
 // The C interface: each function a thin cover of a library function, with the same full contract. `include/vrikshonem.h`
-// says it for C.
+// says it for C, and `c_api_c` exports each.
 #![tactic(auto)]
 
 ghost use Rattle.std.specs.Prelude.{◌≡◌};
