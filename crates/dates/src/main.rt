@@ -200,7 +200,7 @@ fn some(rt: &impl Print, page: &mut [u8; 4096]) {
     flush(rt, page, n);
 }
 
-fn is_all(rt: &impl Env) -> bool {
+fn is_all(rt: &HostRuntime) -> bool {
     let mut text = [0u8; 4];
     let n = rt.arg(1, &mut text).unwrap_or(0);
     n == 3 && text[0] == b'a' && text[1] == b'l' && text[2] == b'l'

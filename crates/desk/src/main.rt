@@ -152,7 +152,7 @@ fn run<R: Print + Eprint, I: Read>(rt: &R, input: &mut I, block: &mut [u8], out:
 }
 
 // Whether the program was started with a word behind its name.
-fn has_argument(rt: &impl Env) -> bool {
+fn has_argument(rt: &HostRuntime) -> bool {
     !matches!(rt.arg(1, &mut [0u8; 1]), Err(FillError::NotPresent))
 }
 
