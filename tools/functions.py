@@ -23,6 +23,7 @@ class Function:
     owner: str  # the type of its impl, or ''
     name: str
     public: bool
+    exported: bool  # to C
     params: list
     result: str  # '' where it returns nothing
     requires: list
@@ -64,12 +65,16 @@ def _bring(tree, imports):
             raise Unreadable(f"{known} is brought from two modules")
 
 
+# What is said of a whole file or module, as #![tactic(auto)].
+_SAID = re.compile(r"\s*#!\[[^\]]*\]")
 _ITEM = re.compile(
-    r"\s*(?P<marks>(?:#!?\[[^\]]*\]\s*)*)(?P<vis>pub\b\s*(?:\([^)]*\))?)?\s*"
+    r"\s*(?P<marks>(?:#\[[^\]]*\]\s*)*)(?P<vis>pub\b\s*(?:\([^)]*\))?)?\s*"
     r"(?P<kind>ghost\s+use|(?:const\s+)?(?:extern\s+)?fn|mod|impl|extern|struct|enum|const|static|type|use)\b\s*"
 )
-_NAMED = re.compile(r"(?:<[^>]*>\s*)?(?:\w+::)*(\w+)")
-_CLAUSE = re.compile(r"\s*(requires|ensures|ghost)\b[^{};]*(?=\{)")
+# The name of a module, or the type of an impl, of a trait or not.
+_NAMED = re.compile(r"(?:<[^{}]*?>\s*)?(?:[^{};]*\bfor\s+)?(?:\w+::)*(\w+)")
+# A starred clause speaks of memory: its text begins with the star.
+_CLAUSE = re.compile(r"\s*(requires|ensures|ghost)\b(\*?)[^{};*]*(?=\{)")
 _BODY, _END, _OPEN = re.compile(r"[{;]"), re.compile(";"), re.compile(r"\(")
 _SIGNED = re.compile(r"[{;]|\b(?:requires|ensures|ghost)\b")
 
@@ -102,6 +107,9 @@ class Crate:
         """Reads items; `seen` where every module around them is public."""
         at = 0
         while text[at:].strip():
+            if said := _SAID.match(text, at):
+                at = said.end()
+                continue
             line = first + text.count("\n", 0, len(text) - len(text[at:].lstrip()))
             item = _ITEM.match(text, at)
             if not item:
@@ -111,7 +119,8 @@ class Crate:
             if kind.endswith("fn"):
                 at, function = self._function(text, end, (path, line, modules, owner), imports)
                 # A method goes where its type goes, and an exported symbol everywhere.
-                function.public = "no_mangle" in item["marks"] or public and (seen or bool(owner))
+                function.exported = "no_mangle" in item["marks"]
+                function.public = function.exported or public and (seen or bool(owner))
                 self.functions.append(function)
                 if public and not function.public:
                     self._hidden.append(function)
@@ -151,7 +160,7 @@ class Crate:
             clauses = {"requires": [], "ensures": [], "ghost": []}
             while clause := _CLAUSE.match(text, at):
                 at = closing(text, clause.end())
-                clauses[clause[1]].append(text[clause.end() + 1 : at])
+                clauses[clause[1]].append(clause[2] + text[clause.end() + 1 : at])
                 at += 1
             at = seek(text, at, _BODY)
             end = closing(text, at) if text[at] == "{" else at
@@ -165,6 +174,7 @@ class Crate:
             owner=owner,
             name=name,
             public=False,
+            exported=False,
             params=params,
             result="" if result == "()" else result,
             requires=clauses["requires"],

@@ -98,7 +98,8 @@ def crates(root):
     if not os.path.isfile(path):
         raise Unreadable("there is no crates.txt")
     lines = [line.split("#")[0] for line in read(path).splitlines()]
-    return [line.split(":")[0].strip() for line in lines if line.strip()]
+    # Behind a name may stand what is built of it, as in NAME staticlib: DEP.
+    return [" ".join(line.split(":")[0].split()[:1]) for line in lines if line.strip()]
 
 
 _ANTT_DEF = re.compile(
@@ -126,7 +127,7 @@ def _rt_definitions(text):
     """Names in an impl count, also as TYPE::NAME."""
     code = rt_code(text)
     names = set(_RT_DEF.findall(code))
-    for found in re.finditer(r"\bimpl\b[^{;]*?(\w+)\s*\{", code):
+    for found in re.finditer(r"\bimpl\b[^{;]*?(\w+)\s*(?:<[^{};<>]*>\s*)?\{", code):
         body = code[found.end() : closing(code, found.end() - 1)]
         names |= {f"{found[1]}::{name}" for name in _RT_DEF.findall(body)}
     return names
