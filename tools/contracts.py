@@ -3,8 +3,8 @@
 
 The form is VIEW result ≡ MEANING arguments, with every lent slice at exit stated in the same way. A meaning is
 a definition of specs/, and a view is one to one by a theorem that views.txt names, so that any two results
-that a contract allows are equal. A function that is exported to C under the name of another crate's function has
-that one's contract, and is listed with it.
+that a contract allows are equal. A function of a static library, which C links, has the name and the contract of
+another crate's function, with which it is listed.
 
     contracts.py            prints the list, and fails where docs/CONTRACTS.md is another
     contracts.py --write    writes docs/CONTRACTS.md
@@ -20,7 +20,7 @@ sys.dont_write_bytecode = True
 
 from clauses import ENTRY, RESULT, Refused, facts, lent, named, plain, words
 from functions import Crate
-from source import NAME, Unreadable, antt_code, crates, definitions, read
+from source import NAME, Unreadable, antt_code, crates, definitions, linked, read
 from tally import Tally
 
 PAGE = "docs/CONTRACTS.md"
@@ -66,7 +66,7 @@ class Report:
 class Repository:
     def __init__(self, root):
         self.root, self.failures = root, []
-        self.crates = crates(root)
+        self.crates, self.linked = crates(root), linked(root)
         sources = [Crate(root, name) for name in self.crates]
         self.functions = [function for source in sources for function in source.functions if function.public]
         self.holders = {name for source in sources for name in source.holders}
@@ -195,18 +195,11 @@ def check(root):
             judged.append((function, judge(repository, function)))
         except Refused as reason:
             failures.append(f"{function.file}:{function.line}: {function.title}: {reason}")
-    own = {}
+    rows = [row for row in judged if row[0].crate not in repository.linked]
     for row in judged:
-        if not row[0].exported:
-            own.setdefault(row[0].name, []).append(row)
-    rows = []
-    for row in judged:
-        others = [other for other in own.get(row[0].name, []) if row[0].exported and other[0].crate != row[0].crate]
-        if not others:
-            rows.append(row)
-        elif not any(_same(row, other) for other in others):
-            where = f"{row[0].file}:{row[0].line}: {row[0].title}"
-            failures.append(f"{where}: it is exported, and its contract is not that of {others[0][0].title}")
+        if row not in rows and not any(_same(row, other) for other in rows if other[0].name == row[0].name):
+            function = row[0]
+            failures.append(f"{function.file}:{function.line}: {function.title}: it has not the contract of a function of its name")
     return Report(rows, failures)
 
 

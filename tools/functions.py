@@ -23,7 +23,6 @@ class Function:
     owner: str  # the type of its impl, or ''
     name: str
     public: bool
-    exported: bool  # to C
     params: list
     result: str  # '' where it returns nothing
     requires: list
@@ -119,8 +118,7 @@ class Crate:
             if kind.endswith("fn"):
                 at, function = self._function(text, end, (path, line, modules, owner), imports)
                 # A method goes where its type goes, and an exported symbol everywhere.
-                function.exported = "no_mangle" in item["marks"]
-                function.public = function.exported or public and (seen or bool(owner))
+                function.public = "no_mangle" in item["marks"] or public and (seen or bool(owner))
                 self.functions.append(function)
                 if public and not function.public:
                     self._hidden.append(function)
@@ -174,7 +172,6 @@ class Crate:
             owner=owner,
             name=name,
             public=False,
-            exported=False,
             params=params,
             result="" if result == "()" else result,
             requires=clauses["requires"],
