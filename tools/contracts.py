@@ -37,7 +37,8 @@ held to the code by `./test`.
 
 A contract says VIEW result ≡ MEANING arguments. A view is one to one, by the theorem that `tools/views.txt`
 names, so a contract allows one result for each input. A slice "at exit" is what the lent memory holds as the
-function returns.
+function returns. What a static library exports to C has the contract of the function of its name, and stands in
+that one's row.
 """
 INNER = """
 ## Inner functions
