@@ -1,0 +1,45 @@
+-- `scales::Refusal::number` meets its contract. Assumes nothing.
+use mathlib.Core.Path.{sym, ap}
+use borrow.Author.Rules.{rules}
+use Rattle.scales.specs.Meaning.{number_of}
+use Rattle.scales.proofs.Refusal.number.Statement.{statement}
+use Rattle.scales.proofs.Refusal.number.Tie as tie
+
+pub number_spec : {M : Type 1} → statement M
+number_spec =
+    tie.close
+    (tie.spec
+    (λ c. search rules)
+    (λ c. search rules)
+    (λ c. search rules)
+    (λ c. search rules)
+    (λ c. search rules)
+    (λ c. search rules)
+    (λ c. search rules)
+    (λ c. search rules)
+    (λ c. search rules)
+    (λ c. search rules)
+    (λ c. search rules)
+    (λ c. search rules)
+    (λ c. search rules)
+    (λ c. search rules)
+    (λ c. search rules)
+    (λ c. search rules)
+    (λ c. search rules)
+    (λ c. sym (ap number_of c.enum_told.given.1))
+    (λ c. sym (ap number_of c.enum-told2.given.1))
+    (λ c. sym (ap number_of c.enum-told3.given.1))
+    (λ c. sym (ap number_of c.enum-told4.given.1))
+    (λ c. sym (ap number_of c.enum-told5.given.1))
+    (λ c. sym (ap number_of c.enum-told6.given.1))
+    (λ c. sym (ap number_of c.enum-told7.given.1))
+    (λ c. sym (ap number_of c.enum-told8.given.1))
+    (λ c. sym (ap number_of c.enum-told9.given.1))
+    (λ c. sym (ap number_of c.enum-told10.given.1))
+    (λ c. sym (ap number_of c.enum-told11.given.1))
+    (λ c. sym (ap number_of c.enum-told12.given.1))
+    (λ c. sym (ap number_of c.enum-told13.given.1))
+    (λ c. sym (ap number_of c.enum-told14.given.1))
+    (λ c. sym (ap number_of c.enum-told15.given.1))
+    (λ c. sym (ap number_of c.enum-told16.given.1))
+    (λ c. sym (ap number_of c.enum-told17.given.1)))
