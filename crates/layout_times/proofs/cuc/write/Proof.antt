@@ -5,7 +5,7 @@ use Prim.Native.Nat.{ℕ}
 use Rattle.scales.specs.Meaning.{outcome, some, valued, value_slip, count_slip}
 use Rattle.scales.specs.declared.Scale.TheVariants as S
 use Rattle.handed.specs.Meaning.{day_of, micro_of}
-use Rattle.layout_fields.specs.Cuc.{write as fieldsWrite}
+use Rattle.layout_fields.specs.Cuc.{write as fields_write}
 use Rattle.layout_fields.specs.declared.cuc.Fields.{Fields}
 use Rattle.layout_times.specs.Chain.{write_no, write_at}
 use Rattle.layout_times.specs.Due.{due_in, HeldIn, held_in}
@@ -29,7 +29,7 @@ fields_at_requires : tie.Need-fields_at-requires
 fields_at_requires c κs = let k = c in cuc_below k.args.h k.in-Count.n (known k)
 
 returns : tie.Need-returns-in-Count
-unfolding write fieldsWrite
+unfolding write fields_write
 returns c =
     let w = c.before.before in
     let g = w.before.before in
@@ -39,7 +39,7 @@ returns c =
     let o = a.out.now in
     let n = k.in-Count.n in
     write_at (λ (n : ℕ). image_at (day_of h) (micro_of h)) o (due_in S.Gps h) refl n (taken k.before) true refl
-    (w.write.ensures ∙ ap (λ (f : Fields). fieldsWrite f o) (g.fields_at.ensures ∙ ap fields_at (cuc_micros h n (known k.before))))
+    (w.write.ensures ∙ ap (λ (f : Fields). fields_write f o) (g.fields_at.ensures ∙ ap fields_at (cuc_micros h n (known k.before))))
 
 returns_2 : tie.Need-returns-in-Refused
 unfolding write

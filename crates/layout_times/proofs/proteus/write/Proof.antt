@@ -4,7 +4,7 @@ use mathlib.Core.Bool.{Bool}
 use Prim.Native.Nat.{ℕ}
 use Rattle.scales.specs.Meaning.{outcome, some, valued, value_slip, count_slip}
 use Rattle.handed.specs.Meaning.{mark_of}
-use Rattle.layout_fields.specs.Proteus.{in_limits, image_of, write as fieldsWrite}
+use Rattle.layout_fields.specs.Proteus.{in_limits, image_of, write as fields_write}
 use Rattle.layout_fields.specs.declared.proteus.Fields.{Fields}
 use Rattle.layout_times.specs.Chain.{write_no, write_at}
 use Rattle.layout_times.specs.Due.{since1980}
@@ -25,7 +25,7 @@ fields_at_requires : tie.Need-fields_at-requires
 fields_at_requires c κs = let k = c in proteus_below k.args.h k.in-Count.n (known k.before.before)
 
 returns : tie.Need-returns-in-Count
-unfolding write fieldsWrite
+unfolding write fields_write
 returns c =
     let w = c.before.before in
     let g = w.before.before in
@@ -37,7 +37,7 @@ returns c =
     let b = h3_of (mark_of a.h) in
     write_at (λ (n : ℕ). image_of (fields_at b n)) o (since1980 a.h) refl n (known k.before.before)
     (in_limits (fields_at b n)) (proteus_limits b n (proteus_below a.h n (known k.before.before)))
-    (w.write.ensures ∙ ap (λ (f : Fields). fieldsWrite f o) (g.fields_at.ensures ∙ ap (λ (x : Bool). fields_at x n) (h3_is i)))
+    (w.write.ensures ∙ ap (λ (f : Fields). fields_write f o) (g.fields_at.ensures ∙ ap (λ (x : Bool). fields_at x n) (h3_is i)))
 
 returns_2 : tie.Need-returns-in-Refused
 unfolding write

@@ -3,7 +3,7 @@ use mathlib.Core.Path.{◌≡◌, refl, sym, ap, ◌∙◌}
 use Prim.Native.Nat.{ℕ}
 use Rattle.scales.specs.Meaning.{outcome, some, valued, value_slip, count_slip}
 use Rattle.layout_fields.specs.Cryosat.{in_limits}
-use Rattle.layout_fields.specs.Siral.{image_of, write as fieldsWrite}
+use Rattle.layout_fields.specs.Siral.{image_of, write as fields_write}
 use Rattle.layout_fields.specs.declared.siral.Fields.{Fields}
 use Rattle.layout_times.specs.Chain.{write_no, write_at}
 use Rattle.layout_times.specs.Due.{since2000}
@@ -21,7 +21,7 @@ fields_at_requires : tie.Need-fields_at-requires
 fields_at_requires c κs = let k = c in cryosat_below k.args.h k.in-Count.n (known k)
 
 returns : tie.Need-returns-in-Count
-unfolding write fieldsWrite
+unfolding write fields_write
 returns c =
     let w = c.before.before in
     let g = w.before.before in
@@ -31,7 +31,7 @@ returns c =
     let n = k.in-Count.n in
     write_at (λ (n : ℕ). image_of (fields_at n)) o (since2000 a.h) refl n (known k.before)
     (in_limits (fields_at n).millisecond (fields_at n).microsecond) (cryosat_limits n)
-    (w.write.ensures ∙ ap (λ (f : Fields). fieldsWrite f o) g.fields_at.ensures)
+    (w.write.ensures ∙ ap (λ (f : Fields). fields_write f o) g.fields_at.ensures)
 
 returns_2 : tie.Need-returns-in-Refused
 unfolding write
