@@ -3,12 +3,16 @@
 import re
 from dataclasses import dataclass
 
-_PLAIN = r"[^\s(){}.;,@\"«»]+"
-_TOKEN = re.compile(rf"[(){{}}]|\.{_PLAIN}|«[^»]*»|{_PLAIN}(?:\.{_PLAIN})*|\S")
-_CLAUSE = re.compile(rf"\s*λ\s+(?:\(\s*({_PLAIN})\s+:[^()]*\)|({_PLAIN}))\s*\.\s*⌜([^⌜⌝]*)⌝\s*")
+_NAME = r"(?:«[^»]*»|[^\s(){}.;,@\"«»]+)"
+# A field stands tight behind its value: r.day, or (g x).day.
+_TOKEN = re.compile(rf"[(){{}}]|\.{_NAME}|{_NAME}(?:\.{_NAME})*|\S")
 # Each binds a name, which could hide a parameter's.
 _BINDERS = {"λ", "let", "do", "elim", "unfold", "∀", ":", "→"}
-FORMS = "R, VIEW R, now (p .exit) or VIEW R (now (p .exit))"
+# What stands behind a lent parameter: its value as the call begins, by a & and by a &mut, and as the function returns.
+ENTRY = {"ref": "now", "mut": "old"}
+EXIT = "new"
+RESULT = "result"
+FORMS = "result, VIEW result, p.new or VIEW result p.new"
 
 
 class Refused(Exception):
@@ -28,19 +32,28 @@ class Fact:
 def _tree(text):
     """The tokens; a list for each (..) and a tuple for each {..}. Whoever read the clause matched its brackets."""
     levels = [[]]
-    for token in _TOKEN.findall(text):
-        if token in "({":
+    for found in _TOKEN.finditer(text):
+        token = found[0]
+        if token.startswith(".") and text[found.start() - 1 : found.start()] == ")":
+            # The field of a call, (g x).day, is one argument.
+            levels[-1][-1] = [levels[-1][-1], token]
+        elif token in "({":
             levels.append([])
         elif token in ")}":
             inside = levels.pop()
             levels[-1].append(inside if token == ")" else tuple(inside))
         else:
-            levels[-1].append(token.strip("«»"))
+            levels[-1].append(re.sub("[«»]", "", token))
     return levels[0]
 
 
+def named(word):
+    """What a word names: a field of it, or a constructor, stands behind a point."""
+    return word if word.startswith(".") else word.split(".")[0]
+
+
 def words(term):
-    """Every word of a term, without the labels of `record { label = .. }`."""
+    """Every word of a term, fields tight behind it, without the labels of `record { label = .. }`."""
     found = []
     for place, part in enumerate(term):
         if not isinstance(part, str):
@@ -51,16 +64,9 @@ def words(term):
 
 
 def lent(term, moment):
-    """The parameters p for which `now (p .entry)`, or `.exit`, stands in a term."""
-    found = set()
-    for place, part in enumerate(term):
-        if part == "now" and place + 1 < len(term):
-            place_of = term[place + 1]
-            if isinstance(place_of, list) and len(place_of) == 2 and place_of[1] == moment:
-                found.add(place_of[0])
-        if not isinstance(part, str):
-            found |= lent(part, moment)
-    return found
+    """The parameters p for which p.now, p.old or p.new stands in a term."""
+    fields = [word.split(".") for word in words(term)]
+    return {field[0] for field in fields if len(field) > 1 and field[0] and field[1] == moment}
 
 
 def _split(term, mark):
@@ -90,7 +96,7 @@ def _factors(term):
 
 
 def _applied(term, operators, what):
-    """A definition's name and its arguments: names, numbers and terms in brackets."""
+    """A definition's name and its arguments: names, numbers, fields of them and terms in brackets."""
     for part in term:
         if isinstance(part, str) and (part in operators or not (part[0].isalnum() or part in ("[]", "_"))):
             raise Refused(f"{what} is no definition applied to arguments: '{part}' stands in it")
@@ -101,41 +107,47 @@ def _applied(term, operators, what):
     return term[0], term[1:]
 
 
-def _stated(left, result):
+def _slice(part):
+    """The parameter whose slice at exit a part is, or ''."""
+    name, _, moment = part.rpartition(".") if isinstance(part, str) else ("", "", "")
+    return name if moment == EXIT and "." not in name else ""
+
+
+def _stated(left):
     """The view of the left side, whether it states the result, and the slices at exit that it states."""
-    if left == [result]:
+    if left == [RESULT]:
         return "", True, []
-    if len(left) == 2 and left[0] == "now" and lent(left, ".exit"):
-        return "", False, list(lent(left, ".exit"))
-    if len(left) >= 2 and isinstance(left[0], str) and left[1] == result:
-        slices = [part if isinstance(part, list) else [] for part in left[2:]]
-        if all(len(part) == 2 and part[0] == "now" and lent(part, ".exit") for part in slices):
-            return left[0], True, [name for part in slices for name in lent(part, ".exit")]
-    raise Refused(f"the left side is none of {FORMS.replace('R', result or 'r')}")
+    if len(left) == 1 and _slice(left[0]):
+        return "", False, [_slice(left[0])]
+    if len(left) >= 2 and isinstance(left[0], str) and left[1] == RESULT and all(map(_slice, left[2:])):
+        return left[0], True, [_slice(part) for part in left[2:]]
+    raise Refused(f"the left side is none of {FORMS}")
 
 
-def _fact(term, result, operators):
+def _fact(term, operators):
     sides = _split(term, "≡")
     if len(sides) == 1:
         head, arguments = _applied(term, operators, "a clause without ≡")
-        return Fact(True, head, arguments, "", result in words(arguments), sorted(lent(arguments, ".exit")))
+        return Fact(True, head, arguments, "", RESULT in map(named, words(arguments)), sorted(lent(arguments, EXIT)))
     if len(sides) != 2:
         raise Refused("an equation has more than one ≡")
-    view, states, exits = _stated(_unwrapped(sides[0]), result)
+    view, states, exits = _stated(_unwrapped(sides[0]))
     head, arguments = _applied(_unwrapped(sides[1]), operators, "the right side")
-    if result in words(arguments) or ".exit" in words(arguments):
-        raise Refused("the right side speaks of the result: it is to speak of the arguments alone")
+    for word in words(arguments):
+        if named(word) == RESULT or {EXIT, "exit"}.intersection(word.split(".")[1:]):
+            raise Refused("the right side speaks of the result: it is to speak of the arguments alone")
     return Fact(False, head, arguments, view, states, exits)
 
 
+def plain(text):
+    """Is a clause a plain fact? One with a star, or with ⌜ ⌝, is said of memory."""
+    return not text.startswith("*") and not re.search("[⌜⌝∗]", text)
+
+
 def facts(text, operators):
-    """The name that a clause gives the result, and the facts that it states."""
+    """The facts that a clause states."""
     if "--" in text or "{-" in text:
         raise Refused("a comment stands in the clause")
-    found = _CLAUSE.fullmatch(text)
-    if not found:
-        raise Refused("a clause is not of the form λ r. ⌜ .. ⌝")
-    result = found[1] or found[2]
-    if result == "_":
-        result = None  # a hole, and no name of the result
-    return result, [_fact(factor, result, operators) for factor in _factors(_tree(found[3]))]
+    if not plain(text):
+        raise Refused("a clause is no plain fact")
+    return [_fact(factor, operators) for factor in _factors(_tree(text))]

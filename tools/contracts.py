@@ -3,7 +3,8 @@
 
 The form is VIEW result ≡ MEANING arguments, with every lent slice at exit stated in the same way. A meaning is
 a definition of specs/, and a view is one to one by a theorem that views.txt names, so that any two results
-that a contract allows are equal.
+that a contract allows are equal. A function of a static library, which C links, has the name and the contract of
+another crate's function, with which it is listed.
 
     contracts.py            prints the list, and fails where docs/CONTRACTS.md is another
     contracts.py --write    writes docs/CONTRACTS.md
@@ -17,15 +18,17 @@ from dataclasses import dataclass
 
 sys.dont_write_bytecode = True
 
-from clauses import Refused, facts, lent, words
+from clauses import ENTRY, RESULT, Refused, facts, lent, named, plain, words
 from functions import Crate
-from source import NAME, Unreadable, antt_code, crates, definitions, read
+from source import NAME, Unreadable, antt_code, crates, definitions, linked, read
 from tally import Tally
 
 PAGE = "docs/CONTRACTS.md"
 VIEWS = "tools/views.txt"
-_SPECS = re.compile(r"Rattle·(\w+?)(·specs)?\.specs\.(.+)")
-_REQUIRED = re.compile(r"\s*⌜([^⌜⌝]*)⌝\s*")
+EQUAL = "Rattle.std.specs.Prelude"
+_SPECS = re.compile(r"Rattle\.(\w+)\.specs\.(.+)")
+# What std has, and what a declared type is, which stands in specs.declared, where the prover makes it.
+_MADE = re.compile(r"Rattle\.(?:std\.|\w+\.specs\.declared\.).*")
 
 HEAD = """# Contracts
 
@@ -34,7 +37,8 @@ held to the code by `./test`.
 
 A contract says VIEW result ≡ MEANING arguments. A view is one to one, by the theorem that `tools/views.txt`
 names, so a contract allows one result for each input. A slice "at exit" is what the lent memory holds as the
-function returns.
+function returns. What a static library exports to C has the contract of the function of its name, and stands in
+that one's row.
 """
 INNER = """
 ## Inner functions
@@ -63,7 +67,7 @@ class Report:
 class Repository:
     def __init__(self, root):
         self.root, self.failures = root, []
-        self.crates = crates(root)
+        self.crates, self.linked = crates(root), linked(root)
         sources = [Crate(root, name) for name in self.crates]
         self.functions = [function for source in sources for function in source.functions if function.public]
         self.holders = {name for source in sources for name in source.holders}
@@ -101,9 +105,9 @@ class Repository:
             raise Refused(f"{name} is not brought from a specs module")
         module, known = function.imports[name]
         found = _SPECS.fullmatch(module)
-        if not found or found[1] not in self.crates or bool(found[2]) != (found[1] == function.crate):
+        if not found or found[1] not in self.crates:
             raise Refused(f"{name} comes from {module}, which is no specs module of this repository")
-        file = f"crates/{found[1]}/specs/{found[3].replace('.', '/')}.antt"
+        file = f"crates/{found[1]}/specs/{found[2].replace('.', '/')}.antt"
         if known not in self._definitions(file):
             raise Refused(f"{known} is not defined in {file}")
         return known, file
@@ -128,16 +132,15 @@ def _cited(repository, function, fact):
     viewed, others = [], []
     if fact.relation:
         meaning = repository.listed(function, fact.head, "relation")
-    elif function.imports.get("_≡_", ("",))[0] != "mathlib.Core.Path":
-        raise Refused("≡ is not brought from mathlib.Core.Path")
+    elif function.imports.get("◌≡◌", ("",))[0] != EQUAL:
+        raise Refused(f"≡ is not brought from {EQUAL}")
     else:
         viewed = [repository.listed(function, fact.view, "view")] if fact.view else []
         meaning = repository.definition(function, fact.head)
-    for word in words(fact.arguments):
-        module = function.imports.get(word.split(".")[0], ("",))[0]
-        # What a declared type is stands in specs.declared, which the prover makes.
-        if module.startswith("Rattle·") and ".specs.declared." not in module:
-            others.append(repository.definition(function, word.split(".")[0]))
+    for word in map(named, words(fact.arguments)):
+        module = function.imports.get(word, ("",))[0]
+        if module.startswith("Rattle.") and not _MADE.fullmatch(module):
+            others.append(repository.definition(function, word))
     slices = ", ".join(f"`{name}` at exit" for name in fact.exits)
     stated = f"`{viewed[0][0]}`" if viewed else "the result" if fact.result else ""
     stated = "a relation" if fact.relation else stated
@@ -148,32 +151,32 @@ def judge(repository, function):
     """What the contract of a function cites; Refused where it has another form."""
     if function.requires and not function.inner:
         raise Refused("it has a requires, and stands in no module inner")
-    if not all(map(_REQUIRED.fullmatch, function.requires)):
-        raise Refused("a requires is not of the form ⌜ .. ⌝")
+    if not all(map(plain, function.requires)):
+        raise Refused("a requires is no plain fact")
     if not function.ensures:
         raise Refused("it has no ensures")
-    names = [param.name for param in function.params]
-    operators = {part for name in function.imports if "_" in name for part in name.split("_") if part}
-    cited, stated, exits, said, entries = [], not function.result, set(), set(), set()
+    if RESULT in [param.name for param in function.params]:
+        raise Refused(f"the name of the result, {RESULT}, hides the parameter")
+    operators = {part for name in function.imports if "◌" in name for part in name.split("◌") if part}
+    cited, stated, exits, said = [], not function.result, set(), set()
+    entries = {kind: set() for kind in ENTRY}
     for clause in function.ensures:
-        result, found = facts(clause, operators)
-        if result in names:
-            raise Refused(f"the name of the result, {result}, hides the parameter")
-        for fact in found:
+        for fact in facts(clause, operators):
             cited.append(_cited(repository, function, fact))
             stated = stated or fact.result
             exits |= set(fact.exits)
-            said |= set(words(fact.arguments))
-            entries |= lent(fact.arguments, ".entry")
+            said |= set(map(named, words(fact.arguments)))
+            for kind, moment in ENTRY.items():
+                entries[kind] |= lent(fact.arguments, moment)
     if not stated:
         raise Refused("no clause states the result")
     for param in function.params:
         if param.kind == "holds" or repository.holders.intersection(re.findall(r"\w+", param.type)):
             raise Refused(f"a reference stands inside of the type of {param.name}, and no form is accepted for that")
         if param.kind == "mut" and param.name not in exits:
-            raise Refused(f"no clause states now ({param.name} .exit), the lent {param.name} at exit")
-        if param.kind != "value" and param.name not in entries:
-            raise Refused(f"no right side names the parameter {param.name}, as now ({param.name} .entry)")
+            raise Refused(f"no clause states {param.name}.new, the lent {param.name} at exit")
+        if param.kind != "value" and param.name not in entries[param.kind]:
+            raise Refused(f"no right side names the parameter {param.name}, as {param.name}.{ENTRY[param.kind]}")
         if param.name not in said:
             raise Refused(f"no right side names the parameter {param.name}")
     if wrong := exits - {param.name for param in function.params if param.kind == "mut"}:
@@ -187,18 +190,34 @@ def check(root):
         repository = Repository(root)
     except (Unreadable, OSError) as wrong:
         return Report([], [str(wrong)])
-    report = Report([], repository.failures)
+    judged, failures = [], repository.failures
     for function in repository.functions:
         try:
-            report.rows.append((function, judge(repository, function)))
+            judged.append((function, judge(repository, function)))
         except Refused as reason:
-            report.failures.append(f"{function.file}:{function.line}: {function.title}: {reason}")
-    return report
+            failures.append(f"{function.file}:{function.line}: {function.title}: {reason}")
+    rows = [row for row in judged if row[0].crate not in repository.linked]
+    for row in judged:
+        if row not in rows and not any(_same(row, other) for other in rows if other[0].name == row[0].name):
+            function = row[0]
+            failures.append(f"{function.file}:{function.line}: {function.title}: it has not the contract of a function of its name")
+    return Report(rows, failures)
+
+
+def _same(row, other):
+    """Do two functions, each with its Cited, take and promise the same, in the same words?"""
+
+    def says(function, cited):
+        types = [re.sub(r"\s+|\w+::", "", text) for text in (*(param.type for param in function.params), function.result)]
+        clauses = [[" ".join(clause.split()) for clause in clauses] for clauses in (function.requires, function.ensures)]
+        return [(param.name, param.kind) for param in function.params], types, clauses, cited
+
+    return says(*row) == says(*other)
 
 
 def required(function):
     """What a function requires, as its source has it, for a cell of a table: there a stroke would end the cell."""
-    found = [" ".join(_REQUIRED.fullmatch(clause)[1].split()) for clause in function.requires]
+    found = [" ".join(clause.split()) for clause in function.requires]
     return f"`{'; '.join(found)}`".replace("|", "\\|") if found else "nothing"
 
 

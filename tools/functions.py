@@ -64,12 +64,16 @@ def _bring(tree, imports):
             raise Unreadable(f"{known} is brought from two modules")
 
 
+# What is said of a whole file or module, as #![tactic(auto)].
+_SAID = re.compile(r"\s*#!\[[^\]]*\]")
 _ITEM = re.compile(
-    r"\s*(?P<marks>(?:#!?\[[^\]]*\]\s*)*)(?P<vis>pub\b\s*(?:\([^)]*\))?)?\s*"
+    r"\s*(?P<marks>(?:#\[[^\]]*\]\s*)*)(?P<vis>pub\b\s*(?:\([^)]*\))?)?\s*"
     r"(?P<kind>ghost\s+use|(?:const\s+)?(?:extern\s+)?fn|mod|impl|extern|struct|enum|const|static|type|use)\b\s*"
 )
-_NAMED = re.compile(r"(?:<[^>]*>\s*)?(?:\w+::)*(\w+)")
-_CLAUSE = re.compile(r"\s*(requires|ensures|ghost)\b[^{};]*(?=\{)")
+# The name of a module, or the type of an impl, of a trait or not.
+_NAMED = re.compile(r"(?:<[^{}]*?>\s*)?(?:[^{};]*\bfor\s+)?(?:\w+::)*(\w+)")
+# A starred clause speaks of memory: its text begins with the star.
+_CLAUSE = re.compile(r"\s*(requires|ensures|ghost)\b(\*?)[^{};*]*(?=\{)")
 _BODY, _END, _OPEN = re.compile(r"[{;]"), re.compile(";"), re.compile(r"\(")
 _SIGNED = re.compile(r"[{;]|\b(?:requires|ensures|ghost)\b")
 
@@ -102,6 +106,9 @@ class Crate:
         """Reads items; `seen` where every module around them is public."""
         at = 0
         while text[at:].strip():
+            if said := _SAID.match(text, at):
+                at = said.end()
+                continue
             line = first + text.count("\n", 0, len(text) - len(text[at:].lstrip()))
             item = _ITEM.match(text, at)
             if not item:
@@ -151,7 +158,7 @@ class Crate:
             clauses = {"requires": [], "ensures": [], "ghost": []}
             while clause := _CLAUSE.match(text, at):
                 at = closing(text, clause.end())
-                clauses[clause[1]].append(text[clause.end() + 1 : at])
+                clauses[clause[1]].append(clause[2] + text[clause.end() + 1 : at])
                 at += 1
             at = seek(text, at, _BODY)
             end = closing(text, at) if text[at] == "{" else at

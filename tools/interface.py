@@ -1,5 +1,5 @@
 #!/usr/bin/env python3
-"""The interface for C, read from the Rattle source of its crate, and all that follows from it and from the refusals:
+"""The interface for C, read from the Rattle source of its two crates, and all that follows from it and from the refusals:
 
     tools/interface.py            says which of the files that follow are stale
     tools/interface.py --write    writes them
@@ -17,8 +17,10 @@ sys.dont_write_bytecode = True
 
 from source import Unreadable, closing, parts, read, rt_code
 
-CRATE = "crates/c_api/src"
+# The structs and the functions, and what exports these.
+CRATE, LINKED = "crates/c_api/src", "crates/c_api_c/src"
 PREFIX = "vrk_"
+EXPORT = "#[unsafe(no_mangle)]"
 # A number: its bytes. A struct is passed as its numbers, a slice as a pointer and how many elements it has.
 WIDTHS = {f"{sign}{bits}": bits // 8 for sign in "ui" for bits in (8, 16, 32, 64)} | {"f64": 8}
 
@@ -104,10 +106,10 @@ def _kind(text, structs, where, whose):
 
 
 def _functions(path, code, structs):
-    for mark in re.finditer(r"#\[no_mangle\]", code):
+    for mark in re.finditer(r"#\[[^\]]*\bno_mangle\b[^\]]*\]", code):
         where = f"{path}:{_line(code, mark.start())}"
         head = re.compile(rf"\s*pub extern\s+fn {PREFIX}(\w+)\(").match(code, mark.end())
-        if not head:
+        if not head or mark[0] != EXPORT:
             raise Unreadable(f"{where}: a function that is exported and cannot be read")
         name, end = head[1], closing(code, head.end() - 1)
         given = []
@@ -119,25 +121,33 @@ def _functions(path, code, structs):
         yield where, Function(name, result[1], tuple(given))
 
 
-def rattle(root, folder=CRATE):
-    """What the crate exports."""
-    codes = {}
-    for path in sorted(glob.glob(os.path.join(root, folder, "*.rt"))):
-        codes[os.path.relpath(path, root)] = rt_code(read(path))
-    found = {name: fields for path, code in codes.items() for name, fields in _structs(path, code).items()}
+def _codes(root, folder):
+    """The files of a folder, without comments and texts."""
+    paths = sorted(glob.glob(os.path.join(root, folder, "*.rt")))
+    return {os.path.relpath(path, root): rt_code(read(path)) for path in paths}
+
+
+def rattle(root):
+    """What is exported."""
+    own = _codes(root, CRATE)
+    found = {name: fields for path, code in own.items() for name, fields in _structs(path, code).items()}
     for name, fields in found.items():
         for field, kind, where in fields:
             if kind not in WIDTHS and kind not in found:
                 raise Unreadable(f"{where}: {name}'s '{field}' is of the unknown shape '{kind}'")
     structs = {name: [(field, kind) for field, kind, _ in fields] for name, fields in found.items()}
     functions = {}
-    for path, code in codes.items():
+    for path, code in _codes(root, LINKED).items():
         for where, one in _functions(path, code, structs):
             if one.name in functions:
                 raise Unreadable(f"{where}: {PREFIX}{one.name} is exported twice")
             functions[one.name] = one
     if not functions:
-        raise Unreadable(f"{folder}: no function is exported")
+        raise Unreadable(f"{LINKED}: no function is exported")
+    for path, code in own.items():
+        for head in re.finditer(rf"\bpub (?:extern\s+)?fn {PREFIX}(\w+)", code):
+            if head[1] not in functions:
+                raise Unreadable(f"{path}:{_line(code, head.start())}: {PREFIX}{head[1]} is not exported")
     return Interface(structs, functions)
 
 

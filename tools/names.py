@@ -7,7 +7,8 @@ from dataclasses import dataclass
 from source import NAME, antt_code, read
 
 _USE = re.compile(r"^use (\S+?)(?:\.\{([^}]*)\}| as (\w+)) *$", re.M)
-_OURS = re.compile(r"Rattle·(\w+)(?:·\w+)?\.(specs|proofs)\.(.+)")
+# std is the kit's.
+_OURS = re.compile(r"Rattle\.(?!std\.)(\w+)\.(specs|proofs)\.(.+)")
 _WORD = re.compile(rf"(?<![^\s(){{}};,@]){NAME}(?:\.{NAME})*")
 _TYPE = re.compile(rf"^( *)((?:(?:abbrev|unfoldable|pub) )*)({NAME})(?: \{{[^}}]*\}})? :((?: .*)?(?:\n\1 +.*)*)$", re.M)
 _RECORD = re.compile(rf"^( *)((?:pub )?)record ({NAME})(?= )(.*(?:\n(?:\1 +\S.*| *(?=\n)))*)", re.M)
@@ -96,10 +97,11 @@ class Names:
         return self._file(path).code
 
     def known(self, path, word):
-        """The definition that a word of a file stands for: one that a `use` brings, or one of the file itself."""
+        """The definition that a word of a file stands for: one that a `use` brings, or one of the file itself. Fields may stand
+        tight behind it."""
         file = self._file(path)
-        head, _, rest = word.partition(".")
-        return (rest, file.others[head]) if rest and head in file.others else file.names.get(word, (word, path))
+        head, *rest = word.split(".")
+        return (rest[0], file.others[head]) if rest and head in file.others else file.names.get(head, (head, path))
 
     def stated(self, known):
         """A definition's type or fields, and the headers of the modules around it; None of what is no definition, as a
@@ -141,7 +143,7 @@ class Names:
         bound = _binds(text)
         for word in _WORD.findall(text):
             known = self.known(path, word)
-            if word not in bound and known not in seen:
+            if word.split(".")[0] not in bound and known not in seen:
                 seen.add(known)
                 for body in more(known):
                     self.cited(known[1], body, more, seen)

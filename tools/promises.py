@@ -20,7 +20,7 @@ PAGE = "docs/PROMISES.md"
 IMPORTS = "crates/promises/specs/All.antt"
 NUMBERS, NEVER = "crates/promises/specs/Refusals.antt", "crates/promises/specs/Never.antt"
 JUDGED = ("Judged", "crates/scales/specs/Meaning.antt")
-THEOREM = re.compile(r"`([a-z_]+\.[A-Z][A-Za-z]*\.[a-z][a-z0-9-]*)`")
+THEOREM = re.compile(r"`([a-z_]+\.[A-Z][A-Za-z]*\.[a-z][a-z0-9_]*)`")
 ROW = re.compile(r"^\| `([a-z_]+::[A-Za-z_:]+)` \|(.*)\|$", re.M)
 _SPECS = re.compile(r"crates/\w+/specs/.+")
 _LAWS = re.compile(r"crates/(?:\w+_laws|promises|marked)/(?:specs|proofs)/.+")
@@ -36,18 +36,17 @@ def imports(root, page):
     for module in modules:
         crate, file = module.split(".")
         folder = "specs" if os.path.isfile(os.path.join(root, f"crates/{crate}/specs/{file}.antt")) else "proofs"
-        place = f"promises·specs.{folder}" if crate == "promises" else f"{crate}.{folder}"
         items = []
         for name in (one.rpartition(".")[2] for one in named if one.rpartition(".")[0] == module):
-            other = re.sub(r"(?<=[a-z])(?=[A-Z])", "-", f"{crate}-{file}-{name}").replace("_", "-").lower()
+            other = re.sub(r"(?<=[a-z])(?=[A-Z])", "_", f"{crate}_{file}_{name}").lower()
             items.append(name if alone.count(name) == 1 else f"{name} as {other}")
-        text.append(f"use Rattle·{place}.{file}.{{{', '.join(items)}}}")
+        text.append(f"use Rattle.{crate}.{folder}.{file}.{{{', '.join(items)}}}")
     return "\n".join(text) + "\n"
 
 
 def _own(sets):
     """Of each function's definitions those that tell of it. What two functions share, each beside others of its own, is a
-    step of both (andThen, timeOut), and tells of neither."""
+    step of both (and_then, time_out), and tells of neither."""
 
     def tells(mine, one):
         return all(mine <= other or other <= mine for other in sets.values() if one in other)
@@ -118,17 +117,19 @@ def _rows(page, subjects, tally):
 def _numbers(root, tally):
     """Each line of the table of refusals is what is computed of that function's rows, but for a number that never comes."""
     code = [antt_code(read(path)) if os.path.isfile(path) else "" for path in (os.path.join(root, NUMBERS), os.path.join(root, NEVER))]
-    form = r"^pub ([a-z-]+) :(.*(?:\n +.*)*) ≡ (\d+(?: ∷ \d+)*) ∷ \[\]$"
-    computed = {name: (stated, numbers.split(" ∷ ")) for name, stated, numbers in re.findall(form, code[0], re.M)}
-    never = re.findall(r"^ *pub ([a-z-]+)-never-(\d+) :", code[1], re.M)
+    form = r"^pub ([a-z_]+) :(.*(?:\n +.*)*) ≡ (\d+(?: ∷ \d+)*) ∷ \[\]$"
+    # A lemma that would have a definition's name ends in _lem.
+    rows = [(name.removesuffix("_lem"), stated, numbers.split(" ∷ ")) for name, stated, numbers in re.findall(form, code[0], re.M)]
+    computed = {name: (stated, numbers) for name, stated, numbers in rows}
+    never = re.findall(r"^ *pub ([a-z_]+)_never_(\d+) :", code[1], re.M)
     table = dict(re.fullmatch(r"(\w+)\s+\S+\s+(.*)", line).groups() for _, line in lines(root, TABLE))
-    judged = {name.replace("_", "-"): numbers.split() for name, numbers in table.items() if numbers != "-"}
-    tally.expect(f"{NUMBERS} has the functions of {TABLE}", list(computed) == list(judged), f"{list(computed)}")
+    judged = {name: numbers.split() for name, numbers in table.items() if numbers != "-"}
+    tally.expect(f"{NUMBERS} has the functions of {TABLE}", [row[0] for row in rows] == list(judged), f"{list(computed)}")
     for name, numbers in judged.items():
         stated, found = computed.get(name, ("", []))
         comes = [number for number in found if (name, number) not in never]
         tally.expect(f"{TABLE}: {name}", comes == numbers, f"its rows have {found}")
-        tally.expect(f"{NUMBERS}: {name} is of its rows", re.search(rf"\bOne\w*\.{name} ", stated), stated.strip())
+        tally.expect(f"{NUMBERS}: {name} is of its rows", re.search(rf"\bOne\w*\.{name}(?:_lem)? ", stated), stated.strip())
 
 
 def judge(root, tally):

@@ -1,6 +1,7 @@
 """What ./desk does: proves and builds the program where that is not done yet, then runs it. A proved program has no exit
 status; this gives it one, and leaves its input and output alone. Its input comes as number 3."""
 
+import errno
 import os
 import re
 import resource
@@ -14,6 +15,8 @@ if sys.version_info < (3, 9):
 ROOT = os.path.normpath(os.path.join(os.path.dirname(os.path.abspath(__file__)), ".."))
 PROVE = [os.path.join(ROOT, "tools/prove"), "desk", "desk"]
 PROGRAM = [os.path.join(ROOT, "tools/x86-64"), os.path.join(ROOT, "target/proved/desk")]
+# What the program says where nobody reads on: SIGPIPE, which would end it, is ignored in it from its start.
+UNREAD = f"desk: write: {os.strerror(errno.EPIPE)}\n".encode()
 running = []
 
 
@@ -88,6 +91,8 @@ def answer(with_words):
         return failed(wrong)
     said = child.stderr.read()
     status = child.wait()
+    if said == UNREAD:
+        end(signal.SIGPIPE)  # as is usual in a pipe
     tell(said)
     if status < 0:
         end(-status)

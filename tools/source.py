@@ -94,11 +94,21 @@ def parts(text):
 
 def crates(root):
     """The names in crates.txt."""
+    return list(_listed(root))
+
+
+def linked(root):
+    """Those that C links, and no other crate: NAME staticlib: DEP .."""
+    return [name for name, words in _listed(root).items() if "staticlib" in words]
+
+
+def _listed(root):
+    """Each name in crates.txt, and the words behind it."""
     path = os.path.join(root, "crates.txt")
     if not os.path.isfile(path):
         raise Unreadable("there is no crates.txt")
-    lines = [line.split("#")[0] for line in read(path).splitlines()]
-    return [line.split(":")[0].split()[0] for line in lines if line.strip()]
+    heads = [line.split("#")[0].split(":")[0].split() for line in read(path).splitlines() if line.split("#")[0].strip()]
+    return {" ".join(head[:1]): head[1:] for head in heads}
 
 
 _ANTT_DEF = re.compile(
@@ -126,7 +136,7 @@ def _rt_definitions(text):
     """Names in an impl count, also as TYPE::NAME."""
     code = rt_code(text)
     names = set(_RT_DEF.findall(code))
-    for found in re.finditer(r"\bimpl\b[^{;]*?(\w+)\s*\{", code):
+    for found in re.finditer(r"\bimpl\b[^{;]*?(\w+)\s*(?:<[^{};<>]*>\s*)?\{", code):
         body = code[found.end() : closing(code, found.end() - 1)]
         names |= {f"{found[1]}::{name}" for name in _RT_DEF.findall(body)}
     return names

@@ -14,7 +14,7 @@ sys.dont_write_bytecode = True
 import contracts
 import promises
 from names import Names
-from source import PAIRS, Unreadable, closing, crates, read
+from source import NAME, PAIRS, Unreadable, closing, crates, read
 from tally import Tally
 
 PAGE = "docs/WRONG.md"
@@ -54,6 +54,7 @@ OUTGROWN = Form(["Outgrown"], 2, _ALL_LAWS, "a laws crate, of promises or of mar
 _BEGUN = re.compile(r"\s*(?:\([^()]*:[^()]*\)\s*→\s*)*([^\s(){}]+)(?=\s)")
 _BOUND = re.compile(r"\(([^():]*):")
 _ARGUMENT = re.compile(r"[([{]|[^\s([{]+")
+_FIELDS = re.compile(rf"(?:\.{NAME})*")
 # Everything cites these, so that they tell of no promise.
 _COMMON = re.compile(r"crates/(?:axis|scales|handed)/.+")
 
@@ -76,10 +77,11 @@ def tables(text, header):
 
 
 def _arguments(text):
-    """What stands behind a form, to the end: each is in brackets, or one word."""
+    """What stands behind a form, to the end: each is in brackets, or one word; fields may stand tight behind it."""
     found, at = [], 0
     while part := _ARGUMENT.search(text, at):
         at = closing(text, part.start()) + 1 if part[0] in PAIRS else part.end()
+        at = _FIELDS.match(text, at).end()
         found.append(text[part.start() : at])
     return found
 

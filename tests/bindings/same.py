@@ -101,8 +101,8 @@ LAST = {
 
 def leap_list():
     meant = read("crates/leap/specs/Meaning.antt")
-    meaning = re.search(r"\npublishedDays =(.*?)\[\]", meant, re.S)[1]
-    last = re.search(r"\npublishedLast = pos (\d+)\n", meant)[1]
+    meaning = re.search(r"\npublished_days =(.*?)\[\]", meant, re.S)[1]
+    last = re.search(r"\npublished_last = pos (\d+)\n", meant)[1]
     signs = re.findall(r"(negsuc|pos) (\d+)", meaning)
     days = [-int(number) - 1 if sign == "negsuc" else int(number) for sign, number in signs]
     tally.expect("the published list has 28 days", len(days) == 28, str(days))

@@ -44,7 +44,7 @@ def found(texts, listed, given):
     yield "the cases of Refusal", re.findall(r"\w+", cases[1]) if cases else [], [one.name for one in listed]
     numbers = [(one.name, str(one.number)) for one in listed]
     yield "Refusal's number", re.findall(r"\bRefusal::(\w+) => (\d+),", code), numbers
-    yield "numberOf", re.findall(r"^numberOf R\.(\w+) = (\d+)$", meaning, re.M), numbers
+    yield "number_of", re.findall(r"^number_of R\.(\w+) = (\d+)$", meaning, re.M), numbers
     order = re.search(r"^order = (.*) ∷ \[\]$", meaning, re.M)
     yield "the order", order[1].split(" ∷ ") if order else [], [str(one.number) for one in judged]
     said = [(str(one.number), one.words) for one in judged]
@@ -59,7 +59,7 @@ def found(texts, listed, given):
 FAULTS = {
     "a case less": (0, r"    NotInForce,\n", ""),
     "another number": (0, r"(Refusal::NotInForce => )8", r"\g<1>9"),
-    "another number of the meaning": (1, r"(numberOf R.NotInForce = )8", r"\g<1>9"),
+    "another number of the meaning": (1, r"(number_of R.NotInForce = )8", r"\g<1>9"),
     "another order": (1, r"order = 1 ∷ 2", "order = 2 ∷ 1"),
     "other words": (2, r"correlation not in force", "correlation out of force"),
     "another number of the conditions": (2, r"(-- ---- \")8 ", r"\g<1>9 "),

@@ -4,8 +4,7 @@ numbers have gaps and whose order is not theirs."""
 
 from made.slips import BEGIN, END
 
-SOURCE = """// "#[no_mangle]" in a text and one in a comment: #[no_mangle]
-#[repr(C)]
+STRUCTS = """#[repr(C)]
 pub struct VrkInner {
     pub a: u8,
     pub b: f64,
@@ -26,7 +25,12 @@ pub struct VrkSums {
     pub offsets: u64,
 }
 
-#[no_mangle]
+"""
+
+FUNCTIONS = """// "#[unsafe(no_mangle)]" in a text and one in a comment: #[unsafe(no_mangle)]
+use c_api::{VrkOuter, VrkSums};
+
+#[unsafe(no_mangle)]
 pub extern "C" fn vrk_sum(
     label: &[u8],
     scale: u32,
@@ -35,27 +39,27 @@ pub extern "C" fn vrk_sum(
     offsets: &[u64],
     out: &mut [u8],
 ) -> VrkSums
-    ensures { true }
+    ensures { IsSum result label.now }
 {
     given(label)
 }
 
-#[no_mangle]
+#[unsafe(no_mangle)]
 pub extern "C" fn vrk_turn(given: VrkOuter, times: i32, narrow: u16) -> VrkOuter {
     given
 }
 
-#[no_mangle]
+#[unsafe(no_mangle)]
 pub extern "C" fn vrk_half(x: f64) -> f64 {
     x
 }
 
-#[no_mangle]
+#[unsafe(no_mangle)]
 pub extern "C" fn vrk_nothing() -> i64 {
     0
 }
 
-#[no_mangle]
+#[unsafe(no_mangle)]
 pub extern "C" fn vrk_touch(how: u32, words: &[i64], out: &mut [i64]) -> u32 {
     how
 }
@@ -116,7 +120,8 @@ By hand too.
 """
 
 FILES = {
-    "crates/c_api/src/lib.rt": SOURCE,
+    "crates/c_api/src/lib.rt": STRUCTS + FUNCTIONS.partition("\n\n")[2].replace("#[unsafe(no_mangle)]\n", ""),
+    "crates/c_api_c/src/lib.rt": FUNCTIONS,
     "include/vrikshonem.h": HEADER,
     "refusals.txt": REFUSALS,
     "refusals_by_function.txt": TABLE,
@@ -124,19 +129,24 @@ FILES = {
     "VERSION": "3.14.15\n",
 }
 
-RT, LIST, BY = "crates/c_api/src/lib.rt", "refusals.txt", "refusals_by_function.txt"
+OWN, RT = "crates/c_api/src/lib.rt", "crates/c_api_c/src/lib.rt"
+LIST, BY = "refusals.txt", "refusals_by_function.txt"
+
+EXPORT, HALF = "#[unsafe(no_mangle)]", 'pub extern "C" fn vrk_half'
 
 # What is wrong: the file, a place in it, what stands there instead, and the error.
 WRONG = {
-    "a slice of structs": (RT, "label: &[u8]", "label: &[VrkInner]", f"{RT}:25: vrk_sum's 'label' is of the unknown shape '&[Vrk"),
-    "a pointer": (RT, "scale: u32", "scale: *const u32", f"{RT}:26: vrk_sum's 'scale' is of the unknown shape '*const u32'"),
-    "a struct that is not C's": (RT, "given: VrkOuter, t", "given: Outer, t", f"{RT}:38: vrk_turn's 'given' is of the unknown"),
-    "a field of an unknown shape": (RT, "pub b: f64", "pub b: bool", f"{RT}:5: VrkInner's 'b' is of the unknown shape 'bool'"),
-    "an unknown result": (RT, "-> i64 {", "-> Option {", f"{RT}:47: vrk_nothing's result is of an unknown shape"),
-    "no result": (RT, "vrk_nothing() -> i64 {", "vrk_nothing() {", f"{RT}:47: vrk_nothing's result is of an unknown shape"),
-    "another prefix": (RT, "fn vrk_half", "fn half", f"{RT}:42: a function that is exported and cannot be read"),
-    "a function twice": (RT, "fn vrk_half", "fn vrk_turn", f"{RT}:42: vrk_turn is exported twice"),
-    "a parameter without a type": (RT, "x: f64)", "x)", f"{RT}:43: 'x' cannot be read"),
+    "a slice of structs": (RT, "label: &[u8]", "label: &[VrkInner]", f"{RT}:6: vrk_sum's 'label' is of the unknown shape '&[Vrk"),
+    "a pointer": (RT, "scale: u32", "scale: *const u32", f"{RT}:7: vrk_sum's 'scale' is of the unknown shape '*const u32'"),
+    "a struct that is not C's": (RT, "given: VrkOuter, t", "given: Outer, t", f"{RT}:19: vrk_turn's 'given' is of the unknown"),
+    "a field of an unknown shape": (OWN, "pub b: f64", "pub b: bool", f"{OWN}:4: VrkInner's 'b' is of the unknown shape 'bool'"),
+    "an unknown result": (RT, "-> i64 {", "-> Option {", f"{RT}:28: vrk_nothing's result is of an unknown shape"),
+    "no result": (RT, "vrk_nothing() -> i64 {", "vrk_nothing() {", f"{RT}:28: vrk_nothing's result is of an unknown shape"),
+    "another prefix": (RT, "fn vrk_half", "fn half", f"{RT}:23: a function that is exported and cannot be read"),
+    "a function twice": (RT, "fn vrk_half", "fn vrk_turn", f"{RT}:23: vrk_turn is exported twice"),
+    "a mark of another form": (RT, f"{EXPORT}\n{HALF}", f"#[no_mangle]\n{HALF}", f"{RT}:23: a function that is exported and"),
+    "a function that is not exported": (RT, f"{EXPORT}\n{HALF}", HALF, f"{OWN}:39: vrk_half is not exported"),
+    "a parameter without a type": (RT, "x: f64)", "x)", f"{RT}:24: 'x' cannot be read"),
     "no words": (LIST, "   it's too short", "", f"{LIST}:2: refusal 1 has no words"),
     "one place twice": (LIST, "40  30", "40  20", f"{LIST}:4: the place '20' is refusal 1's already"),
     "one number twice": (LIST, "40  30", "7   30", f"{LIST}:4: the number '7' is refusal 7's already"),

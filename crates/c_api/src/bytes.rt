@@ -4,10 +4,10 @@ ghost use Rattle.scales.specs.Meaning.{wrote, count_slip};
 ghost use Rattle.layout_fields.specs.Goce.{read as goce_read, write as goce_write};
 ghost use Rattle.layout_fields.specs.Obet.{read as obet_read, write as obet_write};
 ghost use Rattle.layout_fields.specs.Sbt.{read as sbt_read, write as sbt_write};
-ghost use Rattle.layout_times.specs.Cuc.{read as cuc_read, writing as cucWriting};
-ghost use Rattle.layout_times.specs.Cryosat.{read as cryosat_read, writing as cryosatWriting};
-ghost use Rattle.layout_times.specs.Siral.{read as siral_read, writing as siralWriting};
-ghost use Rattle.layout_times.specs.Proteus.{read as proteus_read, writing as proteusWriting};
+ghost use Rattle.layout_times.specs.Cuc.{read as cuc_read, writing as cuc_writing};
+ghost use Rattle.layout_times.specs.Cryosat.{read as cryosat_read, writing as cryosat_writing};
+ghost use Rattle.layout_times.specs.Siral.{read as siral_read, writing as siral_writing};
+ghost use Rattle.layout_times.specs.Proteus.{read as proteus_read, writing as proteus_writing};
 ghost use Rattle.c_api.specs.Meaning.{time_out, count_out};
 ghost use Rattle.c_api.specs.Bytes.{wrote_of, writes, handed_writing, writing_of};
 
@@ -124,21 +124,21 @@ fn write_as(layout: Layout, time: VrkHanded, out: &mut [u8]) -> VrkWritten
 
 #[unsafe(no_mangle)]
 pub extern "C" fn vrk_cuc_write(time: VrkHanded, out: &mut [u8]) -> VrkWritten
-    ensures { wrote_of result out.new ≡ writes (handed_writing cucWriting time) out.old }
+    ensures { wrote_of result out.new ≡ writes (handed_writing cuc_writing time) out.old }
 {
     write_as(Layout::Cuc, time, out)
 }
 
 #[unsafe(no_mangle)]
 pub extern "C" fn vrk_cryosat_write(time: VrkHanded, out: &mut [u8]) -> VrkWritten
-    ensures { wrote_of result out.new ≡ writes (handed_writing cryosatWriting time) out.old }
+    ensures { wrote_of result out.new ≡ writes (handed_writing cryosat_writing time) out.old }
 {
     write_as(Layout::Cryosat, time, out)
 }
 
 #[unsafe(no_mangle)]
 pub extern "C" fn vrk_siral_write(time: VrkHanded, out: &mut [u8]) -> VrkWritten
-    ensures { wrote_of result out.new ≡ writes (handed_writing siralWriting time) out.old }
+    ensures { wrote_of result out.new ≡ writes (handed_writing siral_writing time) out.old }
 {
     write_as(Layout::Siral, time, out)
 }
@@ -173,7 +173,7 @@ pub extern "C" fn vrk_proteus_read(bytes: &[u8]) -> VrkTime
 
 #[unsafe(no_mangle)]
 pub extern "C" fn vrk_proteus_write(time: VrkHanded, out: &mut [u8]) -> VrkWritten
-    ensures { wrote_of result out.new ≡ writes (handed_writing proteusWriting time) out.old }
+    ensures { wrote_of result out.new ≡ writes (handed_writing proteus_writing time) out.old }
 {
     write_as(Layout::Proteus, time, out)
 }

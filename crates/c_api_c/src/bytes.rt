@@ -3,10 +3,10 @@ ghost use Rattle.std.specs.Prelude.{◌≡◌};
 ghost use Rattle.layout_fields.specs.Goce.{read as goce_read, write as goce_write};
 ghost use Rattle.layout_fields.specs.Obet.{read as obet_read, write as obet_write};
 ghost use Rattle.layout_fields.specs.Sbt.{read as sbt_read, write as sbt_write};
-ghost use Rattle.layout_times.specs.Cuc.{read as cuc_read, writing as cucWriting};
-ghost use Rattle.layout_times.specs.Cryosat.{read as cryosat_read, writing as cryosatWriting};
-ghost use Rattle.layout_times.specs.Siral.{read as siral_read, writing as siralWriting};
-ghost use Rattle.layout_times.specs.Proteus.{read as proteus_read, writing as proteusWriting};
+ghost use Rattle.layout_times.specs.Cuc.{read as cuc_read, writing as cuc_writing};
+ghost use Rattle.layout_times.specs.Cryosat.{read as cryosat_read, writing as cryosat_writing};
+ghost use Rattle.layout_times.specs.Siral.{read as siral_read, writing as siral_writing};
+ghost use Rattle.layout_times.specs.Proteus.{read as proteus_read, writing as proteus_writing};
 ghost use Rattle.c_api.specs.Meaning.{time_out, count_out};
 ghost use Rattle.c_api.specs.Bytes.{wrote_of, writes, handed_writing};
 
@@ -57,21 +57,21 @@ pub extern "C" fn vrk_sbt_read(bytes: &[u8]) -> VrkCount
 
 #[unsafe(no_mangle)]
 pub extern "C" fn vrk_cuc_write(time: VrkHanded, out: &mut [u8]) -> VrkWritten
-    ensures { wrote_of result out.new ≡ writes (handed_writing cucWriting time) out.old }
+    ensures { wrote_of result out.new ≡ writes (handed_writing cuc_writing time) out.old }
 {
     c_api::bytes::vrk_cuc_write(time, out)
 }
 
 #[unsafe(no_mangle)]
 pub extern "C" fn vrk_cryosat_write(time: VrkHanded, out: &mut [u8]) -> VrkWritten
-    ensures { wrote_of result out.new ≡ writes (handed_writing cryosatWriting time) out.old }
+    ensures { wrote_of result out.new ≡ writes (handed_writing cryosat_writing time) out.old }
 {
     c_api::bytes::vrk_cryosat_write(time, out)
 }
 
 #[unsafe(no_mangle)]
 pub extern "C" fn vrk_siral_write(time: VrkHanded, out: &mut [u8]) -> VrkWritten
-    ensures { wrote_of result out.new ≡ writes (handed_writing siralWriting time) out.old }
+    ensures { wrote_of result out.new ≡ writes (handed_writing siral_writing time) out.old }
 {
     c_api::bytes::vrk_siral_write(time, out)
 }
@@ -106,7 +106,7 @@ pub extern "C" fn vrk_proteus_read(bytes: &[u8]) -> VrkTime
 
 #[unsafe(no_mangle)]
 pub extern "C" fn vrk_proteus_write(time: VrkHanded, out: &mut [u8]) -> VrkWritten
-    ensures { wrote_of result out.new ≡ writes (handed_writing proteusWriting time) out.old }
+    ensures { wrote_of result out.new ≡ writes (handed_writing proteus_writing time) out.old }
 {
     c_api::bytes::vrk_proteus_write(time, out)
 }

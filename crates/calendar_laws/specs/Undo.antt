@@ -1,5 +1,5 @@
 -- The date of a day and the day of a date undo each other. Assumes nothing.
-use Rattle.std.specs.Prelude.{◌≡◌, refl, true, ℕ, ◌+◌, ◌-◌, ◌<◌, ◌≤◌, ℤ, pos}
+use Rattle.std.specs.Prelude.{◌≡◌, refl, true, ℕ, ◌+◌, ◌-◌, ℤ, pos}
 use Rattle.std.proofs.Common.{sym, ap, ◌∙◌, arith, lit<, lit≤, leb-true}
 use Rattle.std.specs.Int.Signed.{le_z}
 use Rattle.axis.specs.Meaning.{place_of_day, day_at}

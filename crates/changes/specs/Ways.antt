@@ -1,5 +1,5 @@
 -- The ways out of a change that uses a list: the list is judged before the time. Assumes nothing.
-use Rattle.std.specs.Prelude.{◌≡◌, refl, Bool, true, false, List, ℕ, ◌-◌, ℤ}
+use Rattle.std.specs.Prelude.{◌≡◌, refl, Bool, true, false, List, ℕ, ℤ}
 use Rattle.std.proofs.Common.{sym, ap, subst, ◌∙◌, arith}
 use Rattle.axis.specs.Meaning.{micros_at, Moment}
 use Rattle.scales.specs.Meaning.{and_then, Judged, given, refused, answer, outcome, Slip, dated, number_of}

@@ -217,6 +217,7 @@ module _ (accepted : Bool) (c : Clock) (r : ℕ) (based : accepted ≡ true → 
           let x = and_both (is_current s e c.day) (is_current s e d && is_current_at s ds os e z) g in
           let y = and_both (is_current s e d) (is_current_at s ds os e z) x.1 in
           early l a i (rw (y.0, n)) (rw (x.0, y.0, n) at p) o
+      told (later l (later a (later i (later f (later p (later g (later n (later o w)))))))) = elim w [ ]
 
   -- ---- and to the result's 9: the receipt's second is lacking
   pub nine_lacking : outcome (dating accepted c t d u ds os e) ≡ refused 9 → is_current c.scale e c.day ≡ true → is_current c.scale e d ≡ true → has_second c.scale ds d u ≡ false

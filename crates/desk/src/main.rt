@@ -4,7 +4,9 @@
 
 ghost use Rattle.std.specs.Prelude.{◌≤◌, length};
 
-use libc::{STDERR_FILENO, STDIN_FILENO, STDOUT_FILENO};
+use std::env::{Env, FillError};
+use std::io::{ErrorKind, Read, Write};
+use std::{io, str};
 
 // The bytes of a line that has begun, kept at the front of the block, and whether to go on.
 #[derive(Clone, Copy)]
@@ -20,14 +22,26 @@ struct Printed {
     failed: bool,
 }
 
-fn print(part: &[u8], out: &mut [u8]) -> Printed
+// Tells what failed, and why in the system's words, without the number that std puts behind them.
+fn fail(rt: &impl Eprint, what: &str, error: io::Error) {
+    let mut text = [0u8; 128];
+    let mut room = &mut text[..];
+    let _ = write!(room, "{error}");
+    let n = 128 - room.len().min(128);
+    let told = str::from_utf8(&text[..n]).unwrap_or("");
+    let why = told
+        .split_once(" (os error ")
+        .map_or(told, |(words, _)| words);
+    let _ = eprintln!(rt; "{what}: {why}");
+}
+
+fn print<R: Print + Eprint>(rt: &R, part: &[u8], out: &mut [u8]) -> Printed
     ensures { result.dated ≤ length part.now }
 {
     let p = lines::date_lines(part, out);
     let written = p.written;
-    let is_written = io::write_all(STDOUT_FILENO, &out[..written]);
-    if !is_written {
-        os::fail(b"desk: write");
+    if let Err(error) = rt.write_all(&out[..written]) {
+        fail(rt, "desk: write", error);
         return Printed {
             dated: 0,
             failed: true,
@@ -40,10 +54,10 @@ fn print(part: &[u8], out: &mut [u8]) -> Printed
 }
 
 // All whole lines of a part, as many at a time as find room.
-fn print_all(part: &[u8], out: &mut [u8]) -> Printed {
+fn print_all<R: Print + Eprint>(rt: &R, part: &[u8], out: &mut [u8]) -> Printed {
     let mut dated = 0;
     while dated < part.len() {
-        let p = print(&part[dated..], out);
+        let p = print(rt, &part[dated..], out);
         if p.dated == 0 {
             return Printed {
                 dated,
@@ -59,11 +73,11 @@ fn print_all(part: &[u8], out: &mut [u8]) -> Printed {
 }
 
 // Prints the whole lines of the first n bytes, and keeps the line that has begun behind them.
-fn print_lines(block: &mut [u8], n: usize, out: &mut [u8]) -> Turn
+fn print_lines<R: Print + Eprint>(rt: &R, block: &mut [u8], n: usize, out: &mut [u8]) -> Turn
     requires { n ≤ length block.old }
     ensures { result.kept ≤ 32 }
 {
-    let p = print_all(&block[..n], out);
+    let p = print_all(rt, &block[..n], out);
     if p.failed {
         return Turn {
             kept: 0,
@@ -77,66 +91,77 @@ fn print_lines(block: &mut [u8], n: usize, out: &mut [u8]) -> Turn
 }
 
 // A last line without a newline counts.
-fn end(block: &mut [u8], kept: usize, out: &mut [u8])
+fn end<R: Print + Eprint>(rt: &R, block: &mut [u8], kept: usize, out: &mut [u8])
     requires kept_bound { kept ≤ 32 }
     requires in_bounds { 65536 ≤ length block.old }
 {
     if 0 < kept {
         block[kept] = b'\n';
-        print_lines(block, kept + 1, out);
+        print_lines(rt, block, kept + 1, out);
     }
 }
 
 // Reads behind the bytes that were kept.
-fn read_block(block: &mut [u8], kept: usize, out: &mut [u8]) -> Turn
+fn read_block<R: Print + Eprint, I: Read>(
+    rt: &R,
+    input: &mut I,
+    block: &mut [u8],
+    kept: usize,
+    out: &mut [u8],
+) -> Turn
     requires kept_bound { kept ≤ 32 }
     requires in_bounds { 65536 ≤ length block.old }
     ensures { result.kept ≤ 32 }
 {
-    let got = libc::read(STDIN_FILENO, &mut block[kept..]);
-    if got < 0 {
-        os::fail(b"desk: read");
-        return Turn {
-            kept: 0,
-            goes_on: false,
-        };
+    match input.read(&mut block[kept..]) {
+        Ok(0) => {
+            end(rt, block, kept, out);
+            Turn {
+                kept: 0,
+                goes_on: false,
+            }
+        }
+        Ok(got) => print_lines(rt, block, kept + got, out),
+        // A signal came before any byte did.
+        Err(error) if error.kind() == ErrorKind::Interrupted => Turn {
+            kept,
+            goes_on: true,
+        },
+        Err(error) => {
+            fail(rt, "desk: read", error);
+            Turn {
+                kept: 0,
+                goes_on: false,
+            }
+        }
     }
-    if got == 0 {
-        end(block, kept, out);
-        return Turn {
-            kept: 0,
-            goes_on: false,
-        };
-    }
-    let n = kept + io::count(got, &block[kept..]);
-    print_lines(block, n, out)
 }
 
-// A proved loop has to end: the turns count down from a number that no run uses up.
-fn run(block: &mut [u8], out: &mut [u8])
+// A proved loop has to end: the turns count up to a number that no run comes to.
+fn run<R: Print + Eprint, I: Read>(rt: &R, input: &mut I, block: &mut [u8], out: &mut [u8])
     requires { 65536 ≤ length block.old }
 {
-    let mut turns = u64::MAX;
     let mut kept = 0;
-    while turns > 0 {
-        let t = read_block(block, kept, out);
+    for _ in 0..u64::MAX {
+        let t = read_block(rt, input, block, kept, out);
         if !t.goes_on {
             return;
         }
         kept = t.kept;
-        turns -= 1;
     }
 }
 
-fn main() {
-    if 1 < os::arg_count() {
-        io::write_all(
-            STDERR_FILENO,
-            b"usage: desk < LINES (it takes no arguments)\n",
-        );
+// Whether the program was started with a word behind its name.
+fn has_argument(rt: &HostRuntime) -> bool {
+    !matches!(rt.arg(1, &mut [0u8; 1]), Err(FillError::NotPresent))
+}
+
+fn main(rt: HostRuntime) {
+    if has_argument(&rt) {
+        let _ = eprintln!(rt; "usage: desk < LINES (it takes no arguments)");
         return;
     }
-    let mut block = io::large_buffer();
-    let mut out = io::large_buffer();
-    run(&mut block, &mut out);
+    let mut block = [0u8; 65536];
+    let mut out = [0u8; 65536];
+    run(&rt, &mut rt.stdin(), &mut block, &mut out);
 }

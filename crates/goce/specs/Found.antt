@@ -1,7 +1,7 @@
 -- What the code finds, and the meanings by it: one law for each way out of `date` and of `count_of`. Assumes nothing.
 use Rattle.std.specs.Prelude.{◌≡◌, Bool, true, false, cond, List, ℕ, ◌+◌, ◌*◌, ◌/◌, ◌≤◌, ◌<◌, ℤ}
 use Rattle.std.proofs.Math.Path.{refl, ap}
-use Rattle.std.proofs.Common.{sym, ap₂, ◌∙◌, arith, mul-le-mul, lit<, lit≤, lt-ltb, le-ltb}
+use Rattle.std.proofs.Common.{sym, ◌∙◌, arith, mul-le-mul, lit<, lit≤, lt-ltb, le-ltb}
 use Rattle.axis.specs.Meaning.{day_at, micros_at, floor_z, Moment}
 use Rattle.axis.specs.Diff.{sub_floor}
 use Rattle.scales.specs.Meaning.{dated, remark, refused, answer, Outcome, outcome, valued}

@@ -72,7 +72,7 @@ module _ (b : ℕ) (h : b < 100000) where
       let y : o + 1 ≡ p = sym (eqb-true p (o + 1) cc'.0) in
       let a : s < t = ltb-true s t (sym (day_lt s t) ∙ ap (λ (z : ℤ). lt_z (day_at s) z) q ∙ rr.0) in
       let k : t ≤ b = leb-true t b (sym (day_to b d h) ∙ nn.0) in
-      let w = grow cs ps (more t g a k) (ap (λ (z : ℤ). rises_from z cs) q ∙ rr.1) ff.1 (ap (λ (z : ℕ). counts_from z ps) y ∙ cc'.1) nn.1 (omega arith) in
+      let w = grow {ds = ds ++ day_at t ∷ []} {os = os ++ (o + 1) ∷ []} {s = t} {o = o + 1} cs ps (more t g a k) (ap (λ (z : ℤ). rises_from z cs) q ∙ rr.1) ff.1 (ap (λ (z : ℕ). counts_from z ps) y ∙ cc'.1) nn.1 (omega arith) in
       let x : (ds ++ day_at t ∷ []) ++ cs ≡ ds ++ (d ∷ cs) = append_assoc ds (day_at t ∷ []) cs ∙ ap (λ (z : ℤ). ds ++ (z ∷ cs)) q in
       let v : (os ++ (o + 1) ∷ []) ++ ps ≡ os ++ (p ∷ ps) = append_assoc os ((o + 1) ∷ []) ps ∙ ap (λ (z : ℕ). os ++ (z ∷ ps)) y in
       record {

@@ -1,7 +1,7 @@
 -- Runs by their bytes, and what is handed back of them, computed. Assumes nothing.
 use mathlib.Core.Path.{◌≡◌, refl}
 use mathlib.Core.List.{List, [], ◌∷◌, ◌++◌}
-use Prim.Native.Nat.{ℕ, ◌+◌}
+use Prim.Native.Nat.{ℕ}
 use lib.IntN.{ℤ, pos}
 use Rattle.evidence.specs.ShutOut.{differ}
 use Rattle.octets.specs.Meaning.{number}

@@ -17,10 +17,10 @@ use Rattle.runs_laws.proofs.Cases.{packet, midnight, over, rolls, sevens, answer
 
 -- ---- a desk with totals, dates, a most and a test of the span of its own
 abbrev run_with : (ℕ → List Fields → List ℕ) → (List Fields → List ℕ → List ℕ) → ℕ → (List ℕ → Bool) → List ℕ → ℕ → List ℤ → Run
-run_with totalsBy datesBy most spans s told out =
+run_with totals_by dates_by most spans s told out =
     let fs = packets s in
-    let ts = totalsBy told fs in
-    let ds = datesBy fs ts in
+    let ts = totals_by told fs in
+    let ds = dates_by fs ts in
     ran (last_of told ts) out
     (outcome
     (given (eqb (length s % 10) 0) 1
@@ -31,7 +31,7 @@ run_with totalsBy datesBy most spans s told out =
     (gives (map pos ds))))))))
 
 abbrev totalled : (ℕ → List Fields → List ℕ) → List ℕ → ℕ → List ℤ → Run
-totalled totalsBy = run_with totalsBy dates_of 484848 (all is_in_span)
+totalled totals_by = run_with totals_by dates_of 484848 (all is_in_span)
 
 -- every counter as it stands
 pub as_it_stands : ShutOut (siral rolls 0 sevens) (answered_as 3 65551 (pos 86400135165 ∷ pos 86400135198 ∷ pos 86400135198 ∷ pos 7 ∷ []))

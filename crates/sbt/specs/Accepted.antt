@@ -1,5 +1,5 @@
 -- The tests of acceptance, one after the other, and what they tell together. Assumes nothing.
-use Rattle.std.specs.Prelude.{◌≡◌, true, List, ℕ, ◌-◌, ◌*◌, ◌≤◌, ◌<◌, leb, ltb, ℤ, pos, ◌*ℤ◌}
+use Rattle.std.specs.Prelude.{◌≡◌, true, List, ℕ, ◌*◌, ◌≤◌, ◌<◌, leb, ltb, ℤ, pos, ◌*ℤ◌}
 use Rattle.std.proofs.Common.{ap, ◌∙◌, arith, lit<}
 use borrow.Author.Tests.{leb-true, ltb-true, le-leb, lt-leb}
 use Rattle.axis.specs.Meaning.{day_micros}

@@ -88,9 +88,9 @@ same_typed s (no f) (some m) e = absurd (no_zero f (λ i. (e i).number))
 same_typed s (no f) (no g) e = ap no (refusals f g (λ i. (e i).number))
 
 -- ---- an answer that is made of its reply is known by its slip, whatever the slip shows of the reply
-module _ {A X Y : Type 0} (slipOf : Reply A → Y) (one : (a b : Reply A) → slipOf a ≡ slipOf b → a ≡ b)
+module _ {A X Y : Type 0} (slip_of : Reply A → Y) (one : (a b : Reply A) → slip_of a ≡ slip_of b → a ≡ b)
     (reply : X → Reply A) (make : Reply A → X) (back : (x : X) → make (reply x) ≡ x) where
-  pub same_made : (x y : X) → slipOf (reply x) ≡ slipOf (reply y) → x ≡ y
+  pub same_made : (x y : X) → slip_of (reply x) ≡ slip_of (reply y) → x ≡ y
   same_made x y e = sym (back x) ∙ ap make (one (reply x) (reply y) e) ∙ back y
 
 pub same_reply : {A : Type 0} (z : A) (a b : Reply A) → value_slip z a ≡ value_slip z b → a ≡ b

@@ -60,7 +60,7 @@ next_at ws k before = cond (may_come ws k before) (CV.At (ends_of (correlation_a
 
 -- ---- a number of 64 bits as the code reads it
 pub word_read : (z : ℤ) → mag z < 9223372036854775808 → to_z w64 (of_z w64 z) ≡ z
-word_read z h = to_z-of_z (sfits_of h)
+word_read z h = to_z-of_z {w = w64} (sfits_of h)
 
 pub bits_read : (z : ℤ) (n : ℕ) → mag z < 9223372036854775808 → n ≡ bits_of (to_z w64 (of_z w64 z)) → n ≡ bits_of z
 bits_read z n h e = e ∙ ap bits_of (word_read z h)

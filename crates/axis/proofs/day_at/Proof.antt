@@ -6,7 +6,7 @@ use Rattle.axis.proofs.Cross.{less_fits, less_is}
 use Rattle.axis.proofs.day_at.Statement.{statement}
 use Rattle.axis.proofs.day_at.Tie as tie
 
-sub_result : tie.Need-overflow-sub-result
+sub_result : tie.Need-overflow_sub-result
 sub_result c = less_fits 39999 c.args.place (omega arith) (lit≤ tt)
 
 returns : tie.Need-returns

@@ -9,17 +9,17 @@ use Rattle.axis.proofs.Cross.{less_fits, less_is}
 use Rattle.axis.proofs.micros_at.Statement.{statement}
 use Rattle.axis.proofs.micros_at.Tie as tie
 
-returns : tie.Need-returns
+returns : tie.Need-returns-then-place-gt8640000000000000
 returns c =
-    let e : 8640000000000000 ≡ min c.before.args.place 8640000000000000 = omega arith in
+    let e : 8640000000000000 ≡ min c.args.place 8640000000000000 = omega arith in
     ap micros_at e
 
-sub_result : tie.Need-overflow-sub-result
-sub_result c = less_fits 3455999999999999 c.before.args.place (omega arith) (lit≤ tt)
+sub_result : tie.Need-overflow_sub-result
+sub_result c = less_fits 3455999999999999 c.args.place (omega arith) (lit≤ tt)
 
-returns_2 : tie.Need-returns-2
+returns_2 : tie.Need-returns
 returns_2 c =
-    let m = c.before.args.place in
+    let m = c.args.place in
     let e : m ≡ min m 8640000000000000 = omega arith in
     less_is 3455999999999999 m (omega arith) (lit≤ tt) ∙ ap micros_at e
 

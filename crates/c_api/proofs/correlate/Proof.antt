@@ -8,21 +8,21 @@ use borrow.Author.Rules.{rules}
 use Rattle.c_api.proofs.correlate.Statement.{statement}
 use Rattle.c_api.proofs.correlate.Tie as tie
 
-returns : tie.Need-returns
+returns : tie.Need-returns-in-Scale
 returns c =
-    let d = c.before.before in
-    let b = d.before.before in
-    let v = b.before.args.c in
-    correlate_known v (to_z w64 (of_z w64 v.day)) (to_z-of_z {w = w64} {z = v.day} (record { sfits = c.struct_told.given.1.1.0.1 }))
-    d.scale.given.0.0 (sym b.scale-named.ensures ∙ d.scale.given.1)
+    let d = c in
+    let b = d in
+    let v = b.args.c in
+    correlate_known v (to_z w64 (of_z w64 v.day)) (to_z-of_z {w = w64} {z = v.day} (record { sfits = c.struct_told-1.given.1.1.0.1 }))
+    d.in-Scale.scale (sym b.scale_named.ensures ∙ d.in-Scale.is)
 
-returns_2 : tie.Need-returns-2
+returns_2 : tie.Need-returns-in-Unknown
 returns_2 c =
     let d = c.before in
-    let b = d.before.before in
-    let v = b.before.args.c in
-    correlate_unknown v (to_z w64 (of_z w64 v.day)) (to_z-of_z {w = w64} {z = v.day} (record { sfits = c.struct-told2.given.1.1.0.1 }))
-    (sym b.scale-named.ensures ∙ d.enum_told.given.1)
+    let b = d.before in
+    let v = b.args.c in
+    correlate_unknown v (to_z w64 (of_z w64 v.day)) (to_z-of_z {w = w64} {z = v.day} (record { sfits = c.struct_told-in-Unknown-1.given.1.1.0.1 }))
+    (sym b.scale_named.ensures ∙ d.in-Unknown.is)
 
 pub correlate_spec : {M : Type 1} → statement M
 correlate_spec =

@@ -11,14 +11,14 @@ use borrow.Author.Rules.{rules}
 use Rattle.c_api.proofs.decimal_out.Statement.{statement}
 use Rattle.c_api.proofs.decimal_out.Tie as tie
 
-returns : tie.Need-returns
-returns c = sym (ap (λ (x : Decimal). decimal_out (decimal_slip x)) c.before.d.given.1)
+returns : tie.Need-returns-in-Day
+returns c = sym (ap (λ (x : Decimal). decimal_out (decimal_slip x)) c.in-Day.is)
 
-returns_2 : tie.Need-returns-2
+returns_2 : tie.Need-returns-in-Refused
 unfolding of_bits
 returns_2 c =
     ap {B = VrkDecimal} (λ (n : ℕ). record { refusal = n; day = plus_zero }) c.number.ensures
-    ∙ sym (ap (λ (x : Decimal). decimal_out (decimal_slip x)) c.before.before.d2.given.1)
+    ∙ sym (ap (λ (x : Decimal). decimal_out (decimal_slip x)) c.in-Refused.is)
 
 pub decimal_out_spec : {M : Type 1} → statement M
 decimal_out_spec =

@@ -10,41 +10,33 @@ use borrow.Author.Rules.{rules}
 use Rattle.c_api.proofs.hand.Statement.{statement}
 use Rattle.c_api.proofs.hand.Tie as tie
 
-returns : tie.Need-returns
-returns c = let b = c.before.before in
-    hand_scale b.before.args.h (sym b.scale-named.ensures ∙ c.enum_told.given.1)
+returns : tie.Need-returns-in_default
+returns c = let b = c.before in
+    hand_scale b.args.h (sym b.scale_named.ensures ∙ c.in_default.is)
 
-returns_2 : tie.Need-returns-2
+returns_2 : tie.Need-returns-in-0
 returns_2 c =
     let t = c.before in
     let i = t.before in
-    let d = i.before.before in
-    let b = d.before.before in
-    let h = b.before.args.h in
-    let s = d.scale.given.0.0 in
+    let d = i in
+    let b = d in
+    let h = b.args.h in
+    let s = d.in-Scale.scale in
     c.hand_record.ensures
-    ∙ ap (λ (z : ℤ). record_given s z h.micro h.mark h.source) (to_z-of_z {w = w64} {z = h.day} (record { sfits = t.struct_told.given.1.1.0.1 }))
-    ∙ hand_record h s (sym b.scale-named.ensures ∙ d.scale.given.1) i.match2.keys1
+    ∙ ap (λ (z : ℤ). record_given s z h.micro h.mark h.source) (to_z-of_z {w = w64} {z = h.day} (record { sfits = t.struct_told-1.given.1.1.0.1 }))
+    ∙ hand_record h s (sym b.scale_named.ensures ∙ d.in-Scale.is) i.in-0.is
 
-returns_3 : tie.Need-returns-3
+returns_3 : tie.Need-returns-in-1
 returns_3 c =
-    let d = c.before.before in
-    let b = d.before.before in
-    hand_decimal b.before.args.h d.scale.given.0.0 (sym b.scale-named.ensures ∙ d.scale.given.1) c.match2.keys2
+    let d = c in
+    let b = d in
+    hand_decimal b.args.h d.in-Scale.scale (sym b.scale_named.ensures ∙ d.in-Scale.is) c.in-1.is
 
-returns_4 : tie.Need-returns-4
-returns_4 c = let b = c.before.before.before.before in
-    hand_kind b.before.args.h (omega (arith, c.match2.rest))
+returns_4 : tie.Need-returns-in_default-kind
+returns_4 c = let b = c.before.before in
+    hand_kind b.args.h (omega (arith, c.in_default-kind.in_default-kind-own.rest))
 
 pub hand_spec : {M : Type 1} → statement M
 hand_spec =
     tie.close
-    (tie.spec
-    (λ c κs. search rules)
-    (λ c. search rules)
-    (λ c. search rules)
-    returns
-    (λ c κs. search rules)
-    returns_2
-    returns_3
-    returns_4)
+    (tie.spec (λ c κs. search rules) (λ c. search rules) (λ c. search rules) returns (λ c κs. search rules) returns_2 returns_3 returns_4)

@@ -9,13 +9,13 @@ use borrow.Author.Rules.{rules}
 use Rattle.c_api.proofs.tick_out.Statement.{statement}
 use Rattle.c_api.proofs.tick_out.Tie as tie
 
-returns : tie.Need-returns
-returns c = sym (ap (λ (x : Ticked). count_out (tick_slip x)) c.before.before.t.given.1)
+returns : tie.Need-returns-in-Tick
+returns c = sym (ap (λ (x : Ticked). count_out (tick_slip x)) c.in-Tick.is)
 
-returns_2 : tie.Need-returns-2
+returns_2 : tie.Need-returns-in-Refused
 returns_2 c =
     ap {B = VrkCount} (λ (n : ℕ). record { refusal = n; count = 0 }) c.number.ensures
-    ∙ sym (ap (λ (x : Ticked). count_out (tick_slip x)) c.before.before.t2.given.1)
+    ∙ sym (ap (λ (x : Ticked). count_out (tick_slip x)) c.in-Refused.is)
 
 pub tick_out_spec : {M : Type 1} → statement M
 tick_out_spec =

@@ -18,35 +18,25 @@ at : (r : Record) {s m x : ℕ} {z : ℤ} → s ≡ code_of r.scale → z ≡ r.
     record { refusal = 0; scale = s; day = z; micro = r.micro; mark = m; source = x } ≡ time_out (slip (D.At r))
 at r e f g k = rw (e, f, g, k)
 
-returns : tie.Need-returns
+returns : tie.Need-returns-in-At
 returns c =
     let x = c.before in
     let m = x.before in
     let k = m.before in
-    let d = k.before.before in
-    let r = d.d.given.0.0 in
-    at r k.code.ensures (to_z-of_z {w = w64} {z = r.day} (record { sfits = c.struct_told.given.1.0.1 })) m.mark_code.ensures x.mark-source.ensures
-    ∙ sym (ap (λ (v : Dated). time_out (slip v)) d.d.given.1)
+    let d = k in
+    let r = d.in-At.r in
+    at r k.code.ensures (to_z-of_z {w = w64} {z = r.day} (record { sfits = c.struct_told-1.given.1.0.1 })) m.mark_code.ensures x.mark_source.ensures
+    ∙ sym (ap (λ (v : Dated). time_out (slip v)) d.in-At.is)
 
-returns_2 : tie.Need-returns-2
+returns_2 : tie.Need-returns-in-Refused
 returns_2 c =
     let k = c.before in
     let n = k.before in
-    let d = n.before.before in
-    c.empty-out.ensures ∙ ap₂ empty_out n.number.ensures k.code2.ensures
-    ∙ sym (ap (λ (v : Dated). time_out (slip v)) d.d2.given.1)
+    let d = n in
+    c.empty_out.ensures ∙ ap₂ empty_out n.number.ensures k.code-in-Refused.ensures
+    ∙ sym (ap (λ (v : Dated). time_out (slip v)) d.in-Refused.is)
 
 pub time_out_spec : {M : Type 1} → statement M
 time_out_spec =
     tie.close
-    (tie.spec
-    (λ c. search rules)
-    (λ c κs. search rules)
-    (λ c κs. search rules)
-    (λ c κs. search rules)
-    (λ c. search rules)
-    (λ c κs. search rules)
-    (λ c κs. search rules)
-    (λ c κs. search rules)
-    returns
-    returns_2)
+    (tie.spec (λ c. search rules) (λ c κs. search rules) (λ c κs. search rules) (λ c κs. search rules) (λ c. search rules) (λ c κs. search rules) (λ c κs. search rules) (λ c κs. search rules) returns returns_2)

@@ -14,10 +14,10 @@ returns c =
     let k = d.before in
     let s = k.before.before in
     let a = s.args in
-    c.time-out.ensures
+    c.time_out.ensures
     ∙ ap time_out
     (d.date.ensures
-    ∙ (λ i. date_of (k.correlate.ensures i) a.tick (to_z-of_z s.ranges.receipt-day i) a.receipt-micro a.days.now a.offsets.now (to_z-of_z s.ranges.last i)))
+    ∙ (λ i. date_of (k.correlate.ensures i) a.tick (to_z-of_z s.ranges.receipt_day i) a.receipt_micro a.days.now a.offsets.now (to_z-of_z s.ranges.last i)))
 
 pub vrk_sbt_date_spec : {M : Type 1} → statement M
 vrk_sbt_date_spec = tie.close (tie.spec (λ c κs. search rules) (λ c κs. search rules) (λ c κs. search rules) returns)

@@ -10,35 +10,27 @@ use borrow.Author.Rules.{rules}
 use Rattle.c_api.proofs.vrk_sbt_tick.Statement.{statement}
 use Rattle.c_api.proofs.vrk_sbt_tick.Tie as tie
 
-returns : tie.Need-returns
+returns : tie.Need-returns-in-Handed
 returns c =
     let t = c.before in
     let r = t.before in
-    let k = r.before.before in
-    let b = k.before.before in
-    let s = b.before.before in
+    let k = r in
+    let b = k in
+    let s = b in
     let a = s.args in
-    c.tick-out.ensures
+    c.tick_out.ensures
     ∙ ap count_out
-    (t.tick-of.ensures
-    ∙ ap₂ (λ (x : Correlation) (e : ℤ). tick_of x k.h.given.0.0 a.days.now a.offsets.now e) r.correlate.ensures (to_z-of_z s.ranges.last))
-    ∙ tick_known a.time a.correlation a.days.now a.offsets.now a.last k.h.given.0.0 (sym b.hand.ensures ∙ k.h.given.1)
+    (t.tick_of.ensures
+    ∙ ap₂ (λ (x : Correlation) (e : ℤ). tick_of x k.in-Handed.h a.days.now a.offsets.now e) r.correlate.ensures (to_z-of_z s.ranges.last))
+    ∙ tick_known a.time a.correlation a.days.now a.offsets.now a.last k.in-Handed.h (sym b.hand.ensures ∙ k.in-Handed.is)
 
-returns_2 : tie.Need-returns-2
+returns_2 : tie.Need-returns-in-Unknown
 returns_2 c =
-    let b = c.before.before in
-    let a = b.before.before.args in
-    tick_unknown a.time a.correlation a.days.now a.offsets.now a.last (sym b.hand.ensures ∙ c.enum_told.given.1)
+    let b = c.before in
+    let a = b.args in
+    tick_unknown a.time a.correlation a.days.now a.offsets.now a.last (sym b.hand.ensures ∙ c.in-Unknown.is)
 
 pub vrk_sbt_tick_spec : {M : Type 1} → statement M
 vrk_sbt_tick_spec =
     tie.close
-    (tie.spec
-    (λ c κs. search rules)
-    (λ c. search rules)
-    (λ c κs. search rules)
-    (λ c κs. search rules)
-    (λ c κs. search rules)
-    (λ c. search rules)
-    returns
-    returns_2)
+    (tie.spec (λ c κs. search rules) (λ c. search rules) (λ c κs. search rules) (λ c κs. search rules) (λ c κs. search rules) (λ c. search rules) returns returns_2)

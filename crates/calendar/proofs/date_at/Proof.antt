@@ -48,13 +48,13 @@ module _ (n y s : ℕ) (h : n < 46752) (p : y ≡ march_year n) (q : s ≡ scale
       let t : 3 ≤ m = omega (arith, (march_falls n).from, same) in
       found n h _ _ _ (rw (← month) (omega (arith, f, t))) (rw (← month) (month_soon y m f t l)) past
 
-returns : tie.Need-returns
+returns : tie.Need-returns-then-month-gt12
 returns c = let b = c.before in let a = b.before.before in
-    late a.args.n b.before.march-year.result b.scaled.result a.requires b.before.march-year.ensures b.scaled.ensures c.if1.true
+    late a.args.n b.march_year-year.result b.scaled-s.result a.requires b.march_year-year.ensures b.scaled-s.ensures c.if-month-gt12.true
 
-returns_2 : tie.Need-returns-2
+returns_2 : tie.Need-returns
 returns_2 c = let b = c.before in let a = b.before.before in
-    soon a.args.n b.before.march-year.result b.scaled.result a.requires b.before.march-year.ensures b.scaled.ensures c.if1.false
+    soon a.args.n b.march_year-year.result b.scaled-s.result a.requires b.march_year-year.ensures b.scaled-s.ensures c.if-month-gt12.false
 
 pub date_at_spec : {M : Type 1} → statement M
 date_at_spec =

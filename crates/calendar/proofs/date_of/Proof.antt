@@ -13,19 +13,19 @@ use Rattle.calendar.proofs.date_of.Statement.{statement}
 use Rattle.calendar.proofs.date_of.Tie as tie
 
 -- the callee read the day from its bits
-seen : (c : tie.After-place-of-day) → c.place-of-day.result ≡ place_of_day c.before.args.day
-seen c = c.place-of-day.ensures ∙ ap place_of_day (to_z-of_z c.before.ranges.day)
+seen : (c : tie.After-place_of_day-place) → c.place_of_day-place.result ≡ place_of_day c.args.day
+seen c = c.place_of_day-place.ensures ∙ ap place_of_day (to_z-of_z c.ranges.day)
 
-returns : tie.Need-returns
-returns c = let b = c.before in date_early b.before.args.day (omega (arith, seen b))
+returns : tie.Need-returns-then-place-lt29773
+returns c = let b = c.before in date_early b.args.day (omega (arith, seen b))
 
-returns_2 : tie.Need-returns-2
-returns_2 c = let b = c.before.before in date_late b.before.args.day (omega (arith, seen b))
+returns_2 : tie.Need-returns-then-place-gt76524
+returns_2 c = let b = c.before.before in date_late b.args.day (omega (arith, seen b))
 
-returns_3 : tie.Need-returns-3
+returns_3 : tie.Need-returns
 returns_3 c =
     let b = c.before.before.before in
-    let d = b.before.args.day in
+    let d = b.args.day in
     ap (λ (t : Date). date_handed (answer t))
     (c.date_at.ensures ∙ ap (λ (p : ℕ). date_at (walk 1536 0 (p - 29773))) (seen b))
     ∙ date_within d (omega (arith, seen b)) (omega (arith, seen b))

@@ -18,48 +18,48 @@ use Rattle.calendar.specs.Dates.{real, date_located, located_span}
 use Rattle.calendar.proofs.day_of.Statement.{statement}
 use Rattle.calendar.proofs.day_of.Tie as tie
 
-returns : tie.Need-returns
-returns c = let b = c.before in day_lacks b.before.args.date (sym b.is-date.ensures ∙ not-true b.is-date.result c.if1.true)
+returns : tie.Need-returns-then-not-is_date
+returns c = let b = c.before in day_lacks b.args.date (sym b.is_date.ensures ∙ not-true b.is_date.result c.if-not-is_date.true-raw)
 
-is_real : (c : tie.Else1) → is_date c.before.before.args.date ≡ true
-is_real c = let b = c.before in sym b.is-date.ensures ∙ not-false b.is-date.result c.if1.false
+is_real : (c : tie.Else-not-is_date) → is_date c.args.date ≡ true
+is_real c = let b = c.before in sym b.is_date.ensures ∙ not-false b.is_date.result c.if-not-is_date.false-raw
 
-returns_2 : tie.Need-returns-2
-returns_2 c = let b = c.before in day_early b.before.before.args.date (is_real b) c.if2.true
+returns_2 : tie.Need-returns-then-y-lt1972
+returns_2 c = let b = c.before in day_early b.args.date (is_real b) c.if-y-lt1972.true
 
-returns_3 : tie.Need-returns-3
-returns_3 c = let b = c.before.before in day_late b.before.before.args.date (is_real b) c.if3.true
+returns_3 : tie.Need-returns-then-y-gt2099
+returns_3 c = let b = c.before.before in day_late b.args.date (is_real b) c.if-y-gt2099.true
 
-located : (c : tie.Else3) → let t = c.before.before.before.before.args.date in
+located : (c : tie.Else-y-gt2099) → let t = c.args.date in
     Located (days_to_date t) (months_to t.year t.month) (t.day - 1)
-located c = let b = c.before.before in let t = b.before.before.args.date in
-    date_located t (real t (is_real b)) c.before.if2.false c.if3.false
+located c = let b = c.before.before in let t = b.args.date in
+    date_located t (real t (is_real b)) c.if-y-lt1972.false c.if-y-gt2099.false
 
-days_to_requires : tie.Need-days-to-requires
+days_to_requires : tie.Need-days_to-requires
 days_to_requires c κs =
     let b = c.before.before in
-    let t = b.before.before.args.date in
+    let t = b.args.date in
     let r = real t (is_real b) in
-    (c.before.if2.false, c.if3.false, r.month_from, r.month_to, r.day_from, omega (arith, r.day_to, month_bounds t.year t.month))
+    (c.if-y-lt1972.false, c.if-y-gt2099.false, r.month_from, r.month_to, r.day_from, omega (arith, r.day_to, month_bounds t.year t.month))
 
-small : (c : tie.After-days-to) → c.days-to.result < 46752
-small c = let t = c.before.before.before.before.before.args.date in
-    omega (arith, c.days-to.ensures, located_span (days_to_date t) (months_to t.year t.month) (t.day - 1) (located c.before))
+small : (c : tie.After-days_to) → c.days_to.result < 46752
+small c = let t = c.args.date in
+    omega (arith, c.days_to.ensures, located_span (days_to_date t) (months_to t.year t.month) (t.day - 1) (located c.before))
 
-add_day_at : tie.Need-overflow-add-day-at
+add_day_at : tie.Need-overflow_add-days_to
 add_day_at c = omega (arith, small c)
 
-returns_4 : tie.Need-returns-4
+returns_4 : tie.Need-returns
 returns_4 c =
     let w = c.before in
     let e = w.before in
     let b = e.before.before in
-    let t = b.before.before.args.date in
+    let t = b.args.date in
     ap (λ (z : ℤ). day_handed (answer z))
-    (to_z-of_z {w = w64} {z = c.day_at.result} (record { sfits = c.day_at.type-inv })
+    (to_z-of_z {w = w64} {z = c.day_at.result} (record { sfits = c.day_at.type_inv })
     ∙ c.day_at.ensures
-    ∙ ap (λ (x : ℕ). day_at (x + 29773)) w.days-to.ensures)
-    ∙ day_within t (is_real b) e.before.if2.false e.if3.false
+    ∙ ap (λ (x : ℕ). day_at (x + 29773)) w.days_to.ensures)
+    ∙ day_within t (is_real b) e.if-y-lt1972.false e.if-y-gt2099.false
 
 pub day_of_spec : {M : Type 1} → statement M
 day_of_spec =

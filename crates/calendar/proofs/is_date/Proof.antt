@@ -6,26 +6,26 @@ use Rattle.calendar.specs.Meaning.{is_date}
 use Rattle.calendar.proofs.is_date.Statement.{statement}
 use Rattle.calendar.proofs.is_date.Tie as tie
 
-returns : tie.Need-returns
+returns : tie.Need-returns-then-y-gt9999
 unfolding is_date
-returns c = let t = c.before.args.date in rw (lt-leb t.year 9999 (omega arith))
+returns c = let t = c.args.date in rw (lt-leb t.year 9999 (omega arith))
 
-returns_2 : tie.Need-returns-2
+returns_2 : tie.Need-returns-then-m-lt1
 unfolding is_date
-returns_2 c = let t = c.before.before.args.date in rw (le-leb t.year 9999 (omega arith), lt-leb 1 t.month (omega arith))
+returns_2 c = let t = c.args.date in rw (le-leb t.year 9999 (omega arith), lt-leb 1 t.month (omega arith))
 
-returns_3 : tie.Need-returns-3
+returns_3 : tie.Need-returns-then-m-gt12
 unfolding is_date
-returns_3 c = let t = c.before.before.before.args.date in rw (le-leb t.year 9999 (omega arith), le-leb 1 t.month (omega arith), lt-leb t.month 12 (omega arith))
+returns_3 c = let t = c.args.date in rw (le-leb t.year 9999 (omega arith), le-leb 1 t.month (omega arith), lt-leb t.month 12 (omega arith))
 
-returns_4 : tie.Need-returns-4
+returns_4 : tie.Need-returns-then-d-lt1
 unfolding is_date
-returns_4 c = let t = c.before.before.before.before.args.date in rw (le-leb t.year 9999 (omega arith), le-leb 1 t.month (omega arith), le-leb t.month 12 (omega arith), lt-leb 1 t.day (omega arith))
+returns_4 c = let t = c.args.date in rw (le-leb t.year 9999 (omega arith), le-leb 1 t.month (omega arith), le-leb t.month 12 (omega arith), lt-leb 1 t.day (omega arith))
 
-returns_5 : tie.Need-returns-5
+returns_5 : tie.Need-returns
 unfolding is_date
-returns_5 c = let t = c.before.before.before.before.before.args.date in
-    rw (le-leb t.year 9999 (omega arith), le-leb 1 t.month (omega arith), le-leb t.month 12 (omega arith), le-leb 1 t.day (omega arith), c.month-length.ensures)
+returns_5 c = let t = c.args.date in
+    rw (le-leb t.year 9999 (omega arith), le-leb 1 t.month (omega arith), le-leb t.month 12 (omega arith), le-leb 1 t.day (omega arith), c.month_length.ensures)
 
 pub is_date_spec : {M : Type 1} → statement M
 is_date_spec =

@@ -10,27 +10,22 @@ use Rattle.calendar.proofs.is_first.Statement.{statement}
 use Rattle.calendar.proofs.is_first.Tie as tie
 
 -- the callee read the day from its bits
-seen : (c : tie.After-place-of-day) → c.place-of-day.result ≡ place_of_day c.before.args.day
-seen c = c.place-of-day.ensures ∙ ap place_of_day (to_z-of_z c.before.ranges.day)
+seen : (c : tie.After-place_of_day-place) → c.place_of_day-place.result ≡ place_of_day c.args.day
+seen c = c.place_of_day-place.ensures ∙ ap place_of_day (to_z-of_z c.ranges.day)
 
-returns : tie.Need-returns
-returns c = let b = c.before in sym (first_early b.before.args.day (omega (arith, seen b)))
+returns : tie.Need-returns-then-place-lt29773
+returns c = let b = c.before in sym (first_early b.args.day (omega (arith, seen b)))
 
-returns_2 : tie.Need-returns-2
-returns_2 c = let b = c.before.before in sym (first_late b.before.args.day (omega (arith, seen b)))
+returns_2 : tie.Need-returns-then-place-gt76525
+returns_2 c = let b = c.before.before in sym (first_late b.args.day (omega (arith, seen b)))
 
-is_first_requires : tie.Need-is-first-requires
-is_first_requires c κs = let b = c.before.before in (omega (arith, b.place-of-day.ensures), omega (arith, b.place-of-day.ensures))
+is_first_requires : tie.Need-is_first-requires
+is_first_requires c κs = let b = c.before.before in (omega (arith, b.place_of_day-place.ensures), omega (arith, b.place_of_day-place.ensures))
 
-returns_3 : tie.Need-returns-3
-returns_3 c = c.is_first.ensures ∙ ap is_first (to_z-of_z c.before.before.before.before.ranges.day)
+returns_3 : tie.Need-returns
+returns_3 c = c.is_first.ensures ∙ ap is_first (to_z-of_z c.ranges.day)
 
 pub is_first_spec : {M : Type 1} → statement M
 is_first_spec =
     tie.close
-    (tie.spec
-    (λ c κs. search rules)
-    returns
-    returns_2
-    is_first_requires
-    returns_3)
+    (tie.spec (λ c κs. search rules) returns returns_2 is_first_requires returns_3)

@@ -7,23 +7,23 @@ use Rattle.calendar.specs.Meaning.{month_length}
 use Rattle.calendar.proofs.month_length.Statement.{statement}
 use Rattle.calendar.proofs.month_length.Tie as tie
 
-returns : tie.Need-returns
+returns : tie.Need-returns-then-is_leap
 unfolding month_length
-returns c = rw (c.before.before.match.keys1, sym c.before.is-leap.ensures ∙ c.if1.true)
+returns c = rw (c.in-2.is, sym c.is_leap.ensures ∙ c.if-is_leap.true)
 
-returns_2 : tie.Need-returns-2
+returns_2 : tie.Need-returns-else-is_leap
 unfolding month_length
-returns_2 c = rw (c.before.before.match.keys1, sym c.before.is-leap.ensures ∙ c.if1.false)
+returns_2 c = rw (c.in-2.is, sym c.is_leap.ensures ∙ c.if-is_leap.false)
 
-returns_3 : tie.Need-returns-3
+returns_3 : tie.Need-returns-in-4
 unfolding month_length
-returns_3 c = ⊎_elim (λ h. rw h) (⊎_elim (λ h. rw h) (⊎_elim (λ h. rw h) (λ h. rw h))) c.match.keys2
+returns_3 c = ⊎_elim (λ h. rw h) (⊎_elim (λ h. rw h) (⊎_elim (λ h. rw h) (λ h. rw h))) c.in-4.is
 
-returns_4 : tie.Need-returns-4
+returns_4 : tie.Need-returns-in_default
 unfolding month_length
 returns_4 c =
-    let m = c.before.args.m in
-    let r = c.match.rest in
+    let m = c.args.m in
+    let r = c.in_default.in_default-own.rest in
     rw (
       ne_eqb m 2 r.0.1,
       ne_eqb m 4 (λ e. r.1 (inl e)),

@@ -7,18 +7,18 @@ use borrow.Author.Tests.{not-true, not-false}
 use Rattle.changes.proofs.by_list.Statement.{statement}
 use Rattle.changes.proofs.by_list.Tie as tie
 
-returns : tie.Need-returns
+returns : tie.Need-returns-then-not-is_accepted
 returns c =
     let b = c.before in
-    list_lacks (to_z-of_z b.before.before.ranges.last) (sym b.is_accepted.ensures ∙ not-true b.is_accepted.result c.if1.true)
+    list_lacks (to_z-of_z b.ranges.last) (sym b.is_accepted.ensures ∙ not-true b.is_accepted.result c.if-not-is_accepted.true-raw)
 
-from_time_requires : tie.Need-from-time-requires
-from_time_requires c κs = let b = c.before in λ h. sym b.is_accepted.ensures ∙ not-false b.is_accepted.result c.if1.false
+from_time_requires : tie.Need-from_time-requires
+from_time_requires c κs = let b = c.before in λ h. sym b.is_accepted.ensures ∙ not-false b.is_accepted.result c.if-not-is_accepted.false-raw
 
-returns_2 : tie.Need-returns-2
+returns_2 : tie.Need-returns
 returns_2 c =
     let b = c.before.before in
-    list_there (to_z-of_z b.before.before.ranges.last) (sym b.is_accepted.ensures ∙ not-false b.is_accepted.result c.before.if1.false) c.from-time.ensures
+    list_there (to_z-of_z b.ranges.last) (sym b.is_accepted.ensures ∙ not-false b.is_accepted.result c.if-not-is_accepted.false-raw) c.from_time.ensures
 
 pub by_list_spec : {M : Type 1} → statement M
 by_list_spec = tie.close (tie.spec (λ c κs. search rules) returns from_time_requires returns_2)

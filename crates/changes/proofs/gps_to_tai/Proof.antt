@@ -7,16 +7,16 @@ use borrow.Author.Rules.{rules}
 use Rattle.changes.proofs.gps_to_tai.Statement.{statement}
 use Rattle.changes.proofs.gps_to_tai.Tie as tie
 
-to_tai_requires : tie.Need-to-tai-requires
-to_tai_requires c κs = let k = c.before in way_held k.before.before.from-gps.ensures k.c.given.1
+to_tai_requires : tie.Need-to_tai-requires
+to_tai_requires c κs = let k = c in way_held k.from_gps.ensures k.in-At.is
 
-returns : tie.Need-returns
+returns : tie.Need-returns-in-At
 unfolding gps_to_tai
-returns c = let k = c.before.before in way_on k.before.before.from-gps.ensures S.Tai to_tai k.c.given.1 c.to_tai.ensures
+returns c = let k = c in way_on k.from_gps.ensures S.Tai to_tai k.in-At.is c.to_tai.ensures
 
-returns_2 : tie.Need-returns-2
+returns_2 : tie.Need-returns-in-Refused
 unfolding gps_to_tai
-returns_2 c = let k = c.before in way_out k.before.before.from-gps.ensures S.Tai to_tai k.f.given.1
+returns_2 c = let k = c in way_out k.from_gps.ensures S.Tai to_tai k.in-Refused.is
 
 pub gps_to_tai_spec : {M : Type 1} → statement M
 gps_to_tai_spec =

@@ -8,22 +8,22 @@ use borrow.Author.Rules.{rules}
 use Rattle.changes.proofs.gps_to_utc.Statement.{statement}
 use Rattle.changes.proofs.gps_to_utc.Tie as tie
 
-to_utc_requires : tie.Need-to-utc-requires
+to_utc_requires : tie.Need-to_utc-requires
 to_utc_requires c κs =
-    let k = c.before in
-    let w = k.before.before.by-list.ensures in
-    (far_on (list_held w k.c.given.1), list_known w k.c.given.1)
+    let k = c in
+    let w = k.by_list.ensures in
+    (far_on (list_held w k.in-At.is), list_known w k.in-At.is)
 
-returns : tie.Need-returns
+returns : tie.Need-returns-in-At
 unfolding gps_to_utc
 returns c =
-    let k = c.before.before in
-    let b = k.before.before in
-    list_on (to_z-of_z b.before.before.ranges.last) b.by-list.ensures S.Utc k.c.given.1 c.to-utc.ensures
+    let k = c in
+    let b = k in
+    list_on (to_z-of_z b.ranges.last) b.by_list.ensures S.Utc k.in-At.is c.to_utc.ensures
 
-returns_2 : tie.Need-returns-2
+returns_2 : tie.Need-returns-in-Refused
 unfolding gps_to_utc
-returns_2 c = let b = c.before.before.before in list_out (to_z-of_z b.before.before.ranges.last) b.by-list.ensures S.Utc c.before.f.given.1
+returns_2 c = let b = c.before in list_out (to_z-of_z b.ranges.last) b.by_list.ensures S.Utc c.in-Refused.is
 
 pub gps_to_utc_spec : {M : Type 1} → statement M
 gps_to_utc_spec =

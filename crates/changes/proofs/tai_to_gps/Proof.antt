@@ -7,16 +7,16 @@ use borrow.Author.Rules.{rules}
 use Rattle.changes.proofs.tai_to_gps.Statement.{statement}
 use Rattle.changes.proofs.tai_to_gps.Tie as tie
 
-to_gps_requires : tie.Need-to-gps-requires
-to_gps_requires c κs = let k = c.before in way_held k.before.before.from-tai.ensures k.c.given.1
+to_gps_requires : tie.Need-to_gps-requires
+to_gps_requires c κs = let k = c in way_held k.from_tai.ensures k.in-At.is
 
-returns : tie.Need-returns
+returns : tie.Need-returns-in-At
 unfolding tai_to_gps
-returns c = let k = c.before.before in way_on k.before.before.from-tai.ensures S.Gps to_gps k.c.given.1 c.to_gps.ensures
+returns c = let k = c in way_on k.from_tai.ensures S.Gps to_gps k.in-At.is c.to_gps.ensures
 
-returns_2 : tie.Need-returns-2
+returns_2 : tie.Need-returns-in-Refused
 unfolding tai_to_gps
-returns_2 c = let k = c.before in way_out k.before.before.from-tai.ensures S.Gps to_gps k.f.given.1
+returns_2 c = let k = c in way_out k.from_tai.ensures S.Gps to_gps k.in-Refused.is
 
 pub tai_to_gps_spec : {M : Type 1} → statement M
 tai_to_gps_spec =

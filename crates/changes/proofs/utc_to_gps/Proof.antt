@@ -7,19 +7,19 @@ use borrow.Author.Rules.{rules}
 use Rattle.changes.proofs.utc_to_gps.Statement.{statement}
 use Rattle.changes.proofs.utc_to_gps.Tie as tie
 
-to_gps_requires : tie.Need-to-gps-requires
-to_gps_requires c κs = let k = c.before in list_held k.before.before.by-list.ensures k.c.given.1
+to_gps_requires : tie.Need-to_gps-requires
+to_gps_requires c κs = let k = c in list_held k.by_list.ensures k.in-At.is
 
-returns : tie.Need-returns
+returns : tie.Need-returns-in-At
 unfolding utc_to_gps
 returns c =
-    let k = c.before.before in
-    let b = k.before.before in
-    list_on (to_z-of_z b.before.before.ranges.last) b.by-list.ensures S.Gps k.c.given.1 c.to_gps.ensures
+    let k = c in
+    let b = k in
+    list_on (to_z-of_z b.ranges.last) b.by_list.ensures S.Gps k.in-At.is c.to_gps.ensures
 
-returns_2 : tie.Need-returns-2
+returns_2 : tie.Need-returns-in-Refused
 unfolding utc_to_gps
-returns_2 c = let b = c.before.before.before in list_out (to_z-of_z b.before.before.ranges.last) b.by-list.ensures S.Gps c.before.f.given.1
+returns_2 c = let b = c.before in list_out (to_z-of_z b.ranges.last) b.by_list.ensures S.Gps c.in-Refused.is
 
 pub utc_to_gps_spec : {M : Type 1} → statement M
 utc_to_gps_spec =

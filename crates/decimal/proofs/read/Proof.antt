@@ -30,41 +30,30 @@ unfolding read_of
 at x s t r w e =
     ap (λ (y : Record). slip (D.At y)) (e ∙ told_record (H.Decimal x s) t w) ∙ sym (rw (w.finite, w.inside))
 
-returns : tie.Need-returns
+returns : tie.Need-returns-in-NotFinite
 returns c =
-    let b = c.before.before.before in
-    let a = b.before.args in
-    let g = c.before.s.given in
-    let k = told_nothing (H.Decimal a.day a.scale) b.take-decimal.result b.take-decimal.ensures g.0.0 g.1 in
-    nothing a.day a.scale g.0.0 k.0 k.1
+    let b = c.before in
+    let a = b.args in
+    let k = told_nothing (H.Decimal a.day a.scale) b.take_decimal.result b.take_decimal.ensures c.in-NotFinite.s c.in-NotFinite.is in
+    nothing a.day a.scale c.in-NotFinite.s k.0 k.1
 
-returns_2 : tie.Need-returns-2
+returns_2 : tie.Need-returns-in-Outside
 returns_2 c =
-    let b = c.before.before.before in
-    let a = b.before.args in
-    let g = c.before.s2.given in
-    let k = told_outside (H.Decimal a.day a.scale) b.take-decimal.result b.take-decimal.ensures g.0.0 g.1 in
-    outside a.day a.scale g.0.0 k.0 k.1 k.2
+    let b = c.before in
+    let a = b.args in
+    let k = told_outside (H.Decimal a.day a.scale) b.take_decimal.result b.take_decimal.ensures c.in-Outside.s c.in-Outside.is in
+    outside a.day a.scale c.in-Outside.s k.0 k.1 k.2
 
-returns_3 : tie.Need-returns-3
+returns_3 : tie.Need-returns-in-At
 returns_3 c =
-    let d = c.before.before in
-    let b = d.before.before in
-    let a = b.before.args in
-    let g = d.t.given in
-    at a.day a.scale g.0.0 c.to-record.result
-    (told_at (H.Decimal a.day a.scale) b.take-decimal.result b.take-decimal.ensures g.0.0 g.1)
-    c.to-record.ensures
+    let d = c in
+    let b = d in
+    let a = b.args in
+    at a.day a.scale d.in-At.t c.to_record.result
+    (told_at (H.Decimal a.day a.scale) b.take_decimal.result b.take_decimal.ensures d.in-At.t d.in-At.is)
+    c.to_record.ensures
 
 pub read_spec : {M : Type 1} → statement M
 read_spec =
     tie.close
-    (tie.spec
-    (λ c κs. search rules)
-    (λ c. search rules)
-    (λ c. search rules)
-    (λ c. search rules)
-    (λ c κs. search rules)
-    returns
-    returns_2
-    returns_3)
+    (tie.spec (λ c κs. search rules) (λ c. search rules) (λ c. search rules) (λ c. search rules) (λ c κs. search rules) returns returns_2 returns_3)

@@ -6,7 +6,7 @@ use Rattle.goce.proofs.ends_of.Statement.{statement}
 use Rattle.goce.proofs.ends_of.Tie as tie
 
 returns : tie.Need-returns
-returns c = ap₂ (λ (x y : ℕ). record { from = x; to = y }) c.before.time-at.ensures c.time-at2.ensures
+returns c = ap₂ (λ (x y : ℕ). record { from = x; to = y }) c.time_at.ensures c.time_at-2.ensures
 
 pub ends_of_spec : {M : Type 1} → statement M
 ends_of_spec =

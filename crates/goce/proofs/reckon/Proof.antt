@@ -7,24 +7,24 @@ use borrow.Author.Rules.{rules}
 use Rattle.goce.proofs.reckon.Statement.{statement}
 use Rattle.goce.proofs.reckon.Tie as tie
 
-in_window_requires : tie.Need-in-window-requires
-in_window_requires c κs = let p = c.before.requires.0 in (p.back_to, omega (arith, p.ahead_to))
+in_window_requires : tie.Need-in_window-inside-requires
+in_window_requires c κs = let p = c.requires.0 in (p.back_to, omega (arith, p.ahead_to))
 
-ends_of_requires : tie.Need-ends-of-requires
-ends_of_requires c κs = c.before.before.requires.0
+ends_of_requires : tie.Need-ends_of-ends-requires
+ends_of_requires c κs = c.requires.0
 
-time_at_requires : tie.Need-time-at-requires
-time_at_requires c κs = let n = c.before.before in (n.before.requires.0.based, omega (arith, n.count.ensures))
+time_at_requires : tie.Need-time_at-at-requires
+time_at_requires c κs = let n = c.before.before in (n.requires.0.based, omega (arith, n.count-k.ensures))
 
 returns : tie.Need-returns
 returns c =
     let v = c.before in
     let i = v.before in
     let n = i.before in
-    let a = n.before.args in
-    let x = i.in_window.ensures ∙ ap (window_at 140737488355328 a.c.back a.c.ahead) n.count.ensures in
-    let y = c.time-at.ensures ∙ ap (time_at a.s a.c.gradient) n.count.ensures in
-    λ j. record { inside = x j; ends = v.ends_of.ensures j; at = y j }
+    let a = n.args in
+    let x = i.in_window-inside.ensures ∙ ap (window_at 140737488355328 a.c.back a.c.ahead) n.count-k.ensures in
+    let y = c.time_at-at.ensures ∙ ap (time_at a.s a.c.gradient) n.count-k.ensures in
+    λ j. record { inside = x j; ends = v.ends_of-ends.ensures j; at = y j }
 
 pub reckon_spec : {M : Type 1} → statement M
 reckon_spec = tie.close (tie.spec (λ c κs. search rules) in_window_requires ends_of_requires time_at_requires returns)

@@ -15,65 +15,57 @@ use borrow.Author.Rules.{rules}
 use Rattle.goce.proofs.reference_of.Statement.{statement}
 use Rattle.goce.proofs.reference_of.Tie as tie
 
-abbrev given : tie.Else1 → Correlation
-given c = c.before.before.args.c
+abbrev given : tie.Else-not-in_limits → Correlation
+given c = c.args.c
 
-limited : (c : tie.Else1) → in_limits (given c) ≡ true
-limited c = sym c.before.in-limits.ensures ∙ not-false _ c.if1.false
+limited : (c : tie.Else-not-in_limits) → in_limits (given c) ≡ true
+limited c = sym c.in_limits.ensures ∙ not-false _ c.if-not-in_limits.false-raw
 
 -- the place of Offset
-offset_is : (c : tie.After-place-of-counts) → c.place-of-counts.result ≡ place_of_counts (given c.before.before).offset
+offset_is : (c : tie.After-place_of_counts-offset) → c.place_of_counts-offset.result ≡ place_of_counts (given c.before.before).offset
 offset_is c =
     let k = given c.before.before in
-    c.place-of-counts.ensures ∙ ap place_of_counts (to_z-of_z {w = w64} {z = k.offset} (record { sfits = c.before.struct_told.given.1.1.0.1 }))
+    c.place_of_counts-offset.ensures ∙ ap place_of_counts (to_z-of_z {w = w64} {z = k.offset} (record { sfits = c.struct_told-1.given.1.1.0.1 }))
 
-from : (c : tie.Else2) → 226486753689600 ≤ place_of_counts (given c.before.before.before).offset
-from c = omega (arith, c.if2.false, offset_is c.before)
+from : (c : tie.Else-offset-lt226486753689600) → 226486753689600 ≤ place_of_counts (given c.before.before.before).offset
+from c = omega (arith, c.if-offset-lt226486753689600.false, offset_is c.before)
 
-to : (c : tie.Else3) → place_of_counts (given c.before.before.before.before).offset ≤ 226498078310400
-to c = omega (arith, c.if3.false, offset_is c.before.before)
+to : (c : tie.Else-offset-gt226498078310400) → place_of_counts (given c.before.before.before.before).offset ≤ 226498078310400
+to c = omega (arith, c.if-offset-gt226498078310400.false, offset_is c.before.before)
 
-returns : tie.Need-returns
-returns c = let b = c.before in not_limited b.before.args.c (sym b.in-limits.ensures ∙ not-true _ c.if1.true)
+returns : tie.Need-returns-then-not-in_limits
+returns c = let b = c.before in not_limited b.args.c (sym b.in_limits.ensures ∙ not-true _ c.if-not-in_limits.true-raw)
 
-returns_2 : tie.Need-returns-2
+returns_2 : tie.Need-returns-then-offset-lt226486753689600
 returns_2 c =
     let e = c.before.before.before in
-    too_early (given e) (limited e) (omega (arith, c.if2.true, offset_is c.before))
+    too_early (given e) (limited e) (omega (arith, c.if-offset-lt226486753689600.true, offset_is c.before))
 
-returns_3 : tie.Need-returns-3
+returns_3 : tie.Need-returns-then-offset-gt226498078310400
 returns_3 c =
     let e = c.before.before.before.before in
-    too_late (given e) (limited e) (from c.before) (omega (arith, c.if3.true, offset_is c.before.before))
+    too_late (given e) (limited e) (from c.before) (omega (arith, c.if-offset-gt226498078310400.true, offset_is c.before.before))
 
-add_s : tie.Need-overflow-add-s
+add_s : tie.Need-overflow_add-s
 add_s c =
     let g = c.before in
     let e = g.before.before.before.before in
     omega (arith, utc_few (given e) (limited e), to g, offset_is g.before.before)
 
-returns_4 : tie.Need-returns-4
+returns_4 : tie.Need-returns-then-s-ge433308303360000
 returns_4 c =
     let g = c.before.before in
     let e = g.before.before.before.before in
-    past_span (given e) (limited e) (from g.before) (to g) (omega (arith, c.if4.true, offset_is g.before.before))
+    past_span (given e) (limited e) (from g.before) (to g) (omega (arith, c.if-s-ge433308303360000.true, offset_is g.before.before))
 
-returns_5 : tie.Need-returns-5
+returns_5 : tie.Need-returns
 returns_5 c =
     let g = c.before.before in
     let e = g.before.before.before.before in
     ap (λ (x : ℕ). P.At ((given e).utc0 + x)) (offset_is g.before.before)
-    ∙ reference_is (given e) (limited e) (from g.before) (to g) (omega (arith, c.if4.false, offset_is g.before.before))
+    ∙ reference_is (given e) (limited e) (from g.before) (to g) (omega (arith, c.if-s-ge433308303360000.false, offset_is g.before.before))
 
 pub reference_of_spec : {M : Type 1} → statement M
 reference_of_spec =
     tie.close
-    (tie.spec
-    (λ c κs. search rules)
-    returns
-    (λ c κs. search rules)
-    returns_2
-    returns_3
-    add_s
-    returns_4
-    returns_5)
+    (tie.spec (λ c κs. search rules) returns (λ c κs. search rules) returns_2 returns_3 add_s returns_4 returns_5)

@@ -10,10 +10,10 @@ use Rattle.handed.proofs.back_to.Statement.{statement}
 use Rattle.handed.proofs.back_to.Tie as tie
 
 -- the callee read the day from its bits
-seen : (c : tie.After-place-of-day) → c.place-of-day.result ≡ place_of_day c.before.args.day
-seen c = c.place-of-day.ensures ∙ ap place_of_day (to_z-of_z {w = w64} {z = c.before.args.day} c.before.ranges.day)
+seen : (c : tie.After-place_of_day) → c.place_of_day.result ≡ place_of_day c.args.day
+seen c = c.place_of_day.ensures ∙ ap place_of_day (to_z-of_z {w = w64} {z = c.args.day} c.ranges.day)
 
-sub_result : tie.Need-overflow-sub-result
+sub_result : tie.Need-overflow_sub-result
 sub_result c = omega (arith, seen c)
 
 returns : tie.Need-returns

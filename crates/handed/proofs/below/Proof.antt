@@ -7,14 +7,14 @@ use Rattle.handed.proofs.Product.{under_limit, limit_test}
 use Rattle.handed.proofs.below.Statement.{statement}
 use Rattle.handed.proofs.below.Tie as tie
 
-returns : tie.Need-returns
+returns : tie.Need-returns-then-sh-gt52
 returns c =
-    let a = c.before.args in
-    sym (lt-ltb a.q (a.limit * 2 ^ a.sh) (under_limit a.q a.sh a.limit c.before.requires.0 c.if1.true c.before.requires.1))
+    let a = c.args in
+    sym (lt-ltb a.q (a.limit * 2 ^ a.sh) (under_limit a.q a.sh a.limit c.requires.0 c.if-sh-gt52.true c.requires.1))
 
-returns_2 : tie.Need-returns-2
+returns_2 : tie.Need-returns
 returns_2 c =
-    let a = c.before.args in
+    let a = c.args in
     limit_test a.q a.sh a.limit
 
 pub below_spec : {M : Type 1} → statement M

@@ -10,16 +10,16 @@ use Rattle.handed.proofs.read_days.Statement.{statement}
 use Rattle.handed.proofs.read_days.Tie as tie
 use Rattle.handed.specs.Parts.{found}
 
-returns : tie.Need-returns
-returns c = sym (found_nothing c.before.args.first c.before.args.day (at_nan c.before.args.day c.if1.true))
+returns : tie.Need-returns-then-day
+returns c = sym (found_nothing c.args.first c.args.day (at_nan c.args.day c.if-day.true))
 
-float_to_bits_read_bits : tie.Need-float-to-bits-read-bits
-float_to_bits_read_bits c = no_nan c.before.args.day c.if1.false
+float_to_bits_read_bits : tie.Need-float_to_bits-day
+float_to_bits_read_bits c = no_nan c.args.day c.if-day.false
 
-returns_2 : tie.Need-returns-2
+returns_2 : tie.Need-returns
 returns_2 c =
     let z = c.before.before in
-    c.read-bits.ensures ∙ ap (λ (y : Float). found z.args.first y) (of_bits-to_bits binary64 z.args.day (subst T (sym z.well-formed.1.0.1) tt))
+    c.read_bits.ensures ∙ ap (λ (y : Float). found z.args.first y) (of_bits-to_bits binary64 z.args.day (subst T (sym z.well_formed.1.0.1) tt))
 
 pub read_days_spec : {M : Type 1} → statement M
 read_days_spec = tie.close (tie.spec returns float_to_bits_read_bits (λ c κs. search rules) returns_2)

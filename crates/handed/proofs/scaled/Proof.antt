@@ -11,7 +11,7 @@ use Rattle.handed.proofs.scaled.Tie as tie
 abbrev high : tie.Start → ℕ
 high c = c.args.q / 8388608 * 10546875 + (c.args.q % 8388608 * 10546875 + c.args.extra) / 8388608
 
-add_result : tie.Need-overflow-add-result
+add_result : tie.Need-overflow_add-result
 add_result c = omega (arith, shr_le (high c) c.args.v)
 
 returns : tie.Need-returns

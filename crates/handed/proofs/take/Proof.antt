@@ -6,19 +6,13 @@ use Rattle.handed.proofs.take.Statement.{statement}
 use Rattle.handed.proofs.take.Tie as tie
 use Rattle.handed.specs.Meaning.{Took}
 
-returns : tie.Need-returns
-returns c = subst (λ (h : Handed). Took h c.take-record.result) (sym c.before.before.h.given.1) c.take-record.ensures
+returns : tie.Need-returns-in-Record
+returns c = subst (λ (h : Handed). Took h c.take_record.result) (sym c.in-Record.is) c.take_record.ensures
 
-returns_2 : tie.Need-returns-2
-returns_2 c = subst (λ (h : Handed). Took h c.take-decimal.result) (sym c.before.before.h2.given.1) c.take-decimal.ensures
+returns_2 : tie.Need-returns-in-Decimal
+returns_2 c = subst (λ (h : Handed). Took h c.take_decimal.result) (sym c.in-Decimal.is) c.take_decimal.ensures
 
 pub take_spec : {M : Type 1} → statement M
 take_spec =
     tie.close
-    (tie.spec
-    (λ c. search rules)
-    (λ c κs. search rules)
-    (λ c. search rules)
-    (λ c κs. search rules)
-    returns
-    returns_2)
+    (tie.spec (λ c. search rules) (λ c κs. search rules) (λ c. search rules) (λ c κs. search rules) returns returns_2)

@@ -6,16 +6,15 @@ use borrow.Author.Rules.{rules}
 use Rattle.handed.proofs.take_record.Statement.{statement}
 use Rattle.handed.proofs.take_record.Tie as tie
 
-returns : tie.Need-returns
+returns : tie.Need-returns-in-At
 returns c =
-    let b = c.before.before.before in
-    record_at_lem b.before.args.r c.before.t.given.0.0 (sym (ap slip_timed c.before.t.given.1) ∙ b.to-time.ensures)
+    let b = c.before in
+    record_at_lem b.args.r c.in-At.t (sym (ap slip_timed c.in-At.is) ∙ b.to_time.ensures)
 
-returns_2 : tie.Need-returns-2
+returns_2 : tie.Need-returns-in-Refused
 returns_2 c =
-    let b = c.before.before.before in
-    let g = c.before.s.given in
-    record_out b.before.args.r g.0.0 g.0.1.0 (sym (ap slip_timed g.1) ∙ b.to-time.ensures)
+    let b = c.before in
+    record_out b.args.r c.in-Refused.field-0 c.in-Refused.s (sym (ap slip_timed c.in-Refused.is) ∙ b.to_time.ensures)
 
 pub take_record_spec : {M : Type 1} → statement M
 take_record_spec =

@@ -9,20 +9,20 @@ use Rattle.handed.proofs.time_of.Statement.{statement}
 use Rattle.handed.proofs.time_of.Tie as tie
 use Rattle.handed.specs.Parts.{time_of}
 
-returns : tie.Need-returns
+returns : tie.Need-returns-in-Tai
 returns c =
-    let a = c.before.before.args in
-    sym (ap (λ (s : Scale). time_of s a.n) c.enum_told.given.1 ∙ ap (time_at S.Tai) (div-add-mod' a.n 86400000000))
+    let a = c.args in
+    sym (ap (λ (s : Scale). time_of s a.n) c.in-Tai.is ∙ ap (time_at S.Tai) (div-add-mod' a.n 86400000000))
 
-returns_2 : tie.Need-returns-2
+returns_2 : tie.Need-returns-in-Utc
 returns_2 c =
-    let a = c.before.before.args in
-    sym (ap (λ (s : Scale). time_of s a.n) c.enum-told2.given.1)
+    let a = c.args in
+    sym (ap (λ (s : Scale). time_of s a.n) c.in-Utc.is)
 
-returns_3 : tie.Need-returns-3
+returns_3 : tie.Need-returns-in-Gps
 returns_3 c =
-    let a = c.before.before.args in
-    sym (ap (λ (s : Scale). time_of s a.n) c.enum-told3.given.1 ∙ ap (time_at S.Gps) (div-add-mod' a.n 86400000000))
+    let a = c.args in
+    sym (ap (λ (s : Scale). time_of s a.n) c.in-Gps.is ∙ ap (time_at S.Gps) (div-add-mod' a.n 86400000000))
 
 pub time_of_spec : {M : Type 1} → statement M
 time_of_spec =

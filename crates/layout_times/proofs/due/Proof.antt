@@ -9,53 +9,41 @@ use Rattle.layout_times.proofs.due.Statement.{statement}
 use Rattle.layout_times.proofs.due.Tie as tie
 
 -- the time that was taken, and the two codes
-told : (c : tie.After-t) → Told c.before.before.before.args.h c.t.given.0.0
-told c = let b = c.before.before in told_at b.before.args.h b.take.result b.take.ensures c.t.given.0.0 c.t.given.1
+told : (c : tie.In-At) → Told c.args.h c.in-At.t
+told c = let b = c in told_at b.args.h b.take.result b.take.ensures c.in-At.t c.in-At.is
 
-codes : (c : tie.After-code2) → let k = c.before.before.before.before in
-    (c.before.code.result ≡ code_of (time_scale k.t.given.0.0)) × (c.code2.result ≡ code_of k.before.before.before.args.scale)
-codes c = (c.before.code.ensures ∙ ap code_of c.before.before.scale.ensures, c.code2.ensures)
+codes : (c : tie.After-code-in-At) → let k = c in
+    (c.code.result ≡ code_of (time_scale k.in-At.t)) × (c.code-in-At.result ≡ code_of k.args.scale)
+codes c = (c.code.ensures ∙ ap code_of c.scale.ensures, c.code-in-At.ensures)
 
-returns : tie.Need-returns
+returns : tie.Need-returns-then-code
 returns c =
     let i = c.before.before in
-    let k = i.before.before.before.before in
-    let a = k.before.before.before.args in
+    let k = i in
+    let a = k.args in
     ap (λ (n : ℕ). value_slip 0 (some n)) c.count.ensures
-    ∙ due_at a.scale a.h k.t.given.0.0 (told k) (sym (codes i).0 ∙ c.before.if1.true ∙ (codes i).1)
+    ∙ due_at a.scale a.h k.in-At.t (told k.before.before.before) (sym (codes i).0 ∙ c.if-code.true ∙ (codes i).1)
 
-returns_2 : tie.Need-returns-2
+returns_2 : tie.Need-returns-in-NotFinite
 returns_2 c =
-    let b = c.before.before in
-    let a = b.before.args in
-    due_nothing a.scale a.h b.take.result b.take.ensures c.enum_told.given.0.0 c.enum_told.given.1
+    let b = c.before in
+    let a = b.args in
+    due_nothing a.scale a.h b.take.result b.take.ensures c.in-NotFinite.field-0 c.in-NotFinite.is
 
-returns_3 : tie.Need-returns-3
+returns_3 : tie.Need-returns-in-Outside
 returns_3 c =
-    let b = c.before.before in
-    let a = b.before.args in
-    due_outside a.scale a.h b.take.result b.take.ensures c.enum-told2.given.0.0 c.enum-told2.given.1
+    let b = c.before in
+    let a = b.args in
+    due_outside a.scale a.h b.take.result b.take.ensures c.in-Outside.field-0 c.in-Outside.is
 
-returns_4 : tie.Need-returns-4
+returns_4 : tie.Need-returns-else-code
 returns_4 c =
     let i = c.before in
-    let k = i.before.before.before.before in
-    let a = k.before.before.before.args in
-    due_other a.scale a.h k.t.given.0.0 (told k) (λ e. c.if1.false ((codes i).0 ∙ e ∙ sym (codes i).1))
+    let k = i in
+    let a = k.args in
+    due_other a.scale a.h k.in-At.t (told k.before.before.before) (λ e. c.if-code.false ((codes i).0 ∙ e ∙ sym (codes i).1))
 
 pub due_spec : {M : Type 1} → statement M
 due_spec =
     tie.close
-    (tie.spec
-    (λ c κs. search rules)
-    (λ c. search rules)
-    (λ c. search rules)
-    (λ c. search rules)
-    (λ c κs. search rules)
-    (λ c κs. search rules)
-    (λ c κs. search rules)
-    (λ c κs. search rules)
-    returns
-    returns_2
-    returns_3
-    returns_4)
+    (tie.spec (λ c κs. search rules) (λ c. search rules) (λ c. search rules) (λ c. search rules) (λ c κs. search rules) (λ c κs. search rules) (λ c κs. search rules) (λ c κs. search rules) returns returns_2 returns_3 returns_4)

@@ -15,11 +15,11 @@ returns : tie.Need-returns
 returns c =
     let n = c.before in
     let d = n.before in
-    let a = d.before.args in
+    let a = d.args in
     c.judged.ensures
     ∙ ap (λ (r : Record). spanned_as r.mark r.scale r.day r.micro) n.new.ensures
     ∙ ap (λ (z : ℤ). spanned a.scale z (a.n % 86400000000))
-    (to_z-of_z {w = w64} {z = d.day_at.result} (record { sfits = d.day_at.type-inv }) ∙ d.day_at.ensures ∙ sym (day_is a.from a.n))
+    (to_z-of_z {w = w64} {z = d.day_at-day.result} (record { sfits = d.day_at-day.type_inv }) ∙ d.day_at-day.ensures ∙ sym (day_is a.from a.n))
 
 pub since_spec : {M : Type 1} → statement M
 since_spec =

@@ -10,28 +10,21 @@ use borrow.Author.Rules.{rules}
 use Rattle.lines.proofs.date_lines.Statement.{statement}
 use Rattle.lines.proofs.date_lines.Tie as tie
 
-date_under_requires : tie.Need-date-under-requires
+date_under_requires : tie.Need-date_under-requires
 date_under_requires c κs =
     let o = c.before.before.before in
-    rw (o.before.published-days.ensures, o.published-offsets.ensures) published
+    rw (o.published_days-days.ensures, o.published_offsets-offsets.ensures) published
 
 returns : tie.Need-returns
 unfolding date_lines
 returns c =
     let u = c.before.before in
     let o = u.before.before.before.before in
-    let x = o.before.before.before.before.args in
-    u.date-under.ensures
-    ∙ ap₂ (λ (ds : List ℤ) (os : List ℕ). done_under ds os published_last x.input.now x.out.now) o.before.published-days.ensures o.published-offsets.ensures
+    let x = o.args in
+    u.date_under.ensures
+    ∙ ap₂ (λ (ds : List ℤ) (os : List ℕ). done_under ds os published_last x.input.now x.out.now) o.published_days-days.ensures o.published_offsets-offsets.ensures
 
 pub date_lines_spec : {M : Type 1} → statement M
 date_lines_spec =
     tie.close
-    (tie.spec
-    (λ c κs. search rules)
-    (λ c κs. search rules)
-    (λ c. search rules)
-    (λ c. search rules)
-    date_under_requires
-    (λ c. search rules)
-    returns)
+    (tie.spec (λ c κs. search rules) (λ c κs. search rules) (λ c. search rules) (λ c. search rules) date_under_requires (λ c. search rules) returns)

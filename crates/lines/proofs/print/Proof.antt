@@ -10,7 +10,7 @@ returns c =
     let w = c.before.before in
     let s = w.before.before.before in
     let x = s.args in
-    printed x.t.scale (record_moment x.t) x.out.now s.requires.1 w.write-record.result w.write-record.new.1.1.0 w.write-record.ensures
+    printed x.t.scale (record_moment x.t) x.out.now s.requires.1 w.write_record.result w.write_record.new.out w.write_record.ensures
 
 pub print_spec : {M : Type 1} → statement M
 print_spec = tie.close (tie.spec (λ c κs. search rules) (λ c. search rules) (λ c. search rules) returns)

@@ -15,44 +15,33 @@ use Rattle.octets.proofs.number_of.Tie as tie
 one_more : (s : List ℕ) (i : ℕ) → i < length s → number (take (i + 1) s) ≡ number (take i s) * 256 + get_or s i 0
 one_more s i h = rw (add-one, take-suc s i 0) (number_snoc (take i s) (get_or s i 0))
 
-abbrev invariant_loop : tie.invariant_loop
+abbrev invariant_loop : tie.invariant-loop-i
 invariant_loop s n₀ i₀ n i = (i ≤ length s) × (n ≡ word (take i s))
 
-abbrev decreases_loop : tie.decreases_loop
+abbrev decreases_loop : tie.decreases-loop-i
 decreases_loop s n₀ i₀ n i = length s - i
 
-loop_holds : tie.Need-loop-init invariant_loop decreases_loop
+loop_holds : tie.Need-loop-i-init invariant_loop decreases_loop
 unfolding number
 loop_holds c = (omega arith, omega arith)
 
-add_n : tie.Need-overflow-add-n invariant_loop decreases_loop
-add_n c = omega (arith, c.before.shared-slice-known2.given c.before.before.before.loop.i)
+add_n : tie.Need-overflow_add-n invariant_loop decreases_loop
+add_n c = omega (arith, c.shared_slice_known-in-loop-i-1.given c.loop-i.i)
 
-loop_again : tie.Need-loop-preserved invariant_loop decreases_loop
+loop_again : tie.Need-loop-i-preserved invariant_loop decreases_loop
 loop_again c =
-    let s = c.before.before.before.before.before.args.s.now in
-    let i = c.before.before.before.loop.i in
+    let s = c.args.s.now in
+    let i = c.loop-i.i in
     let h : i < length s = omega arith in
-    (omega arith, omega (arith, one_more s i h, c.before.shared-slice-known2.given i))
+    (omega arith, omega (arith, one_more s i h, c.shared_slice_known-in-loop-i-1.given i))
 
 returns : tie.Need-returns invariant_loop decreases_loop
 returns c =
-    let s = c.before.before.before.args.s.now in
-    let e : c.before.loop.i ≡ length s = omega arith in
-    c.before.loop.invariant.1 ∙ rw (e, take-length)
+    let s = c.args.s.now in
+    let e : c.loop-i.i ≡ length s = omega arith in
+    c.loop-i.invariant.1 ∙ rw (e, take-length)
 
 pub number_of_spec : {M : Type 1} → statement M
 number_of_spec =
     tie.close
-    (tie.spec
-    invariant_loop
-    decreases_loop
-    loop_holds
-    (λ c. omega arith)
-    (λ c. omega arith)
-    (λ c κs. search rules)
-    add_n
-    (λ c. omega arith)
-    (λ c. omega arith)
-    loop_again
-    returns)
+    (tie.spec invariant_loop decreases_loop loop_holds (λ c. omega arith) (λ c. omega arith) (λ c κs. search rules) add_n (λ c. omega arith) (λ c. omega arith) loop_again returns)

@@ -10,18 +10,11 @@ use Rattle.runs.proofs.packet.Tie as tie
 
 returns : tie.Need-returns
 returns c =
-    let a = c.before.before.before.args in
+    let a = c.args in
     let l : 10 * a.i + 10 - 10 * a.i ≡ 10 = omega arith in
     c.read.ensures ∙ ap (λ (m : ℕ). read (take m (drop (10 * a.i) a.bytes.now))) l
 
 pub packet_spec : {M : Type 1} → statement M
 packet_spec =
     tie.close
-    (tie.spec
-    (λ c. search rules)
-    (λ c. search rules)
-    (λ c. search rules)
-    (λ c. search rules)
-    (λ c. search rules)
-    (λ c κs. search rules)
-    returns)
+    (tie.spec (λ c. search rules) (λ c. search rules) (λ c. search rules) (λ c. search rules) (λ c. search rules) (λ c κs. search rules) returns)

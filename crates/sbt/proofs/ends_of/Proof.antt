@@ -22,10 +22,4 @@ returns c =
 pub ends_of_spec : {M : Type 1} → statement M
 ends_of_spec =
     tie.close
-    (tie.spec
-    (λ c. omega (arith, back_le c))
-    (λ c. omega (arith, back_le c))
-    (λ c. omega (arith, back_le c, c.requires.based.early))
-    (λ c. omega (arith, ahead_le c))
-    (λ c. omega (arith, ahead_le c, c.requires.based.late))
-    returns)
+    (tie.spec (λ c. omega (arith, back_le c)) (λ c. omega (arith, back_le c)) (λ c. omega (arith, back_le c, c.requires.based.early)) (λ c. omega (arith, ahead_le c)) (λ c. omega (arith, ahead_le c, c.requires.based.late)) returns)

@@ -17,23 +17,23 @@ use borrow.Author.Rules.{rules}
 use Rattle.sbt.proofs.last_of.Statement.{statement}
 use Rattle.sbt.proofs.last_of.Tie as tie
 
-abbrev entry : tie.After-is-utc → tie.Start
+abbrev entry : tie.After-is_utc → tie.Start
 entry c = c.before.before
 
-own : (c : tie.Else1) → is_utc (entry c.before).args.c.scale ≡ false
-own c = sym c.before.is_utc.ensures ∙ c.if1.false
+own : (c : tie.Else-is_utc) → is_utc (entry c.before).args.c.scale ≡ false
+own c = sym c.is_utc.ensures ∙ c.if-is_utc.false
 
-abbrev start : tie.After-known-told → tie.Else1
-start c = c.before.before.before.before
+abbrev start : tie.In-At → tie.Else-is_utc
+start c = c.before.before
 
-abbrev place : tie.After-known-told → ℕ
-place c = c.before.r.given.0.0
+abbrev place : tie.In-At → ℕ
+place c = c.in-At.r
 
 -- the reference's place, and what was found in the cover
-known_r : (c : tie.After-known-told) → place_of (entry (start c).before).args.c ≡ P.At (place c)
-known_r c = sym c.before.before.before.reference-of.ensures ∙ c.before.r.given.1
+known_r : (c : tie.In-At) → place_of (entry (start c).before).args.c ≡ P.At (place c)
+known_r c = sym c.reference_of.ensures ∙ c.in-At.is
 
-stands : (c : tie.After-known-told) → let a = (entry (start c).before).args in Standing a.c a.days.now a.offsets.now a.last (place c)
+stands : (c : tie.In-At) → let a = (entry (start c).before).args in Standing a.c a.days.now a.offsets.now a.last (place c)
 stands c =
     let a = (entry (start c).before).args in
     own_stands a.c a.days.now a.offsets.now a.last (own (start c)) (place c) (known_r c)
@@ -49,62 +49,50 @@ turned c =
     let i = own (start k) in
     let m = sym (current_own a.c.scale i ds os a.last a.c.day) in
     c.turn.ensures
-    ∙ covering_own_lem a.c.scale i ds os a.last (cover_of c.before.ends_of.result) a.h
-    ∙ (λ j. outcome (covering a.c.scale (m j) (cover_of (c.before.ends_of.ensures j)) a.h ds os a.last))
+    ∙ covering_own_lem a.c.scale i ds os a.last (cover_of c.ends_of-v.result) a.h
+    ∙ (λ j. outcome (covering a.c.scale (m j) (cover_of (c.ends_of-v.ensures j)) a.h ds os a.last))
 
-last_by_list_requires : tie.Need-last-by-list-requires
-last_by_list_requires c κs = sym c.before.is_utc.ensures ∙ c.if1.true
+last_by_list_requires : tie.Need-last_by_list-requires
+last_by_list_requires c κs = sym c.is_utc.ensures ∙ c.if-is_utc.true
 
-returns : tie.Need-returns
+returns : tie.Need-returns-then-is_utc
 returns c =
     let s = entry c.before.before in
     let a = s.args in
-    subst (λ (z : ℤ). Lasts a.c a.h a.days.now a.offsets.now z c.last-by-list.result) (to_z-of_z s.fits.last) c.last-by-list.ensures
+    subst (λ (z : ℤ). Lasts a.c a.h a.days.now a.offsets.now z c.last_by_list.result) (to_z-of_z s.ranges.last) c.last_by_list.ensures
 
-returns_2 : tie.Need-returns-2
+returns_2 : tie.Need-returns-in_default
 returns_2 c =
-    let b = c.before.before.before in
+    let b = c.before.before in
     let e = b.before in
     let a = (entry e.before).args in (
       omega arith,
       ap (λ (n : ℕ). valued 0 (refused n)) c.unaccepted.ensures
           ∙ tick_unaccepted a.c a.days.now a.offsets.now a.last (serves_it a.c a.days.now a.offsets.now a.last (own e))
-          (own_none a.c a.days.now a.offsets.now a.last (own e) (sym b.reference-of.ensures ∙ c.before.enum_told.given.1)) a.h,
+          (own_none a.c a.days.now a.offsets.now a.last (own e) (sym b.reference_of.ensures ∙ c.in_default.is)) a.h,
     )
 
-ends_of_requires : tie.Need-ends-of-requires
+ends_of_requires : tie.Need-ends_of-v-requires
 ends_of_requires c κs = (stands c).windowed
 
 turn_requires : tie.Need-turn-requires
 turn_requires c κs = own (start c.before)
 
-last_in_requires : tie.Need-last-in-requires
+last_in_requires : tie.Need-last_in-requires
 last_in_requires c κs =
     let k = c.before.before in
     let a = (entry (start k).before).args in
     reached a.c a.days.now a.offsets.now a.last (place k) (stands k) a.h c.turn.result (turned c)
 
-returns_3 : tie.Need-returns-3
+returns_3 : tie.Need-returns
 returns_3 c =
     let t = c.before in
     let k = t.before.before in
     let a = (entry (start k).before).args in
-    subst (Lasts a.c a.h a.days.now a.offsets.now a.last) (sym c.last-in.ensures)
+    subst (Lasts a.c a.h a.days.now a.offsets.now a.last) (sym c.last_in.ensures)
     (lasts a.c a.days.now a.offsets.now a.last (place k) (stands k) a.h t.turn.result (turned t))
 
 pub last_of_spec : {M : Type 1} → statement M
 last_of_spec =
     tie.close
-    (tie.spec
-    (λ c κs. search rules)
-    last_by_list_requires
-    returns
-    (λ c κs. search rules)
-    (λ c. search rules)
-    (λ c. search rules)
-    (λ c κs. search rules)
-    returns_2
-    ends_of_requires
-    turn_requires
-    last_in_requires
-    returns_3)
+    (tie.spec (λ c κs. search rules) last_by_list_requires returns (λ c κs. search rules) (λ c. search rules) (λ c. search rules) (λ c κs. search rules) returns_2 ends_of_requires turn_requires last_in_requires returns_3)

@@ -10,31 +10,31 @@ use borrow.Author.Rules.{rules}
 use Rattle.sbt.proofs.tick_of.Statement.{statement}
 use Rattle.sbt.proofs.tick_of.Tie as tie
 
-abbrev entry : tie.After-last-of → tie.Start
+abbrev entry : tie.After-last_of → tie.Start
 entry c = c.before.before
 
-lasts : (c : tie.After-last-of) → let a = (entry c).args in Lasts a.c a.h a.days.now a.offsets.now a.last c.last_of.result
+lasts : (c : tie.After-last_of) → let a = (entry c).args in Lasts a.c a.h a.days.now a.offsets.now a.last c.last_of.result
 lasts c =
     let s = entry c in
     let a = s.args in
-    subst (λ (z : ℤ). Lasts a.c a.h a.days.now a.offsets.now z c.last_of.result) (to_z-of_z s.fits.last) c.last_of.ensures
+    subst (λ (z : ℤ). Lasts a.c a.h a.days.now a.offsets.now z c.last_of.result) (to_z-of_z s.ranges.last) c.last_of.ensures
 
-tick_from_requires : tie.Need-tick-from-requires
-tick_from_requires c κs = let k = c.before in subst Few k.k.given.1 (lasts k.before.before).0
+tick_from_requires : tie.Need-tick_from-requires
+tick_from_requires c κs = let k = c in subst Few k.in-At.is (lasts k.before).0
 
-returns : tie.Need-returns
+returns : tie.Need-returns-in-At
 returns c =
-    let k = c.before.before in
-    let b = k.before.before in
-    let a = (entry b).args in
-    ap (λ (n : ℕ). valued 0 (answer n)) c.tick-from.ensures ∙ ap (ticked_as a.c.tick.0) (sym k.k.given.1) ∙ (lasts b).1
+    let k = c in
+    let b = k in
+    let a = (entry b.before.before).args in
+    ap (λ (n : ℕ). valued 0 (answer n)) c.tick_from.ensures ∙ ap (ticked_as a.c.tick.0) (sym k.in-At.is) ∙ (lasts b.before.before).1
 
-returns_2 : tie.Need-returns-2
+returns_2 : tie.Need-returns-in-Refused
 returns_2 c =
-    let f = c.before in
-    let b = f.before.before in
-    let a = (entry b).args in
-    ap (ticked_as a.c.tick.0) (sym f.f.given.1) ∙ (lasts b).1
+    let f = c in
+    let b = f in
+    let a = (entry b.before).args in
+    ap (ticked_as a.c.tick.0) (sym f.in-Refused.is) ∙ (lasts b.before).1
 
 pub tick_of_spec : {M : Type 1} → statement M
 tick_of_spec =

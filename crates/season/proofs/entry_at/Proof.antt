@@ -10,21 +10,11 @@ returns c =
     let u = c.before in
     let q = u.before in
     let t = q.before in
-    let x = t.turn.ensures ∙ ap turned t.before.part.ensures.is in
-    let y = u.turn2.ensures ∙ ap turned q.part2.ensures.is in
-    λ i. record { from = x i; to = y i; position = c.part3.ensures.is i }
+    let x = t.turn.ensures ∙ ap turned t.part.ensures.is in
+    let y = u.turn-2.ensures ∙ ap turned q.part-2.ensures.is in
+    λ i. record { from = x i; to = y i; position = c.part-3.ensures.is i }
 
 pub entry_at_spec : {M : Type 1} → statement M
 entry_at_spec =
     tie.close
-    (tie.spec
-    (λ c. search rules)
-    (λ c. search rules)
-    (λ c κs. search rules)
-    (λ c κs. search rules)
-    (λ c. search rules)
-    (λ c κs. search rules)
-    (λ c κs. search rules)
-    (λ c. search rules)
-    (λ c κs. search rules)
-    returns)
+    (tie.spec (λ c. search rules) (λ c. search rules) (λ c κs. search rules) (λ c κs. search rules) (λ c. search rules) (λ c κs. search rules) (λ c κs. search rules) (λ c. search rules) (λ c κs. search rules) returns)

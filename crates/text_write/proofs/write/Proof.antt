@@ -16,62 +16,52 @@ use Rattle.text_write.proofs.write.Statement.{statement}
 use Rattle.text_write.proofs.write.Tie as tie
 
 -- the record that was laid out
-laid : (c : tie.After-r) → LaidAt c.before.before.before.before.before.args.h c.r.given.0.0
+laid : (c : tie.In-At) → LaidAt c.args.h c.in-At.r
 laid c =
-    let l = c.before.before in
-    laid_at l.before.before.before.args.h l.lay.result l.lay.ensures c.r.given.0.0 c.r.given.1
+    let l = c in
+    laid_at l.args.h l.lay.result l.lay.ensures c.in-At.r c.in-At.is
 
-returns : tie.Need-returns
+returns : tie.Need-returns-then-lacks_list
 returns c =
     let k = c.before in
     let u = k.before in
-    let g = u.before.before in
-    let s = g.before.before.before.before.before in
+    let g = u in
+    let s = g in
     let x = s.args in
-    let r = g.r.given.0.0 in
+    let r = g.in-At.r in
     write_lacks r x.form x.days.now x.offsets.now x.last x.out.now
-    (sym (k.lacks-list.ensures ∙ ap₂ (λ (y : Bool) (z : ℤ). lacks_list y x.days.now x.offsets.now z) u.is_utc.ensures (to_z-of_z s.ranges.last)) ∙ c.if1.true)
-    ∙ write_laid r x.form x.days.now x.offsets.now x.last x.out.now x.h (laid g)
+    (sym (k.lacks_list.ensures ∙ ap₂ (λ (y : Bool) (z : ℤ). lacks_list y x.days.now x.offsets.now z) u.is_utc.ensures (to_z-of_z s.ranges.last)) ∙ c.if-lacks_list.true)
+    ∙ write_laid r x.form x.days.now x.offsets.now x.last x.out.now x.h (laid g.before)
 
-write_time_requires : tie.Need-write-time-requires
+write_time_requires : tie.Need-write_time-requires
 write_time_requires c κs =
     let e = c.before in
     let k = e.before in
     let u = k.before in
-    let x = u.before.before.before.before.before.before.before.args in
+    let x = u.args in
     λ h.
-    not_lacking u.is_utc.result (accepted x.days.now x.offsets.now (to_z w64 (of_z w64 x.last))) (sym k.lacks-list.ensures ∙ e.if1.false)
+    not_lacking u.is_utc.result (accepted x.days.now x.offsets.now (to_z w64 (of_z w64 x.last))) (sym k.lacks_list.ensures ∙ e.if-lacks_list.false)
     (u.is_utc.ensures ∙ h)
 
-returns_2 : tie.Need-returns-2
+returns_2 : tie.Need-returns-in-NotFinite
 returns_2 c =
-    let l = c.before.before in
-    let x = l.before.before.before.args in
+    let l = c.before in
+    let x = l.args in
     write_nothing x.h x.form x.days.now x.offsets.now x.last x.out.now
-    (laid_nothing x.h l.lay.result l.lay.ensures c.enum_told.given.0.0 c.enum_told.given.1).0
+    (laid_nothing x.h l.lay.result l.lay.ensures c.in-NotFinite.field-0 c.in-NotFinite.is).0
 
-returns_3 : tie.Need-returns-3
+returns_3 : tie.Need-returns-else-lacks_list
 returns_3 c =
     let w = c.before.before in
-    let g = w.before.before.before.before.before.before in
-    let s = g.before.before.before.before.before in
+    let g = w in
+    let s = g in
     let x = s.args in
-    let r = g.r.given.0.0 in
-    w.write-time.ensures
+    let r = g.in-At.r in
+    w.write_time.ensures
     ∙ ap (λ (z : ℤ). written_of r x.form x.days.now x.offsets.now z x.out.now) (to_z-of_z s.ranges.last)
-    ∙ write_laid r x.form x.days.now x.offsets.now x.last x.out.now x.h (laid g)
+    ∙ write_laid r x.form x.days.now x.offsets.now x.last x.out.now x.h (laid g.before.before.before.before.before)
 
 pub write_spec : {M : Type 1} → statement M
 write_spec =
     tie.close
-    (tie.spec
-    (λ c κs. search rules)
-    (λ c. search rules)
-    (λ c. search rules)
-    (λ c κs. search rules)
-    (λ c κs. search rules)
-    returns
-    write_time_requires
-    returns_2
-    (λ c. search rules)
-    returns_3)
+    (tie.spec (λ c κs. search rules) (λ c. search rules) (λ c. search rules) (λ c κs. search rules) (λ c κs. search rules) returns write_time_requires returns_2 (λ c. search rules) returns_3)

@@ -4,11 +4,11 @@ use Rattle.axis.proofs.Cross.{not_before_lem, not_after_lem, sum_fits, cast_fits
 use Rattle.axis.proofs.inner.place_on.Statement.{statement}
 use Rattle.axis.proofs.inner.place_on.Tie as tie
 
-add_result : tie.Need-overflow-add-result
+add_result : tie.Need-overflow_add-result
 add_result c = let z = c.args.day in let f = c.ranges.day in
     sum_fits 39999 60000 z f (not_before_lem 39999 60000 z f c.requires.0) (not_after_lem 39999 60000 z f c.requires.1) (lit< tt)
 
-cast_result : tie.Need-overflow-cast-result
+cast_result : tie.Need-overflow_cast-result
 cast_result c = let z = c.args.day in let f = c.ranges.day in
     cast_fits 39999 60000 z f (not_before_lem 39999 60000 z f c.requires.0) (not_after_lem 39999 60000 z f c.requires.1) (lit< tt)
 

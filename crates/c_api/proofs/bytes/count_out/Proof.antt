@@ -8,13 +8,13 @@ use Rattle.c_api.proofs.bytes.count_out.Statement.{statement}
 use Rattle.c_api.proofs.bytes.count_out.Tie as tie
 use Rattle.c_api.specs.Meaning.{count_out}
 
-returns : tie.Need-returns
-returns c = sym (ap (λ (x : Counted). count_out (count_slip x)) c.before.c.given.1)
+returns : tie.Need-returns-in-Count
+returns c = sym (ap (λ (x : Counted). count_out (count_slip x)) c.in-Count.is)
 
-returns_2 : tie.Need-returns-2
+returns_2 : tie.Need-returns-in-Refused
 returns_2 c =
     ap (λ (n : ℕ). count_out (valued 0 (refused n))) c.number.ensures
-    ∙ sym (ap (λ (x : Counted). count_out (count_slip x)) c.before.before.c2.given.1)
+    ∙ sym (ap (λ (x : Counted). count_out (count_slip x)) c.in-Refused.is)
 
 pub count_out_spec : {M : Type 1} → statement M
 count_out_spec = tie.close (tie.spec (λ c. search rules) (λ c. search rules) (λ c κs. search rules) returns returns_2)

@@ -5,7 +5,7 @@ use Rattle.c_api.proofs.bytes.vrk_obet_write.Statement.{statement}
 use Rattle.c_api.proofs.bytes.vrk_obet_write.Tie as tie
 
 returns : tie.Need-returns
-returns c = let w = c.before.before.before in c.written_out.ensures w.write.new.1.0 ∙ w.write.ensures
+returns c = let w = c.before.before.before in c.written_out.ensures w.write.new.out ∙ w.write.ensures
 
 pub vrk_obet_write_spec : {M : Type 1} → statement M
 vrk_obet_write_spec = tie.close (tie.spec (λ c κs. search rules) (λ c κs. search rules) (λ c. search rules) returns)

@@ -6,7 +6,7 @@ use Rattle.c_api.proofs.bytes.vrk_sbt_read.Statement.{statement}
 use Rattle.c_api.proofs.bytes.vrk_sbt_read.Tie as tie
 
 returns : tie.Need-returns
-returns c = c.tick-out.ensures ∙ ap count_out c.before.read.ensures
+returns c = c.tick_out.ensures ∙ ap count_out c.read.ensures
 
 pub vrk_sbt_read_spec : {M : Type 1} → statement M
 vrk_sbt_read_spec = tie.close (tie.spec (λ c κs. search rules) (λ c κs. search rules) returns)

@@ -6,7 +6,7 @@ use Rattle.c_api.proofs.bytes.vrk_siral_read.Statement.{statement}
 use Rattle.c_api.proofs.bytes.vrk_siral_read.Tie as tie
 
 returns : tie.Need-returns
-returns c = c.time-out.ensures ∙ ap time_out c.before.read.ensures
+returns c = c.time_out.ensures ∙ ap time_out c.read.ensures
 
 pub vrk_siral_read_spec : {M : Type 1} → statement M
 vrk_siral_read_spec = tie.close (tie.spec (λ c κs. search rules) (λ c κs. search rules) returns)

@@ -8,14 +8,14 @@ use borrow.Author.Rules.{rules}
 use Rattle.c_api.proofs.bytes.written_out.Statement.{statement}
 use Rattle.c_api.proofs.bytes.written_out.Tie as tie
 
-returns : tie.Need-returns
-returns c = λ (out : List ℕ). sym (ap (λ (x : Written). wrote x out) c.before.w.given.1)
+returns : tie.Need-returns-in-Bytes
+returns c = λ (out : List ℕ). sym (ap (λ (x : Written). wrote x out) c.in-Bytes.is)
 
-returns_2 : tie.Need-returns-2
+returns_2 : tie.Need-returns-in-Refused
 returns_2 c =
     λ (out : List ℕ).
     ap {B = Wrote ℕ} (λ (n : ℕ). record { number = n; length = 0; lent = out }) c.number.ensures
-    ∙ sym (ap (λ (x : Written). wrote x out) c.before.before.w2.given.1)
+    ∙ sym (ap (λ (x : Written). wrote x out) c.in-Refused.is)
 
 pub written_out_spec : {M : Type 1} → statement M
 written_out_spec =

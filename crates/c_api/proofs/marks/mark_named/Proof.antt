@@ -22,23 +22,23 @@ narrow : (x : ℕ) → x ≤ 1 → N.Mark (M.Proteus (eqb x 1)) ≡ marked_by 1 
 unfolding marked_by
 narrow x h = rw (le-leb x 1 h)
 
-returns : tie.Need-returns
+returns : tie.Need-returns-then-code-eq0
 unfolding marked_by
-returns c = let a = c.before.args in is a.code 0 a.source c.if1.true
+returns c = let a = c.args in is a.code 0 a.source c.if-code-eq0.true
 
-returns_2 : tie.Need-returns-2
+returns_2 : tie.Need-returns-then-code-eq2
 unfolding marked_by
-returns_2 c = let a = c.before.before.args in is a.code 2 a.source c.if2.true
+returns_2 c = let a = c.args in is a.code 2 a.source c.if-code-eq2.true
 
-returns_3 : tie.Need-returns-3
+returns_3 : tie.Need-returns-then-code-ne1
 unfolding marked_by
-returns_3 c = rw (lt-leb c.before.before.before.args.code 2 (omega arith))
+returns_3 c = rw (lt-leb c.args.code 2 (omega arith))
 
-returns_4 : tie.Need-returns-4
-returns_4 c = let a = c.before.before.before.before.args in wide a.source c.if4.true ∙ is a.code 1 a.source (omega arith)
+returns_4 : tie.Need-returns-then-source-gt1
+returns_4 c = let a = c.args in wide a.source c.if-source-gt1.true ∙ is a.code 1 a.source (omega arith)
 
-returns_5 : tie.Need-returns-5
-returns_5 c = let a = c.before.before.before.before.args in narrow a.source c.if4.false ∙ is a.code 1 a.source (omega arith)
+returns_5 : tie.Need-returns
+returns_5 c = let a = c.args in narrow a.source c.if-source-gt1.false ∙ is a.code 1 a.source (omega arith)
 
 pub mark_named_spec : {M : Type 1} → statement M
 mark_named_spec = tie.close (tie.spec returns returns_2 returns_3 returns_4 returns_5)

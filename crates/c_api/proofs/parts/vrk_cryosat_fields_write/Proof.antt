@@ -1,5 +1,7 @@
 -- `c_api::parts::vrk_cryosat_fields_write` meets its contract. Assumes nothing.
-use mathlib.Core.Path.{◌∙◌}
+use Rattle.std.proofs.Common.{ltb}
+use mathlib.Core.Bool.{false, ◌&&◌}
+use mathlib.Core.Path.{◌≡◌, ◌∙◌}
 use mathlib.Core.Logic.{⊎_elim}
 use native.Mathlib.Omega.{arith}
 use borrow.Author.Tests.{le-ltb, lt-ltb, leb-true, leb-false}
@@ -12,31 +14,25 @@ use borrow.Author.Rules.{rules}
 use Rattle.c_api.proofs.parts.vrk_cryosat_fields_write.Statement.{statement}
 use Rattle.c_api.proofs.parts.vrk_cryosat_fields_write.Tie as tie
 
-returns : tie.Need-returns
+returns : tie.Need-returns-then-day-ge65536
 returns c =
-    let a = c.before.before.args in
-    three (cryosat_fields_writing a.day a.millisecond a.microsecond) a.out.now
-    (here (⊎_elim (λ w. rw (le-ltb a.day 65536 w.taken))
-    (λ w. rw (le-ltb a.microsecond 65536 (leb-true 65536 a.microsecond w.1.taken), and_false))
-    c.if1.branch))
+    let a = c.args in
+    let wide : (ltb a.day 65536 && ltb a.microsecond 65536) ≡ false =
+    ⊎_elim (λ w. rw (le-ltb a.day 65536 w))
+    (λ w. rw (le-ltb a.microsecond 65536 w.1, and_false))
+    c.then-day-ge65536.either in
+    three (cryosat_fields_writing a.day a.millisecond a.microsecond) a.out.now (here wide)
 
-returns_2 : tie.Need-returns-2
+returns_2 : tie.Need-returns
 unfolding write
 returns_2 c =
     let w = c.before.before.before in
-    let a = w.before.before.before.before.before.args in
-    c.written_out.ensures w.write.new.1.0 ∙ w.write.ensures
+    let a = w.args in
+    c.written_out.ensures w.write.new.out ∙ w.write.ensures
     ∙ past (cryosat_fields_writing a.day a.millisecond a.microsecond) a.out.now
     (on (rw (lt-ltb a.day 65536 (omega arith), lt-ltb a.microsecond 65536 (omega (arith, leb-false)))) done)
 
 pub vrk_cryosat_fields_write_spec : {M : Type 1} → statement M
 vrk_cryosat_fields_write_spec =
     tie.close
-    (tie.spec
-    returns
-    (λ c. search rules)
-    (λ c. search rules)
-    (λ c κs. search rules)
-    (λ c κs. search rules)
-    (λ c. search rules)
-    returns_2)
+    (tie.spec returns (λ c. search rules) (λ c. search rules) (λ c κs. search rules) (λ c κs. search rules) (λ c. search rules) returns_2)

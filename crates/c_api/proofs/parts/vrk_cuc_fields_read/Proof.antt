@@ -9,14 +9,14 @@ use borrow.Author.Rules.{rules}
 use Rattle.c_api.proofs.parts.vrk_cuc_fields_read.Statement.{statement}
 use Rattle.c_api.proofs.parts.vrk_cuc_fields_read.Tie as tie
 
-returns : tie.Need-returns
-returns c = let f = c.before.before in told slip cuc_fields f.f.given.1 f.before.before.read.ensures
+returns : tie.Need-returns-in-Fields
+returns c = let f = c in told slip cuc_fields f.in-Fields.is f.read.ensures
 
-returns_2 : tie.Need-returns-2
+returns_2 : tie.Need-returns-in-Refused
 returns_2 c =
-    let f = c.before.before in
+    let f = c in
     ap (λ (n : ℕ). cuc_fields (valued empty (refused n))) c.number.ensures
-    ∙ told slip cuc_fields f.f2.given.1 f.before.before.read.ensures
+    ∙ told slip cuc_fields f.in-Refused.is f.read.ensures
 
 pub vrk_cuc_fields_read_spec : {M : Type 1} → statement M
 vrk_cuc_fields_read_spec =

@@ -10,18 +10,18 @@ use borrow.Author.Rules.{rules}
 use Rattle.c_api.proofs.parts.vrk_cuc_fields_write.Statement.{statement}
 use Rattle.c_api.proofs.parts.vrk_cuc_fields_write.Tie as tie
 
-returns : tie.Need-returns
+returns : tie.Need-returns-then-fraction-ge65536
 returns c =
-    let a = c.before.before.args in
+    let a = c.args in
     three (cuc_fields_writing a.seconds a.fraction) a.out.now
     (here (le-ltb a.fraction 65536 (omega arith)))
 
-returns_2 : tie.Need-returns-2
+returns_2 : tie.Need-returns
 unfolding write
 returns_2 c =
     let w = c.before.before.before in
-    let a = w.before.before.before.before.args in
-    c.written_out.ensures w.write.new.1.0 ∙ w.write.ensures
+    let a = w.args in
+    c.written_out.ensures w.write.new.out ∙ w.write.ensures
     ∙ past (cuc_fields_writing a.seconds a.fraction) a.out.now
     (on (lt-ltb a.fraction 65536 (omega arith)) done)
 

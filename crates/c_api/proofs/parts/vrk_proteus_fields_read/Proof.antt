@@ -10,30 +10,21 @@ use borrow.Author.Rules.{rules}
 use Rattle.c_api.proofs.parts.vrk_proteus_fields_read.Statement.{statement}
 use Rattle.c_api.proofs.parts.vrk_proteus_fields_read.Tie as tie
 
-returns : tie.Need-returns
+returns : tie.Need-returns-in-Fields
 returns c =
     let b = c.before in
-    let f = b.before.before.before in
-    let g = f.f.given.0.0 in
+    let f = b in
+    let g = f.in-Fields.f in
     ap {B = VrkProteusFields} (λ (h : ℕ). record { refusal = 0; week = g.week; h3 = h; second = g.second; fraction = g.fraction }) b.bit.ensures
-    ∙ told slip proteus_fields f.f.given.1 f.before.before.read.ensures
+    ∙ told slip proteus_fields f.in-Fields.is f.read.ensures
 
-returns_2 : tie.Need-returns-2
+returns_2 : tie.Need-returns-in-Refused
 returns_2 c =
-    let f = c.before.before in
+    let f = c in
     ap (λ (n : ℕ). proteus_fields (valued empty (refused n))) c.number.ensures
-    ∙ told slip proteus_fields f.f2.given.1 f.before.before.read.ensures
+    ∙ told slip proteus_fields f.in-Refused.is f.read.ensures
 
 pub vrk_proteus_fields_read_spec : {M : Type 1} → statement M
 vrk_proteus_fields_read_spec =
     tie.close
-    (tie.spec
-    (λ c κs. search rules)
-    (λ c. search rules)
-    (λ c. search rules)
-    (λ c κs. search rules)
-    (λ c. search rules)
-    (λ c. search rules)
-    (λ c κs. search rules)
-    returns
-    returns_2)
+    (tie.spec (λ c κs. search rules) (λ c. search rules) (λ c. search rules) (λ c κs. search rules) (λ c. search rules) (λ c. search rules) (λ c κs. search rules) returns returns_2)

@@ -12,8 +12,8 @@ returns : tie.Need-returns
 returns c =
     let k = c.before in
     let s = k.before.before in
-    c.cover-out.ensures
-    ∙ ap cover_out (k.covering.ensures ∙ ap (λ (d : ℤ). covering s.args.bytes.now d s.args.receipt-micro) (to_z-of_z s.ranges.receipt-day))
+    c.cover_out.ensures
+    ∙ ap cover_out (k.covering.ensures ∙ ap (λ (d : ℤ). covering s.args.bytes.now d s.args.receipt_micro) (to_z-of_z s.ranges.receipt_day))
 
 pub vrk_season_covering_spec : {M : Type 1} → statement M
 vrk_season_covering_spec = tie.close (tie.spec (λ c κs. search rules) (λ c κs. search rules) returns)

@@ -21,7 +21,7 @@ as_entered (N.Refused f) out = refl
 returns : tie.Need-returns
 returns c =
     let w = c.before.before in
-    ap (λ (r : VrkCount). entered_of r w.read.new.1.0) c.count_out.ensures ∙ as_entered w.read.result w.read.new.1.0 ∙ w.read.ensures
+    ap (λ (r : VrkCount). entered_of r w.read.new.words) c.count_out.ensures ∙ as_entered w.read.result w.read.new.words ∙ w.read.ensures
 
 pub vrk_season_read_spec : {M : Type 1} → statement M
 vrk_season_read_spec = tie.close (tie.spec (λ c κs. search rules) (λ c κs. search rules) (λ c. search rules) returns)

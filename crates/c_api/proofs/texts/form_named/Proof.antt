@@ -9,22 +9,22 @@ use Rattle.c_api.proofs.texts.form_named.Tie as tie
 is : (n k : ℕ) → n ≡ k → named_form k ≡ named_form n
 is n k e = ap named_form (sym e)
 
-returns : tie.Need-returns
-returns c = is c.before.args.length 20 c.match.keys1
+returns : tie.Need-returns-in-20
+returns c = is c.args.length 20 c.in-20.is
 
-returns_2 : tie.Need-returns-2
-returns_2 c = is c.before.args.length 24 c.match.keys2
+returns_2 : tie.Need-returns-in-24
+returns_2 c = is c.args.length 24 c.in-24.is
 
-returns_3 : tie.Need-returns-3
-returns_3 c = is c.before.args.length 27 c.match.keys3
+returns_3 : tie.Need-returns-in-27
+returns_3 c = is c.args.length 27 c.in-27.is
 
-returns_4 : tie.Need-returns-4
-returns_4 c = is c.before.args.length 31 c.match.keys4
+returns_4 : tie.Need-returns-in-31
+returns_4 c = is c.args.length 31 c.in-31.is
 
-returns_5 : tie.Need-returns-5
+returns_5 : tie.Need-returns-in_default
 returns_5 c =
-    let n = c.before.args.length in
-    let r = c.match.rest in
+    let n = c.args.length in
+    let r = c.in_default.in_default-own.rest in
     rw (
       ne_eqb n 20 r.0.0.0.1,
       ne_eqb n 24 r.0.0.1,

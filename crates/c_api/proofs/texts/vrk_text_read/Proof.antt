@@ -13,7 +13,7 @@ returns c =
     let r = c.before in
     let s = r.before.before.before in
     let a = s.args in
-    c.time-out.ensures
+    c.time_out.ensures
     ∙ ap time_out
     (r.read.ensures
     ∙ ap (λ (z : ℤ). read_text a.text.now a.days.now a.offsets.now z) (to_z-of_z s.ranges.last))

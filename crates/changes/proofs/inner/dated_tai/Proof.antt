@@ -3,11 +3,11 @@ use borrow.Author.Rules.{rules}
 use Rattle.changes.proofs.inner.dated_tai.Statement.{statement}
 use Rattle.changes.proofs.inner.dated_tai.Tie as tie
 
-returns : tie.Need-returns
-returns c = rw (c.to-record.ensures, c.before.before.d.given.1)
+returns : tie.Need-returns-in-At
+returns c = rw (c.to_record.ensures, c.in-At.is)
 
-returns_2 : tie.Need-returns-2
-returns_2 c = rw c.before.d2.given.1
+returns_2 : tie.Need-returns-in-Refused
+returns_2 c = rw c.in-Refused.is
 
 pub dated_tai_spec : {M : Type 1} → statement M
 dated_tai_spec =

@@ -6,7 +6,7 @@ use Rattle.changes.proofs.inner.is_utc.Statement.{statement}
 use Rattle.changes.proofs.inner.is_utc.Tie as tie
 
 returns : tie.Need-returns
-returns c = ap₂ eqb c.code2.ensures c.before.code.ensures
+returns c = ap₂ eqb c.code.ensures c.code-utc.ensures
 
 pub is_utc_spec : {M : Type 1} → statement M
 is_utc_spec = tie.close (tie.spec (λ c κs. search rules) (λ c κs. search rules) returns)

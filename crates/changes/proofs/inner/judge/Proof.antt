@@ -16,103 +16,88 @@ use borrow.Author.Rules.{rules}
 use Rattle.changes.proofs.inner.judge.Statement.{statement}
 use Rattle.changes.proofs.inner.judge.Tie as tie
 
-inside : (c : tie.After-enum-told) → let r = c.before.before.before.before.args.r in in_span r.scale r.day r.micro ≡ true
+inside : (c : tie.In-At) → let r = c.args.r in in_span r.scale r.day r.micro ≡ true
 inside c =
-    let j = c.before.before in
-    let r = j.before.before.args.r in
-    let g = c.enum_told.given in
-    (timed_at r.scale r.day r.micro g.0.0 (ap slip_timed (sym g.1) ∙ j.to-time.ensures)).0
+    let j = c.before in
+    let r = j.args.r in
+    (timed_at r.scale r.day r.micro c.in-At.field-0 (ap slip_timed (sym c.in-At.is) ∙ j.to_time.ensures)).0
 
 -- the plain record of the same time; the callee read the day from its bits
-unmarked : (c : tie.After-new) → let r = c.before.before.before.before.before.before.args.r in
-    slip (D.At c.new.result) ≡ slip (D.At (record_of r.scale r.day r.micro))
+unmarked : (c : tie.After-new-t) → let r = c.args.r in
+    slip (D.At c.new-t.result) ≡ slip (D.At (record_of r.scale r.day r.micro))
 unmarked c =
-    let r = c.before.before.before.before.before.before.args.r in
+    let r = c.args.r in
     ap (λ (x : Record). slip (D.At x))
-    (c.new.ensures ∙ ap (λ (d : ℤ). record_of r.scale d r.micro) (to_z-of_z {w = w64} {z = r.day} (record { sfits = c.before.struct_told.given.1.0.1 })))
+    (c.new-t.ensures ∙ ap (λ (d : ℤ). record_of r.scale d r.micro) (to_z-of_z {w = w64} {z = r.day} (record { sfits = c.struct_told-1.given.1.0.1 })))
 
 -- what is known of a UTC record, whose day the callee read from its bits
-known : (c : tie.After-place-of-day) → let s = c.before.before.before.before.before.before.before.before.before.before in let a = s.args in
-    InUtc a.days.now a.offsets.now a.last a.r s.requires c.place-of-day.result
+known : (c : tie.After-place_of_day-day) → let s = c.before.before.before.before.before.before.before.before.before in let a = s.args in
+    InUtc a.days.now a.offsets.now a.last a.r s.requires c.place_of_day-day.result
 known c =
     let l = c.before.before in
     let e = l.before.before.before.before in
-    let r = e.before.before.before.before.args.r in
+    let r = e.args.r in
     record {
       inside = inside e;
-      utc = sym l.before.is_utc.ensures ∙ not-false l.before.is_utc.result l.if1.false;
-      place = c.place-of-day.ensures ∙ ap place_of_day (to_z-of_z {w = w64} {z = r.day} (record { sfits = c.before.struct-told2.given.1.0.1 }));
+      utc = sym l.is_utc.ensures ∙ not-false l.is_utc.result l.if-not-is_utc.false-raw;
+      place = c.place_of_day-day.ensures ∙ ap place_of_day (to_z-of_z {w = w64} {z = r.day} (record { sfits = c.struct_told-in-At-1.given.1.0.1 }));
     }
 
 -- and the last day
-last : (c : tie.After-place-of-day2) → c.place-of-day2.result ≡ place_of_day c.before.before.before.before.before.before.before.before.before.before.before.args.last
-last c = c.place-of-day2.ensures ∙ ap place_of_day (to_z-of_z c.before.before.before.before.before.before.before.before.before.before.before.ranges.last)
+last : (c : tie.After-place_of_day) → c.place_of_day.result ≡ place_of_day c.args.last
+last c = c.place_of_day.ensures ∙ ap place_of_day (to_z-of_z c.ranges.last)
 
-returns : tie.Need-returns
+returns : tie.Need-returns-then-not-is_utc
 returns c =
     let u = c.before in
     let e = u.before.before.before in
-    let s = e.before.before.before.before in
+    let s = e.before.before.before in
     let a = s.args in
     unmarked u.before
-    ∙ judge_plain a.days.now a.offsets.now a.last a.r s.requires (inside e) (sym u.is_utc.ensures ∙ not-true u.is_utc.result c.if1.true)
+    ∙ judge_plain a.days.now a.offsets.now a.last a.r s.requires (inside e) (sym u.is_utc.ensures ∙ not-true u.is_utc.result c.if-not-is_utc.true-raw)
 
-returns_2 : tie.Need-returns-2
+returns_2 : tie.Need-returns-then-place_of_day-day
 returns_2 c =
     let p = c.before.before in
-    let s = p.before.before.before.before.before.before.before.before.before.before in
+    let s = p.before.before.before.before.before.before.before.before.before in
     let a = s.args in
-    judge_expired a.days.now a.offsets.now a.last a.r s.requires p.place-of-day.result (known p) (omega (arith, last c.before, c.if2.true))
+    judge_expired a.days.now a.offsets.now a.last a.r s.requires p.place_of_day-day.result (known p) (omega (arith, last c.before, c.if-place_of_day-day.true))
 
-has_micro_requires : tie.Need-has-micro-requires
+has_micro_requires : tie.Need-has_micro-requires
 has_micro_requires c κs =
     let p = c.before.before in
-    let s = p.before.before.before.before.before.before.before.before.before.before in
+    let s = p.before.before.before.before.before.before.before.before.before in
     let a = s.args in
-    judge_place a.days.now a.offsets.now a.last a.r s.requires p.place-of-day.result (known p)
+    judge_place a.days.now a.offsets.now a.last a.r s.requires p.place_of_day-day.result (known p)
 
-returns_3 : tie.Need-returns-3
+returns_3 : tie.Need-returns-then-not-has_micro
 returns_3 c =
     let m = c.before in
     let p = m.before.before.before in
-    let s = p.before.before.before.before.before.before.before.before.before.before in
+    let s = p.before.before.before.before.before.before.before.before.before in
     let a = s.args in
-    judge_lacking a.days.now a.offsets.now a.last a.r s.requires p.place-of-day.result (known p) (omega (arith, last m.before.before, m.before.if2.false))
-    (sym m.has-micro.ensures ∙ not-true m.has-micro.result c.if3.true)
+    judge_lacking a.days.now a.offsets.now a.last a.r s.requires p.place_of_day-day.result (known p) (omega (arith, last m.before.before, m.if-place_of_day-day.false))
+    (sym m.has_micro.ensures ∙ not-true m.has_micro.result c.if-not-has_micro.true-raw)
 
-returns_4 : tie.Need-returns-4
+returns_4 : tie.Need-returns-in-Refused
 returns_4 c =
-    let g = c.before.f.given in
-    let j = c.before.before.before in
+    let j = c.before in
     let s = j.before.before in
     let a = s.args in
-    judge_outside a.days.now a.offsets.now a.last a.r s.requires g.0.0 g.0.1.0 (ap slip_timed (sym g.1) ∙ j.to-time.ensures)
+    judge_outside a.days.now a.offsets.now a.last a.r s.requires c.in-Refused.f c.in-Refused.z (ap slip_timed (sym c.in-Refused.is) ∙ j.to_time.ensures)
 
-returns_5 : tie.Need-returns-5
+returns_5 : tie.Need-returns-else-not-has_micro
 returns_5 c =
     let m = c.before in
     let p = m.before.before.before in
     let n = p.before.before.before.before in
-    let s = n.before.before.before.before.before.before in
+    let s = n.before.before.before.before.before in
     let a = s.args in
     unmarked n
-    ∙ judge_stands a.days.now a.offsets.now a.last a.r s.requires p.place-of-day.result (known p) (omega (arith, last m.before.before, m.before.if2.false))
-    (sym m.has-micro.ensures ∙ not-false m.has-micro.result c.if3.false)
+    ∙ judge_stands a.days.now a.offsets.now a.last a.r s.requires p.place_of_day-day.result (known p) (omega (arith, last m.before.before, m.if-place_of_day-day.false))
+    (sym m.has_micro.ensures ∙ not-false m.has_micro.result c.if-not-has_micro.false-raw)
 
 pub judge_spec : {M : Type 1} → statement M
 judge_spec =
     tie.close
-    (tie.spec
-    (λ c κs. search rules)
-    (λ c. search rules)
-    (λ c. search rules)
-    (λ c κs. search rules)
-    (λ c κs. search rules)
-    returns
-    (λ c κs. search rules)
-    (λ c κs. search rules)
-    returns_2
-    has_micro_requires
-    returns_3
-    returns_4
-    returns_5)
+    (tie.spec (λ c κs. search rules) (λ c. search rules) (λ c. search rules) (λ c κs. search rules) (λ c κs. search rules) returns (λ c κs. search rules) (λ c κs. search rules) returns_2 has_micro_requires returns_3 returns_4 returns_5)

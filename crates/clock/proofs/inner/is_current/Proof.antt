@@ -12,7 +12,7 @@ returns : tie.Need-returns
 returns c =
     let s = c.before in
     let a = s.args in
-    ap (leb a.day) (c.place-of-day.ensures ∙ ap place_of_day (to_z-of_z s.ranges.last)) ∙ current_at a.day a.last s.requires.0 s.requires.1
+    ap (leb a.day) (c.place_of_day.ensures ∙ ap place_of_day (to_z-of_z s.ranges.last)) ∙ current_at a.day a.last s.requires.0 s.requires.1
 
 pub is_current_spec : {M : Type 1} → statement M
 is_current_spec = tie.close (tie.spec (λ c κs. search rules) returns)

@@ -15,52 +15,42 @@ use Rattle.clock.proofs.inner.place_in.Statement.{statement}
 use Rattle.clock.proofs.inner.place_in.Tie as tie
 
 -- the callees read the day from its bits
-seen : (c : tie.After-to-time) → let a = c.before.before.before.args in slip_timed c.to-time.result ≡ spanned a.scale a.day a.micro
+seen : (c : tie.After-to_time) → let a = c.args in slip_timed c.to_time.result ≡ spanned a.scale a.day a.micro
 seen c =
     let z = c.before.before.before in
-    c.to-time.ensures
+    c.to_time.ensures
     ∙ ap (λ (r : Record). spanned r.scale r.day r.micro)
-    (c.before.new.ensures ∙ ap (λ (d : ℤ). record_of z.args.scale d z.args.micro) (to_z-of_z z.ranges.day))
+    (c.new.ensures ∙ ap (λ (d : ℤ). record_of z.args.scale d z.args.micro) (to_z-of_z z.ranges.day))
 
-day_is : (c : tie.After-place-of-day) → let a = c.before.before.before.before.before.before.args in c.place-of-day.result ≡ place_of_day a.day
-day_is c = let z = c.before.before.before.before.before.before in c.place-of-day.ensures ∙ ap place_of_day (to_z-of_z z.ranges.day)
+day_is : (c : tie.After-place_of_day) → let a = c.args in c.place_of_day.result ≡ place_of_day a.day
+day_is c = let z = c.before.before.before.before.before in c.place_of_day.ensures ∙ ap place_of_day (to_z-of_z z.ranges.day)
 
-returns : tie.Need-returns
-returns c = let a = c.before.args in place_over a.scale a.day a.micro c.if1.true
+returns : tie.Need-returns-then-micro-ge86400000000
+returns c = let a = c.args in place_over a.scale a.day a.micro c.if-micro-ge86400000000.true
 
-mul_t9 : tie.Need-overflow-mul-t9
-mul_t9 c = let a = c.before.before.before.before.before.before.args in omega (arith, place_top 40000 100000 a.day, day_is c)
+mul_t9 : tie.Need-overflow_mul-result
+mul_t9 c = let a = c.args in omega (arith, place_top 40000 100000 a.day, day_is c)
 
-add_t10 : tie.Need-overflow-add-t10
-add_t10 c = let a = c.before.before.before.before.before.before.args in omega (arith, place_top 40000 100000 a.day, day_is c)
+add_t10 : tie.Need-overflow_add-result
+add_t10 c = let a = c.args in omega (arith, place_top 40000 100000 a.day, day_is c)
 
-returns_2 : tie.Need-returns-2
+returns_2 : tie.Need-returns-in-At
 returns_2 c =
-    let b = c.before.before.before in
-    let z = b.before.before in
-    let a = z.before.args in
-    ap (λ (n : ℕ). P.At (n * 86400000000 + a.micro)) (day_is c)
-    ∙ place_at_lem a.scale a.day a.micro z.if1.false c.before.enum_told.given.0.0
-    (ap slip_timed (sym c.before.enum_told.given.1) ∙ seen b)
-
-returns_3 : tie.Need-returns-3
-returns_3 c =
     let b = c.before.before in
-    let a = b.before.before.before.args in
-    place_out a.scale a.day a.micro c.enum-told2.given.0.0 c.enum-told2.given.0.1.0
-    (ap slip_timed (sym c.enum-told2.given.1) ∙ seen b)
+    let z = b.before.before in
+    let a = z.args in
+    ap (λ (n : ℕ). P.At (n * 86400000000 + a.micro)) (day_is c)
+    ∙ place_at_lem a.scale a.day a.micro z.if-micro-ge86400000000.false c.in-At.field-0
+    (ap slip_timed (sym c.in-At.is) ∙ seen b)
+
+returns_3 : tie.Need-returns-in-Refused
+returns_3 c =
+    let b = c.before in
+    let a = b.args in
+    place_out a.scale a.day a.micro c.in-Refused.field-0 c.in-Refused.field-1
+    (ap slip_timed (sym c.in-Refused.is) ∙ seen b)
 
 pub place_in_spec : {M : Type 1} → statement M
 place_in_spec =
     tie.close
-    (tie.spec
-    returns
-    (λ c κs. search rules)
-    (λ c κs. search rules)
-    (λ c. search rules)
-    (λ c κs. search rules)
-    mul_t9
-    add_t10
-    (λ c. search rules)
-    returns_2
-    returns_3)
+    (tie.spec returns (λ c κs. search rules) (λ c κs. search rules) (λ c. search rules) (λ c κs. search rules) mul_t9 add_t10 (λ c. search rules) returns_2 returns_3)

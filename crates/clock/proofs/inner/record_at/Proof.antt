@@ -14,38 +14,30 @@ use Rattle.clock.proofs.inner.record_at.Statement.{statement}
 use Rattle.clock.proofs.inner.record_at.Tie as tie
 
 -- the day of the place, and the record made of it
-made : (c : tie.After-new) → let a = c.before.before.args in c.new.result ≡ record_of a.scale (day_at (a.place / 86400000000)) (a.place % 86400000000)
+made : (c : tie.After-new-r) → let a = c.args in c.new-r.result ≡ record_of a.scale (day_at (a.place / 86400000000)) (a.place % 86400000000)
 made c =
-    let a = c.before.before.args in
-    c.new.ensures ∙ ap (λ (d : ℤ). record_of a.scale d (a.place % 86400000000)) (to_z-of_z {w = w64} {z = c.before.day_at.result} (record { sfits = c.before.day_at.type-inv }) ∙ c.before.day_at.ensures)
+    let a = c.args in
+    c.new-r.ensures ∙ ap (λ (d : ℤ). record_of a.scale d (a.place % 86400000000)) (to_z-of_z {w = w64} {z = c.day_at-day.result} (record { sfits = c.day_at-day.type_inv }) ∙ c.day_at-day.ensures)
 
-seen : (c : tie.After-to-time) → let a = c.before.before.before.args in
-    slip_timed c.to-time.result ≡ spanned a.scale (day_at (a.place / 86400000000)) (a.place % 86400000000)
-seen c = c.to-time.ensures ∙ ap (λ (r : Record). spanned r.scale r.day r.micro) (made c.before)
+seen : (c : tie.After-to_time) → let a = c.args in
+    slip_timed c.to_time.result ≡ spanned a.scale (day_at (a.place / 86400000000)) (a.place % 86400000000)
+seen c = c.to_time.ensures ∙ ap (λ (r : Record). spanned r.scale r.day r.micro) (made c.before)
 
-returns : tie.Need-returns
+returns : tie.Need-returns-in-At
 returns c =
-    let b = c.before.before in
-    let a = b.before.before.before.args in
+    let b = c.before in
+    let a = b.args in
     ap (λ (r : Record). slip (D.At r)) (made b.before)
-    ∙ result_at_lem a.scale a.place c.enum_told.given.0.0 (ap slip_timed (sym c.enum_told.given.1) ∙ seen b)
+    ∙ result_at_lem a.scale a.place c.in-At.field-0 (ap slip_timed (sym c.in-At.is) ∙ seen b)
 
-returns_2 : tie.Need-returns-2
+returns_2 : tie.Need-returns-in-Refused
 returns_2 c =
-    let b = c.before.before in
-    let a = b.before.before.before.args in
-    result_out a.scale a.place c.enum-told2.given.0.0 c.enum-told2.given.0.1.0
-    (ap slip_timed (sym c.enum-told2.given.1) ∙ seen b)
+    let b = c.before in
+    let a = b.args in
+    result_out a.scale a.place c.in-Refused.field-0 c.in-Refused.field-1
+    (ap slip_timed (sym c.in-Refused.is) ∙ seen b)
 
 pub record_at_spec : {M : Type 1} → statement M
 record_at_spec =
     tie.close
-    (tie.spec
-    (λ c. search rules)
-    (λ c κs. search rules)
-    (λ c κs. search rules)
-    (λ c κs. search rules)
-    (λ c. search rules)
-    (λ c. search rules)
-    returns
-    returns_2)
+    (tie.spec (λ c. search rules) (λ c κs. search rules) (λ c κs. search rules) (λ c κs. search rules) (λ c. search rules) (λ c. search rules) returns returns_2)

@@ -13,35 +13,33 @@ use borrow.Author.Rules.{rules}
 use Rattle.clock.proofs.inner.turn_to_tai.Statement.{statement}
 use Rattle.clock.proofs.inner.turn_to_tai.Tie as tie
 
-turn_utc_requires : tie.Need-turn-utc-requires
+turn_utc_requires : tie.Need-turn_utc-requires
 turn_utc_requires c κs =
-    let k = c.before in
-    let s = k.before.before.before in
-    ((rw k.t.given.1 at s.requires.0), rw (to_z-of_z s.ranges.last) s.requires.1)
+    let k = c in
+    let s = k in
+    ((rw k.in-Utc.is at s.requires.0), rw (to_z-of_z s.ranges.last) s.requires.1)
 
-returns : tie.Need-returns
+returns : tie.Need-returns-in-Tai
 returns c =
-    let e = c.enum_told.given in
-    let s = c.before.before.before in
+    let s = c.before.before in
     let a = s.args in
-    rw e.1 (turn_12 S.Tai e.0.0.0 a.v a.days.now a.offsets.now a.last (rw e.1 at s.requires.0) refl)
+    rw c.in-Tai.is (turn_12 S.Tai c.in-Tai.field-0.0 a.v a.days.now a.offsets.now a.last (rw c.in-Tai.is at s.requires.0) refl)
 
-returns_2 : tie.Need-returns-2
+returns_2 : tie.Need-returns-in-Utc
 returns_2 c =
-    let k = c.before.before in
-    let s = k.before.before.before in
+    let k = c in
+    let s = k in
     let a = s.args in
-    let n = k.t.given.0.0 in
-    rw k.t.given.1
-    (c.turn-utc.ensures
+    let n = k.in-Utc.n in
+    rw k.in-Utc.is
+    (c.turn_utc.ensures
     ∙ ap (λ (e : ℤ). outcome (covering S.Utc true (cover_of a.v) (H.Record (record_at S.Utc n.0)) a.days.now a.offsets.now e)) (to_z-of_z s.ranges.last))
 
-returns_3 : tie.Need-returns-3
+returns_3 : tie.Need-returns-in-Gps
 returns_3 c =
-    let e = c.enum-told2.given in
-    let s = c.before.before.before in
+    let s = c.before.before in
     let a = s.args in
-    rw e.1 (turn_12 S.Gps e.0.0.0 a.v a.days.now a.offsets.now a.last (rw e.1 at s.requires.0) refl)
+    rw c.in-Gps.is (turn_12 S.Gps c.in-Gps.field-0.0 a.v a.days.now a.offsets.now a.last (rw c.in-Gps.is at s.requires.0) refl)
 
 pub turn_to_tai_spec : {M : Type 1} → statement M
 turn_to_tai_spec =

@@ -12,54 +12,47 @@ use borrow.Author.Rules.{rules}
 use Rattle.clock.proofs.inner.turn_utc.Statement.{statement}
 use Rattle.clock.proofs.inner.turn_utc.Tie as tie
 
-abbrev entry : tie.After-from-utc → tie.Start
+abbrev entry : tie.After-from_utc → tie.Start
 entry c = c.before.before
 
 -- the time's place
-placed : (c : tie.After-from-utc) → let a = (entry c).args in
-    counted c.from-utc.result ≡ outcome (placing (moment_at S.Utc a.t.0) a.days.now a.offsets.now a.last)
+placed : (c : tie.After-from_utc) → let a = (entry c).args in
+    counted c.from_utc.result ≡ outcome (placing (moment_at S.Utc a.t.0) a.days.now a.offsets.now a.last)
 placed c =
     let s = entry c in
     let a = s.args in
-    left_placing (moment_at S.Utc a.t.0) a.days.now a.offsets.now a.last c.from-utc.result a.t.0 s.pre.0 refl
-    (rw (to_z-of_z s.fits.last) at c.from-utc.ensures)
+    left_placing (moment_at S.Utc a.t.0) a.days.now a.offsets.now a.last c.from_utc.result a.t.0 s.requires.0 refl
+    (rw (to_z-of_z s.ranges.last) at c.from_utc.ensures)
 
-found : (c : tie.After-w) → let a = (entry c.before.before).args in
-    answer (micros_at c.w.given.0.0.0) ≡ outcome (placing (moment_at S.Utc a.t.0) a.days.now a.offsets.now a.last)
-found c = ap counted (sym c.w.given.1) ∙ placed c.before.before
+found : (c : tie.In-At) → let a = (entry c.before).args in
+    answer (micros_at c.in-At.w.0) ≡ outcome (placing (moment_at S.Utc a.t.0) a.days.now a.offsets.now a.last)
+found c = ap counted (sym c.in-At.is) ∙ placed c.before
 
-returns : tie.Need-returns
+returns : tie.Need-returns-then-not-covers
 returns c =
-    let w = c.before.before.before in
-    let s = entry w.before.before in
+    let w = c in
+    let s = entry w.before.before.before in
     let a = s.args in
-    turn_8 a.v a.t.0 a.days.now a.offsets.now a.last s.pre.0 w.w.given.0.0.0 (found w)
-    (sym c.before.covers.ensures ∙ not-true _ c.if1.true)
+    turn_8 a.v a.t.0 a.days.now a.offsets.now a.last s.requires.0 w.in-At.w.0 (found w.before.before)
+    (sym c.covers.ensures ∙ not-true _ c.if-not-covers.true-raw)
 
-returns_2 : tie.Need-returns-2
+returns_2 : tie.Need-returns-else-not-covers
 returns_2 c =
-    let w = c.before.before.before in
-    let s = entry w.before.before in
+    let w = c in
+    let s = entry w.before.before.before in
     let a = s.args in
-    turn_in a.v a.t.0 a.days.now a.offsets.now a.last s.pre.0 w.w.given.0.0.0 (found w)
-    (sym c.before.covers.ensures ∙ not-false _ c.if1.false)
+    turn_in a.v a.t.0 a.days.now a.offsets.now a.last s.requires.0 w.in-At.w.0 (found w.before.before)
+    (sym c.covers.ensures ∙ not-false _ c.if-not-covers.false-raw)
 
-returns_3 : tie.Need-returns-3
+returns_3 : tie.Need-returns-in-Refused
 returns_3 c =
-    let f = c.before in
-    let b = f.before.before in
-    let s = entry b in
+    let f = c in
+    let b = f in
+    let s = entry b.before in
     let a = s.args in
-    turn_lacks a.v a.t.0 a.days.now a.offsets.now a.last s.pre.0 _ (ap counted (sym f.f.given.1) ∙ placed b)
+    turn_lacks a.v a.t.0 a.days.now a.offsets.now a.last s.requires.0 _ (ap counted (sym f.in-Refused.is) ∙ placed b.before)
 
 pub turn_utc_spec : {M : Type 1} → statement M
 turn_utc_spec =
     tie.close
-    (tie.spec
-    (λ c κs. search rules)
-    (λ c. search rules)
-    (λ c κs. search rules)
-    returns
-    (λ c. search rules)
-    returns_2
-    returns_3)
+    (tie.spec (λ c κs. search rules) (λ c. search rules) (λ c κs. search rules) returns (λ c. search rules) returns_2 returns_3)

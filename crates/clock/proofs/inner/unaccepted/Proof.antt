@@ -4,20 +4,20 @@ use borrow.Author.Rules.{rules}
 use Rattle.clock.proofs.inner.unaccepted.Statement.{statement}
 use Rattle.clock.proofs.inner.unaccepted.Tie as tie
 
-returns : tie.Need-returns
+returns : tie.Need-returns-in-NotFinite
 returns c =
-    let b = c.before.before in
-    rw (told_nothing b.before.args.h b.take.result b.take.ensures c.enum_told.given.0.0 c.enum_told.given.1).0
+    let b = c.before in
+    rw (told_nothing b.args.h b.take.result b.take.ensures c.in-NotFinite.field-0 c.in-NotFinite.is).0
 
-returns_2 : tie.Need-returns-2
+returns_2 : tie.Need-returns-in-Outside
 returns_2 c =
-    let b = c.before.before in
-    rw (told_outside b.before.args.h b.take.result b.take.ensures c.enum-told2.given.0.0 c.enum-told2.given.1).0
+    let b = c.before in
+    rw (told_outside b.args.h b.take.result b.take.ensures c.in-Outside.field-0 c.in-Outside.is).0
 
-returns_3 : tie.Need-returns-3
+returns_3 : tie.Need-returns-in-At
 returns_3 c =
-    let b = c.before.before in
-    rw (told_at b.before.args.h b.take.result b.take.ensures c.enum-told3.given.0.0 c.enum-told3.given.1).finite
+    let b = c.before in
+    rw (told_at b.args.h b.take.result b.take.ensures c.in-At.field-0 c.in-At.is).finite
 
 pub unaccepted_spec : {M : Type 1} → statement M
 unaccepted_spec =

@@ -7,7 +7,7 @@ use Rattle.double.proofs.inner.quotient.Tie as tie
 returns : tie.Need-returns
 returns c =
     let z = c.before.before in
-    quotient_is z.args.neg z.args.n z.args.d c.before.held.result c.held2.result c.before.held.ensures c.held2.ensures
+    quotient_is z.args.neg z.args.n z.args.d c.held.result c.held-2.result c.held.ensures c.held-2.ensures
     z.requires.0.0 z.requires.0.1 z.requires.1.0 z.requires.1.1
 
 pub quotient_spec : {M : Type 1} → statement M

@@ -7,11 +7,11 @@ use borrow.Author.Rules.{rules}
 use Rattle.handed.proofs.inner.lay.Statement.{statement}
 use Rattle.handed.proofs.inner.lay.Tie as tie
 
-returns : tie.Need-returns
-returns c = let g = c.before.h.given in subst (λ (h : Handed). Lays h (L.At g.0.0)) (sym g.1) (lays_record g.0.0)
+returns : tie.Need-returns-in-Record
+returns c = subst (λ (h : Handed). Lays h (L.At c.in-Record.r)) (sym c.in-Record.is) (lays_record c.in-Record.r)
 
-returns_2 : tie.Need-returns-2
-returns_2 c = subst (λ (h : Handed). Lays h c.lay-decimal.result) (sym c.before.before.h2.given.1) c.lay-decimal.ensures
+returns_2 : tie.Need-returns-in-Decimal
+returns_2 c = subst (λ (h : Handed). Lays h c.lay_decimal.result) (sym c.in-Decimal.is) c.lay_decimal.ensures
 
 pub lay_spec : {M : Type 1} → statement M
 lay_spec = tie.close (tie.spec (λ c. search rules) (λ c. search rules) (λ c κs. search rules) returns returns_2)

@@ -13,9 +13,9 @@ use Rattle.handed.proofs.inner.record_of.Tie as tie
 returns : tie.Need-returns
 returns c =
     let b = c.before in
-    let a = b.before.args in
+    let a = b.args in
     c.new.ensures
-    ∙ ap (λ (d : ℤ). record_of a.scale d (a.n % day_micros)) (to_z-of_z {w = w64} {z = b.day_at.result} (record { sfits = b.day_at.type-inv }) ∙ b.day_at.ensures)
+    ∙ ap (λ (d : ℤ). record_of a.scale d (a.n % day_micros)) (to_z-of_z {w = w64} {z = b.day_at-day.result} (record { sfits = b.day_at-day.type_inv }) ∙ b.day_at-day.ensures)
 
 pub record_of_spec : {M : Type 1} → statement M
 record_of_spec = tie.close (tie.spec (λ c. search rules) (λ c κs. search rules) (λ c κs. search rules) returns)

@@ -27,57 +27,42 @@ module _ (x : Float) (z : Scale) {n : ℕ} (r : Reading) (e : n ≡ first_of z) 
 
 -- an f64 has its format's digits
 narrow : (z : tie.Start) → T (fits binary64 z.args.day)
-narrow z = subst T (sym z.well-formed.0.1) tt
+narrow z = subst T (sym z.well_formed.0.1) tt
 
-take_reading_requires : tie.Need-take-reading-requires
-take_reading_requires c κs = small c.before.before.before.before.args.day S.Tai c.read-days.result c.before.first_of.ensures c.read-days.ensures
+take_reading_requires : tie.Need-take_reading-requires
+take_reading_requires c κs = small c.args.day S.Tai c.read_days.result c.first_of.ensures c.read_days.ensures
 
-take_reading_requires_2 : tie.Need-take-reading-requires-2
-take_reading_requires_2 c κs = small c.before.before.before.before.args.day S.Utc c.read-days2.result c.before.first-of2.ensures c.read-days2.ensures
+take_reading_requires_2 : tie.Need-take_reading-requires-in-Utc
+take_reading_requires_2 c κs = small c.args.day S.Utc c.read_days-in-Utc.result c.first_of-in-Utc.ensures c.read_days-in-Utc.ensures
 
-take_reading_requires_3 : tie.Need-take-reading-requires-3
-take_reading_requires_3 c κs = small c.before.before.before.before.args.day S.Gps c.read-days3.result c.before.first-of3.ensures c.read-days3.ensures
+take_reading_requires_3 : tie.Need-take_reading-requires-in-Gps
+take_reading_requires_3 c κs = small c.args.day S.Gps c.read_days-in-Gps.result c.first_of-in-Gps.ensures c.read_days-in-Gps.ensures
 
-returns : tie.Need-returns
+returns : tie.Need-returns-in-Tai
 returns c =
     let r = c.before in
     let e = r.before.before in
-    let z = e.before.before in
-    took z.args.day S.Tai r.read-days.result r.before.first_of.ensures r.read-days.ensures
-    z.args.scale c.take-reading.result (narrow z) e.enum_told.given.1 c.take-reading.ensures
+    let z = e.before in
+    took z.args.day S.Tai r.read_days.result r.first_of.ensures r.read_days.ensures
+    z.args.scale c.take_reading.result (narrow z) e.in-Tai.is c.take_reading.ensures
 
-returns_2 : tie.Need-returns-2
+returns_2 : tie.Need-returns-in-Utc
 returns_2 c =
     let r = c.before in
     let e = r.before.before in
-    let z = e.before.before in
-    took z.args.day S.Utc r.read-days2.result r.before.first-of2.ensures r.read-days2.ensures
-    z.args.scale c.take-reading2.result (narrow z) e.enum-told2.given.1 c.take-reading2.ensures
+    let z = e.before in
+    took z.args.day S.Utc r.read_days-in-Utc.result r.first_of-in-Utc.ensures r.read_days-in-Utc.ensures
+    z.args.scale c.take_reading-in-Utc.result (narrow z) e.in-Utc.is c.take_reading-in-Utc.ensures
 
-returns_3 : tie.Need-returns-3
+returns_3 : tie.Need-returns-in-Gps
 returns_3 c =
     let r = c.before in
     let e = r.before.before in
-    let z = e.before.before in
-    took z.args.day S.Gps r.read-days3.result r.before.first-of3.ensures r.read-days3.ensures
-    z.args.scale c.take-reading3.result (narrow z) e.enum-told3.given.1 c.take-reading3.ensures
+    let z = e.before in
+    took z.args.day S.Gps r.read_days-in-Gps.result r.first_of-in-Gps.ensures r.read_days-in-Gps.ensures
+    z.args.scale c.take_reading-in-Gps.result (narrow z) e.in-Gps.is c.take_reading-in-Gps.ensures
 
 pub take_decimal_spec : {M : Type 1} → statement M
 take_decimal_spec =
     tie.close
-    (tie.spec
-    (λ c. search rules)
-    (λ c κs. search rules)
-    (λ c κs. search rules)
-    take_reading_requires
-    (λ c. search rules)
-    (λ c κs. search rules)
-    (λ c κs. search rules)
-    take_reading_requires_2
-    (λ c. search rules)
-    (λ c κs. search rules)
-    (λ c κs. search rules)
-    take_reading_requires_3
-    returns
-    returns_2
-    returns_3)
+    (tie.spec (λ c. search rules) (λ c κs. search rules) (λ c κs. search rules) take_reading_requires (λ c. search rules) (λ c κs. search rules) (λ c κs. search rules) take_reading_requires_2 (λ c. search rules) (λ c κs. search rules) (λ c κs. search rules) take_reading_requires_3 returns returns_2 returns_3)

@@ -8,19 +8,19 @@ use borrow.Author.Rules.{rules}
 use Rattle.handed.proofs.inner.take_reading.Statement.{statement}
 use Rattle.handed.proofs.inner.take_reading.Tie as tie
 
-time_of_requires : tie.Need-time-of-requires
-time_of_requires c κs = subst (λ (r : Reading). place_read r < 2 ^ 62) c.before.r.given.1 c.before.before.before.requires
+time_of_requires : tie.Need-time_of-requires
+time_of_requires c κs = subst (λ (r : Reading). place_read r < 2 ^ 62) c.in-At.is c.requires
 
-returns : tie.Need-returns
-returns c = sym (ap (taken_as c.before.before.args.scale) c.enum_told.given.1)
+returns : tie.Need-returns-in-NotFinite
+returns c = sym (ap (taken_as c.args.scale) c.in-NotFinite.is)
 
-returns_2 : tie.Need-returns-2
-returns_2 c = sym (ap (taken_as c.before.before.args.scale) c.enum-told2.given.1)
+returns_2 : tie.Need-returns-in-Outside
+returns_2 c = sym (ap (taken_as c.args.scale) c.in-Outside.is)
 
-returns_3 : tie.Need-returns-3
+returns_3 : tie.Need-returns-in-At
 returns_3 c =
-    let k = c.before.before in
-    ap K.At c.time-of.ensures ∙ sym (ap (taken_as k.before.before.args.scale) k.r.given.1)
+    let k = c in
+    ap K.At c.time_of.ensures ∙ sym (ap (taken_as k.args.scale) k.in-At.is)
 
 pub take_reading_spec : {M : Type 1} → statement M
 take_reading_spec =

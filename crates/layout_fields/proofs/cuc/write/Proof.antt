@@ -6,7 +6,7 @@ use Rattle.layout_fields.proofs.cuc.write.Tie as tie
 
 returns : tie.Need-returns
 unfolding write
-returns c = c.before.before.place-two.ensures
+returns c = c.place_two.ensures
 
 pub write_spec : {M : Type 1} → statement M
 write_spec =

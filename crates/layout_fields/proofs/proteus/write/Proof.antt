@@ -9,45 +9,34 @@ use borrow.Author.Rules.{rules}
 use Rattle.layout_fields.proofs.proteus.write.Statement.{statement}
 use Rattle.layout_fields.proofs.proteus.write.Tie as tie
 
-returns : tie.Need-returns
+returns : tie.Need-returns-then-week-ge4096
 unfolding write
 returns c =
-    let a = c.before.before.before.before.args in
-    keeps a.out.now (writing a.f a.out.now) R.FieldOver (here (over_first _ _ (le-ltb a.f.week 4096 c.if1.true)))
+    let a = c.args in
+    keeps a.out.now (writing a.f a.out.now) R.FieldOver (here (over_first _ _ (le-ltb a.f.week 4096 c.if-week-ge4096.true)))
 
-returns_2 : tie.Need-returns-2
+returns_2 : tie.Need-returns-then-second-gt604799
 unfolding write
 returns_2 c =
     let l = c.before in
-    let a = l.before.before.before.before.args in
+    let a = l.args in
     keeps a.out.now (writing a.f a.out.now) R.FieldOver
-    (here (over_second _ _ (lt-ltb a.f.week 4096 l.if1.false) (lt-leb a.f.second 604799 c.if2.true)))
+    (here (over_second _ _ (lt-ltb a.f.week 4096 l.if-week-ge4096.false) (lt-leb a.f.second 604799 c.if-second-gt604799.true)))
 
-returns_3 : tie.Need-returns-3
+returns_3 : tie.Need-returns
 unfolding write
 returns_3 c =
     let p = c.before.before in
-    let g = p.before.before.struct-known3.given in
+    let g = p.struct_known-3-1.given in
     let h = p.before.before.before in
     let e = h.before in
     let l = e.before in
-    let a = l.before.before.before.before.args in
+    let a = l.args in
     let o = a.out.now in
-    three o (in_limits a.f) (within _ _ (lt-ltb a.f.week 4096 l.if1.false) (le-leb a.f.second 604799 e.if2.false))
-    h.head.result (head_of a.f.week a.f.h3) a.f.second a.f.fraction h.head.ensures (omega (arith, g.1.1.0)) (omega (arith, g.1.1.1.0)) p.place-two.ensures
+    three o (in_limits a.f) (within _ _ (lt-ltb a.f.week 4096 l.if-week-ge4096.false) (le-leb a.f.second 604799 e.if-second-gt604799.false))
+    h.head.result (head_of a.f.week a.f.h3) a.f.second a.f.fraction h.head.ensures (omega (arith, g.1.1.0)) (omega (arith, g.1.1.1.0)) p.place_two.ensures
 
 pub write_spec : {M : Type 1} → statement M
 write_spec =
     tie.close
-    (tie.spec
-    (λ c. search rules)
-    (λ c. search rules)
-    returns
-    returns_2
-    (λ c κs. search rules)
-    (λ c. search rules)
-    (λ c. search rules)
-    (λ c. search rules)
-    (λ c κs. search rules)
-    (λ c. search rules)
-    returns_3)
+    (tie.spec (λ c. search rules) (λ c. search rules) returns returns_2 (λ c κs. search rules) (λ c. search rules) (λ c. search rules) (λ c. search rules) (λ c κs. search rules) (λ c. search rules) returns_3)

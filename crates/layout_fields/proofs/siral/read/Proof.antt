@@ -11,37 +11,29 @@ use borrow.Author.Rules.{rules}
 use Rattle.layout_fields.proofs.siral.read.Statement.{statement}
 use Rattle.layout_fields.proofs.siral.read.Tie as tie
 
-returns : tie.Need-returns
+returns : tie.Need-returns-then-b-ne10
 unfolding read
-returns c = refuses empty (reading c.before.before.args.b.now) R.LengthIsNone (here (ne_eqb _ 10 c.if1.true))
+returns c = refuses empty (reading c.args.b.now) R.LengthIsNone (here (ne_eqb _ 10 c.if-b-ne10.true))
 
-returns_2 : tie.Need-returns-2
+returns_2 : tie.Need-returns-in-Fields
 unfolding read
 returns_2 c =
-    let k = c.before.before in
-    let b = k.before.before in
-    let s = b.before.before.before.args.b.now in
-    let e = front_some s (in_limits (part s 2 4) (part s 6 2)) k.f.given.0.0 (sym k.f.given.1 ∙ b.front.ensures) in
-    rw (e.1, c.part.ensures.is) (answers empty (reading s) (fields_of s) (next (eq-eqb _ 10 b.before.if1.false) (next e.0 last)))
+    let k = c in
+    let b = k in
+    let s = b.args.b.now in
+    let e = front_some s (in_limits (part s 2 4) (part s 6 2)) k.in-Fields.f (sym k.in-Fields.is ∙ b.front.ensures) in
+    rw (e.1, c.part.ensures.is) (answers empty (reading s) (fields_of s) (next (eq-eqb _ 10 b.if-b-ne10.false) (next e.0 last)))
 
-returns_3 : tie.Need-returns-3
+returns_3 : tie.Need-returns-in-Refused
 unfolding read
 returns_3 c =
-    let k = c.before in
-    let b = k.before.before in
-    let s = b.before.before.before.args.b.now in
-    let e = front_no s (in_limits (part s 2 4) (part s 6 2)) k.r.given.0.0 (sym k.r.given.1 ∙ b.front.ensures) in
-    rw e.1 (refuses empty (reading s) R.FieldOver (later (eq-eqb _ 10 b.before.if1.false) (here e.0)))
+    let k = c in
+    let b = k in
+    let s = b.args.b.now in
+    let e = front_no s (in_limits (part s 2 4) (part s 6 2)) k.in-Refused.r (sym k.in-Refused.is ∙ b.front.ensures) in
+    rw e.1 (refuses empty (reading s) R.FieldOver (later (eq-eqb _ 10 b.if-b-ne10.false) (here e.0)))
 
 pub read_spec : {M : Type 1} → statement M
 read_spec =
     tie.close
-    (tie.spec
-    returns
-    (λ c κs. search rules)
-    (λ c. search rules)
-    (λ c κs. search rules)
-    (λ c. search rules)
-    (λ c. search rules)
-    returns_2
-    returns_3)
+    (tie.spec returns (λ c κs. search rules) (λ c. search rules) (λ c κs. search rules) (λ c. search rules) (λ c. search rules) returns_2 returns_3)

@@ -11,38 +11,25 @@ use borrow.Author.Rules.{rules}
 use Rattle.layout_fields.proofs.siral.write.Statement.{statement}
 use Rattle.layout_fields.proofs.siral.write.Tie as tie
 
-returns : tie.Need-returns
+returns : tie.Need-returns-then-not-in_limits
 unfolding write
 returns c =
-    let a = c.before.before.before.args in
-    keeps a.out.now (writing a.f a.out.now) R.FieldOver (here (sym c.before.in-limits.ensures ∙ not-true _ c.if1.true))
+    let a = c.args in
+    keeps a.out.now (writing a.f a.out.now) R.FieldOver (here (sym c.in_limits.ensures ∙ not-true _ c.if-not-in_limits.true-raw))
 
-returns_2 : tie.Need-returns-2
+returns_2 : tie.Need-returns
 unfolding write
 returns_2 c =
     let p = c.before.before in
     let k = p.before.before in
     let e = k.before.before.before.before in
     let t = e.before in
-    let a = t.before.before.args in
-    let g = k.struct-known4.given in
-    four a.out.now (in_limits a.f.millisecond a.f.microsecond) (sym t.in-limits.ensures ∙ not-false _ e.if1.false)
-    a.f.day a.f.millisecond a.f.microsecond a.f.extra (omega (arith, g.0)) (omega (arith, g.1.0)) (omega (arith, g.1.1.0)) (omega (arith, g.1.1.1.0)) p.place-two.ensures
+    let a = t.args in
+    let g = k.struct_known-4-1.given in
+    four a.out.now (in_limits a.f.millisecond a.f.microsecond) (sym t.in_limits.ensures ∙ not-false _ e.if-not-in_limits.false-raw)
+    a.f.day a.f.millisecond a.f.microsecond a.f.extra (omega (arith, g.0)) (omega (arith, g.1.0)) (omega (arith, g.1.1.0)) (omega (arith, g.1.1.1.0)) p.place_two.ensures
 
 pub write_spec : {M : Type 1} → statement M
 write_spec =
     tie.close
-    (tie.spec
-    (λ c κs. search rules)
-    returns
-    (λ c. search rules)
-    (λ c. search rules)
-    (λ c. search rules)
-    (λ c. search rules)
-    (λ c. search rules)
-    (λ c. search rules)
-    (λ c. search rules)
-    (λ c. search rules)
-    (λ c κs. search rules)
-    (λ c. search rules)
-    returns_2)
+    (tie.spec (λ c κs. search rules) returns (λ c. search rules) (λ c. search rules) (λ c. search rules) (λ c. search rules) (λ c. search rules) (λ c. search rules) (λ c. search rules) (λ c. search rules) (λ c κs. search rules) (λ c. search rules) returns_2)

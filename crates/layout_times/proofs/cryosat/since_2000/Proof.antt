@@ -9,20 +9,20 @@ use Rattle.layout_times.proofs.cryosat.since_2000.Statement.{statement}
 use Rattle.layout_times.proofs.cryosat.since_2000.Tie as tie
 
 -- the count that was taken
-known : (c : tie.After-n) → HeldIn S.Tai c.before.before.before.args.h c.n.given.0.0
-known c = held_in S.Tai c.before.before.before.args.h c.n.given.0.0 (sym (ap count_slip c.n.given.1) ∙ c.before.before.due.ensures)
+known : (c : tie.In-Count) → HeldIn S.Tai c.args.h c.in-Count.n
+known c = held_in S.Tai c.args.h c.in-Count.n (sym (ap count_slip c.in-Count.is) ∙ c.due.ensures)
 
-returns : tie.Need-returns
-returns c = let k = c.before.before in cryosat_early k.before.before.before.args.h k.n.given.0.0 (known k) c.if1.true
+returns : tie.Need-returns-then-n-lt3456000000000000
+returns c = let k = c in cryosat_early k.args.h k.in-Count.n (known k.before) c.if-n-lt3456000000000000.true
 
-returns_2 : tie.Need-returns-2
-returns_2 c = let k = c.before.before in cryosat_at k.before.before.before.args.h k.n.given.0.0 (known k) c.if1.false
+returns_2 : tie.Need-returns-else-n-lt3456000000000000
+returns_2 c = let k = c in cryosat_at k.args.h k.in-Count.n (known k.before) c.if-n-lt3456000000000000.false
 
-returns_3 : tie.Need-returns-3
+returns_3 : tie.Need-returns-in-Refused
 returns_3 c =
-    let k = c.before in
-    let b = k.before.before in
-    cryosat_no b.before.args.h k.r.given.0.0 (sym (ap count_slip k.r.given.1) ∙ b.due.ensures)
+    let k = c in
+    let b = k in
+    cryosat_no b.args.h k.in-Refused.r (sym (ap count_slip k.in-Refused.is) ∙ b.due.ensures)
 
 pub since_2000_spec : {M : Type 1} → statement M
 since_2000_spec =

@@ -7,7 +7,7 @@ use Rattle.layout_times.proofs.cuc.fields_at.Statement.{statement}
 use Rattle.layout_times.proofs.cuc.fields_at.Tie as tie
 
 returns : tie.Need-returns
-returns c = ap {B = Fields} (λ (x : ℕ). record { seconds = c.before.args.n / 1000000; fraction = x }) c.fraction-at.ensures
+returns c = ap {B = Fields} (λ (x : ℕ). record { seconds = c.args.n / 1000000; fraction = x }) c.fraction_at.ensures
 
 pub fields_at_spec : {M : Type 1} → statement M
 fields_at_spec = tie.close (tie.spec (λ c. search rules) (λ c κs. search rules) returns)

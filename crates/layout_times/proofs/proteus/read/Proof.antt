@@ -8,7 +8,7 @@ use Rattle.scales.specs.Marks.{remark_is, remark_refused}
 use Rattle.scales.specs.Order.{is_answers}
 use Rattle.scales.specs.declared.Scale.TheVariants as S
 use Rattle.scales.specs.declared.Mark.TheVariants as M
-use Rattle.layout_fields.specs.Proteus.{reading as fieldsReading, empty, fields_of, slip as fieldsSlip, read as fieldsRead}
+use Rattle.layout_fields.specs.Proteus.{reading as fields_reading, empty, fields_of, slip as fields_slip, read as fields_read}
 use Rattle.layout_times.specs.Chain.{read_no, read_at, told_answer}
 use Rattle.layout_times.specs.Proteus.{epoch, micros_of, reading, read}
 use Rattle.layout_times.proofs.Ways.{proteus_h3}
@@ -21,48 +21,34 @@ marked : (s : List ℕ) (b : Bool) → (fields_of s).h3 ≡ b → remark (M.Prot
 unfolding read
 marked s b e = remark_is (M.Proteus b) S.Utc (reading s) refl ∙ ap (λ (x : Bool). dated_as (M.Proteus x) S.Utc (outcome (reading s))) (sym e)
 
-returns : tie.Need-returns
-unfolding fieldsRead
+returns : tie.Need-returns-in-Fields
+unfolding fields_read
 returns c =
     let i = c.before in
-    let k = i.before.before.before.before.before in
-    let f = k.f.given.0.0 in
-    let b = k.before.before in
-    let s = b.before.before.args.b.now in
-    let e = sym (ap fieldsSlip k.f.given.1) ∙ b.read.ensures in
-    c.with-mark.ensures
+    let k = i in
+    let f = k.in-Fields.f in
+    let b = k in
+    let s = b.args.b.now in
+    let e = sym (ap fields_slip k.in-Fields.is) ∙ b.read.ensures in
+    c.with_mark.ensures
     ∙ ap (remark (M.Proteus f.h3))
     (i.since.ensures
-    ∙ read_at S.Utc epoch micros_of empty (fieldsReading s) refl f e _
-    (ap (λ (x : ℕ). (f.week * 604800 + f.second) * 1000000 + x) i.before.fraction-micros.ensures))
-    ∙ marked s f.h3 (proteus_h3 s f (is_answers (fieldsReading s) f (told_answer empty (fieldsReading s) refl f e)))
+    ∙ read_at S.Utc epoch micros_of empty (fields_reading s) refl f e _
+    (ap (λ (x : ℕ). (f.week * 604800 + f.second) * 1000000 + x) i.fraction_micros.ensures))
+    ∙ marked s f.h3 (proteus_h3 s f (is_answers (fields_reading s) f (told_answer empty (fields_reading s) refl f e)))
 
-returns_2 : tie.Need-returns-2
-unfolding fieldsRead
+returns_2 : tie.Need-returns-in-Refused
+unfolding fields_read
 returns_2 c =
-    let k = c.before in
-    let b = k.before.before in
-    let s = b.before.before.args.b.now in
+    let k = c in
+    let b = k in
+    let s = b.args.b.now in
     let m = M.Proteus (fields_of s).h3 in
-    remark_refused m k.r.given.0.0 S.Utc
-    ∙ ap (remark m) (read_no S.Utc epoch micros_of empty (fieldsReading s) k.r.given.0.0 (sym (ap fieldsSlip k.r.given.1) ∙ b.read.ensures))
+    remark_refused m k.in-Refused.r S.Utc
+    ∙ ap (remark m) (read_no S.Utc epoch micros_of empty (fields_reading s) k.in-Refused.r (sym (ap fields_slip k.in-Refused.is) ∙ b.read.ensures))
     ∙ marked s (fields_of s).h3 refl
 
 pub read_spec : {M : Type 1} → statement M
 read_spec =
     tie.close
-    (tie.spec
-    (λ c κs. search rules)
-    (λ c. search rules)
-    (λ c. search rules)
-    (λ c. search rules)
-    (λ c. search rules)
-    (λ c. search rules)
-    (λ c. search rules)
-    (λ c κs. search rules)
-    (λ c. search rules)
-    (λ c κs. search rules)
-    (λ c κs. search rules)
-    (λ c. search rules)
-    returns
-    returns_2)
+    (tie.spec (λ c κs. search rules) (λ c. search rules) (λ c. search rules) (λ c. search rules) (λ c. search rules) (λ c. search rules) (λ c. search rules) (λ c κs. search rules) (λ c. search rules) (λ c κs. search rules) (λ c κs. search rules) (λ c. search rules) returns returns_2)

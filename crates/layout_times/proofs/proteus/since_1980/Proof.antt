@@ -9,41 +9,31 @@ use Rattle.layout_times.proofs.proteus.since_1980.Statement.{statement}
 use Rattle.layout_times.proofs.proteus.since_1980.Tie as tie
 
 -- the count that was taken
-known : (c : tie.After-n) → HeldIn S.Utc c.before.before.before.args.h c.n.given.0.0
-known c = held_in S.Utc c.before.before.before.args.h c.n.given.0.0 (sym (ap count_slip c.n.given.1) ∙ c.before.before.due.ensures)
+known : (c : tie.In-Count) → HeldIn S.Utc c.args.h c.in-Count.n
+known c = held_in S.Utc c.args.h c.in-Count.n (sym (ap count_slip c.in-Count.is) ∙ c.due.ensures)
 
-returns : tie.Need-returns
-returns c = let k = c.before.before in proteus_early k.before.before.before.args.h k.n.given.0.0 (known k) c.if1.true
+returns : tie.Need-returns-then-day-lt32700
+returns c = let k = c in proteus_early k.args.h k.in-Count.n (known k.before) c.if-day-lt32700.true
 
-returns_2 : tie.Need-returns-2
-returns_2 c = let k = c.before.before.before in proteus_late_lem k.before.before.before.args.h k.n.given.0.0 (known k) c.if2.true
+returns_2 : tie.Need-returns-then-day-gt61371
+returns_2 c = let k = c in proteus_late_lem k.args.h k.in-Count.n (known k.before.before) c.if-day-gt61371.true
 
-returns_3 : tie.Need-returns-3
-returns_3 c = let k = c.before.before.before.before in proteus_sixty_lem k.before.before.before.args.h k.n.given.0.0 (known k) c.if3.true
+returns_3 : tie.Need-returns-then-micro-ge86400000000
+returns_3 c = let k = c in proteus_sixty_lem k.args.h k.in-Count.n (known k.before.before.before) c.if-micro-ge86400000000.true
 
-returns_4 : tie.Need-returns-4
+returns_4 : tie.Need-returns-else-micro-ge86400000000
 returns_4 c =
     let l = c.before.before in
-    let k = l.before.before in
-    proteus_at k.before.before.before.args.h k.n.given.0.0 (known k) l.if1.false c.before.if2.false c.if3.false
+    let k = l in
+    proteus_at k.args.h k.in-Count.n (known k.before) l.if-day-lt32700.false c.if-day-gt61371.false c.if-micro-ge86400000000.false
 
-returns_5 : tie.Need-returns-5
+returns_5 : tie.Need-returns-in-Refused
 returns_5 c =
-    let k = c.before in
-    let b = k.before.before in
-    proteus_no b.before.args.h k.r.given.0.0 (sym (ap count_slip k.r.given.1) ∙ b.due.ensures)
+    let k = c in
+    let b = k in
+    proteus_no b.args.h k.in-Refused.r (sym (ap count_slip k.in-Refused.is) ∙ b.due.ensures)
 
 pub since_1980_spec : {M : Type 1} → statement M
 since_1980_spec =
     tie.close
-    (tie.spec
-    (λ c κs. search rules)
-    (λ c. search rules)
-    returns
-    returns_2
-    returns_3
-    (λ c. search rules)
-    (λ c. search rules)
-    (λ c. search rules)
-    returns_4
-    returns_5)
+    (tie.spec (λ c κs. search rules) (λ c. search rules) returns returns_2 returns_3 (λ c. search rules) (λ c. search rules) (λ c. search rules) returns_4 returns_5)

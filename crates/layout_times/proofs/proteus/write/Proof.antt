@@ -4,7 +4,7 @@ use mathlib.Core.Bool.{Bool}
 use Prim.Native.Nat.{ℕ}
 use Rattle.scales.specs.Meaning.{outcome, some, valued, value_slip, count_slip}
 use Rattle.handed.specs.Meaning.{mark_of}
-use Rattle.layout_fields.specs.Proteus.{in_limits, image_of, write as fieldsWrite}
+use Rattle.layout_fields.specs.Proteus.{in_limits, image_of, write as fields_write}
 use Rattle.layout_fields.specs.declared.proteus.Fields.{Fields}
 use Rattle.layout_times.specs.Chain.{write_no, write_at}
 use Rattle.layout_times.specs.Due.{since1980}
@@ -15,50 +15,40 @@ use Rattle.layout_times.proofs.proteus.write.Statement.{statement}
 use Rattle.layout_times.proofs.proteus.write.Tie as tie
 
 -- the microseconds that were taken, and H3
-known : (c : tie.After-n) → value_slip 0 (some c.n.given.0.0) ≡ valued 0 (outcome (since1980 c.before.before.before.before.args.h))
-known c = sym (ap count_slip c.n.given.1) ∙ c.before.before.since-1980.ensures
+known : (c : tie.In-Count) → value_slip 0 (some c.in-Count.n) ≡ valued 0 (outcome (since1980 c.args.h))
+known c = sym (ap count_slip c.in-Count.is) ∙ c.since_1980.ensures
 
-h3_is : (c : tie.After-h3-of) → c.h3-of.result ≡ h3_of (mark_of c.before.before.before.before.before.before.before.args.h)
-h3_is c = c.h3-of.ensures ∙ ap h3_of c.before.mark.ensures
+h3_is : (c : tie.After-h3_of) → c.h3_of.result ≡ h3_of (mark_of c.args.h)
+h3_is c = c.h3_of.ensures ∙ ap h3_of c.mark.ensures
 
-fields_at_requires : tie.Need-fields-at-requires
-fields_at_requires c κs = let k = c.before.before.before in proteus_below k.before.before.before.before.args.h k.n.given.0.0 (known k)
+fields_at_requires : tie.Need-fields_at-requires
+fields_at_requires c κs = let k = c in proteus_below k.args.h k.in-Count.n (known k.before.before)
 
-returns : tie.Need-returns
-unfolding write fieldsWrite
+returns : tie.Need-returns-in-Count
+unfolding write fields_write
 returns c =
     let w = c.before.before in
     let g = w.before.before in
     let i = g.before in
-    let k = i.before.before.before in
-    let a = k.before.before.before.before.args in
+    let k = i in
+    let a = k.args in
     let o = a.out.now in
-    let n = k.n.given.0.0 in
+    let n = k.in-Count.n in
     let b = h3_of (mark_of a.h) in
-    write_at (λ (n : ℕ). image_of (fields_at b n)) o (since1980 a.h) refl n (known k)
-    (in_limits (fields_at b n)) (proteus_limits b n (proteus_below a.h n (known k)))
-    (w.write.ensures ∙ ap (λ (f : Fields). fieldsWrite f o) (g.fields_at.ensures ∙ ap (λ (x : Bool). fields_at x n) (h3_is i)))
+    write_at (λ (n : ℕ). image_of (fields_at b n)) o (since1980 a.h) refl n (known k.before.before)
+    (in_limits (fields_at b n)) (proteus_limits b n (proteus_below a.h n (known k.before.before)))
+    (w.write.ensures ∙ ap (λ (f : Fields). fields_write f o) (g.fields_at.ensures ∙ ap (λ (x : Bool). fields_at x n) (h3_is i)))
 
-returns_2 : tie.Need-returns-2
+returns_2 : tie.Need-returns-in-Refused
 unfolding write
 returns_2 c =
-    let k = c.before in
-    let b = k.before.before in
-    let a = b.before.before.args in
-    write_no (λ (n : ℕ). image_of (fields_at (h3_of (mark_of a.h)) n)) a.out.now (since1980 a.h) k.r.given.0.0
-    (sym (ap count_slip k.r.given.1) ∙ b.since-1980.ensures)
+    let k = c in
+    let b = k in
+    let a = b.args in
+    write_no (λ (n : ℕ). image_of (fields_at (h3_of (mark_of a.h)) n)) a.out.now (since1980 a.h) k.in-Refused.r
+    (sym (ap count_slip k.in-Refused.is) ∙ b.since_1980.ensures)
 
 pub write_spec : {M : Type 1} → statement M
 write_spec =
     tie.close
-    (tie.spec
-    (λ c κs. search rules)
-    (λ c. search rules)
-    (λ c κs. search rules)
-    (λ c κs. search rules)
-    fields_at_requires
-    (λ c κs. search rules)
-    (λ c. search rules)
-    (λ c. search rules)
-    returns
-    returns_2)
+    (tie.spec (λ c κs. search rules) (λ c. search rules) (λ c κs. search rules) (λ c κs. search rules) fields_at_requires (λ c κs. search rules) (λ c. search rules) (λ c. search rules) returns returns_2)

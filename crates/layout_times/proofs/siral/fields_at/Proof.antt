@@ -8,7 +8,7 @@ use Rattle.layout_times.proofs.siral.fields_at.Tie as tie
 
 returns : tie.Need-returns
 returns c =
-    ap {B = Fields} (λ (f : Cryosat.Fields). record { day = f.day; millisecond = f.millisecond; microsecond = f.microsecond; extra = 0 }) c.fields_at.ensures
+    ap {B = Fields} (λ (f : Cryosat.Fields). record { day = f.day; millisecond = f.millisecond; microsecond = f.microsecond; extra = 0 }) c.fields_at-f.ensures
 
 pub fields_at_spec : {M : Type 1} → statement M
 fields_at_spec = tie.close (tie.spec (λ c κs. search rules) returns)

@@ -1,7 +1,7 @@
 -- `layout_times::siral::read` meets its contract. Assumes nothing.
 use mathlib.Core.Path.{refl, sym, ap, ◌∙◌}
 use Rattle.scales.specs.declared.Scale.TheVariants as S
-use Rattle.layout_fields.specs.Siral.{reading as fieldsReading, empty, slip as fieldsSlip, read as fieldsRead}
+use Rattle.layout_fields.specs.Siral.{reading as fields_reading, empty, slip as fields_slip, read as fields_read}
 use Rattle.layout_times.specs.Chain.{read_no, read_at}
 use Rattle.layout_times.specs.Cryosat.{epoch}
 use Rattle.layout_times.specs.Siral.{micros_of, read}
@@ -10,35 +10,25 @@ use borrow.Author.Rules.{rules}
 use Rattle.layout_times.proofs.siral.read.Statement.{statement}
 use Rattle.layout_times.proofs.siral.read.Tie as tie
 
-returns : tie.Need-returns
-unfolding read fieldsRead
+returns : tie.Need-returns-in-Fields
+unfolding read fields_read
 returns c =
     let m = c.before.before in
-    let k = m.before.before in
-    let f = k.f.given.0.0 in
-    let b = k.before.before in
-    let s = b.before.before.args.b.now in
+    let k = m in
+    let f = k.in-Fields.f in
+    let b = k in
+    let s = b.args.b.now in
     c.since.ensures
-    ∙ read_at S.Tai epoch micros_of empty (fieldsReading s) refl f (sym (ap fieldsSlip k.f.given.1) ∙ b.read.ensures) _ (siral_micros m.micros.result _ f.extra m.micros.ensures)
+    ∙ read_at S.Tai epoch micros_of empty (fields_reading s) refl f (sym (ap fields_slip k.in-Fields.is) ∙ b.read.ensures) _ (siral_micros m.micros-n.result _ f.extra m.micros-n.ensures)
 
-returns_2 : tie.Need-returns-2
-unfolding read fieldsRead
+returns_2 : tie.Need-returns-in-Refused
+unfolding read fields_read
 returns_2 c =
-    let k = c.before in
-    let b = k.before.before in
-    read_no S.Tai epoch micros_of empty (fieldsReading b.before.before.args.b.now) k.r.given.0.0 (sym (ap fieldsSlip k.r.given.1) ∙ b.read.ensures)
+    let k = c in
+    let b = k in
+    read_no S.Tai epoch micros_of empty (fields_reading b.args.b.now) k.in-Refused.r (sym (ap fields_slip k.in-Refused.is) ∙ b.read.ensures)
 
 pub read_spec : {M : Type 1} → statement M
 read_spec =
     tie.close
-    (tie.spec
-    (λ c κs. search rules)
-    (λ c. search rules)
-    (λ c κs. search rules)
-    (λ c. search rules)
-    (λ c. search rules)
-    (λ c. search rules)
-    (λ c κs. search rules)
-    (λ c. search rules)
-    returns
-    returns_2)
+    (tie.spec (λ c κs. search rules) (λ c. search rules) (λ c κs. search rules) (λ c. search rules) (λ c. search rules) (λ c. search rules) (λ c κs. search rules) (λ c. search rules) returns returns_2)

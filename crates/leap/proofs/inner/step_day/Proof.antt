@@ -11,9 +11,9 @@ use Rattle.leap.proofs.inner.step_day.Tie as tie
 
 returns : tie.Need-returns
 returns c =
-    let a = c.before.before.args in
-    c.place-of-day.ensures
-    ∙ ap place_of_day (to_z-of_z {w = w64} {z = get_or a.days.now a.i (pos 0)} (record { sfits = c.before.place-of-day-arg.given }))
+    let a = c.args in
+    c.place_of_day.ensures
+    ∙ ap place_of_day (to_z-of_z {w = w64} {z = get_or a.days.now a.i (pos 0)} (record { sfits = c.place_of_day-arg-1.given }))
 
 pub step_day_spec : {M : Type 1} → statement M
 step_day_spec =

@@ -9,17 +9,11 @@ use Rattle.octets.proofs.inner.part.Tie as tie
 returns : tie.Need-returns
 returns c =
     let a = c.before.before in
-    let g = a.before.args in
-    part_word g.b.now g.from g.n a.before.requires.0 (bytes_all g.b.now (λ (k : ℕ). (a.shared-slice-known.given k).fits)) a.before.requires.1
-    c.number_of_lem.result c.number_of_lem.ensures
+    let g = a.args in
+    part_word g.b.now g.from g.n a.requires.0 (bytes_all g.b.now (λ (k : ℕ). (a.shared_slice_known-1.given k).fits)) a.requires.1
+    c.number_of.result c.number_of.ensures
 
 pub part_spec : {M : Type 1} → statement M
 part_spec =
     tie.close
-    (tie.spec
-    (λ c. search rules)
-    (λ c. search rules)
-    (λ c. search rules)
-    (λ c. search rules)
-    (λ c κs. search rules)
-    returns)
+    (tie.spec (λ c. search rules) (λ c. search rules) (λ c. search rules) (λ c. search rules) (λ c κs. search rules) returns)

@@ -9,20 +9,20 @@ use Rattle.sbt.proofs.inner.cover.Statement.{statement}
 use Rattle.sbt.proofs.inner.cover.Tie as tie
 
 -- the reference's place
-known_r : (c : tie.After-known-told) → place_of c.before.before.before.before.args.c ≡ P.At c.before.r.given.0.0
-known_r c = sym c.before.before.before.reference-of.ensures ∙ c.before.r.given.1
+known_r : (c : tie.In-At) → place_of c.args.c ≡ P.At c.in-At.r
+known_r c = sym c.reference_of.ensures ∙ c.in-At.is
 
-ends_of_requires : tie.Need-ends-of-requires
-ends_of_requires c κs = cover_windowed c.before.before.before.before.args.c c.before.r.given.0.0 (known_r c)
+ends_of_requires : tie.Need-ends_of-requires
+ends_of_requires c κs = cover_windowed c.args.c c.in-At.r (known_r c)
 
-returns : tie.Need-returns
+returns : tie.Need-returns-in-At
 returns c =
     let k = c.before in
-    ap CV.At c.ends_of.ensures ∙ cover_at_lem k.before.before.before.before.args.c k.before.r.given.0.0 (known_r k)
+    ap CV.At c.ends_of.ensures ∙ cover_at_lem k.args.c k.in-At.r (known_r k)
 
-returns_2 : tie.Need-returns-2
+returns_2 : tie.Need-returns-in-Outside
 returns_2 c =
-    let b = c.before.before in cover_none b.before.args.c (sym b.reference-of.ensures ∙ c.enum_told.given.1)
+    let b = c.before in cover_none b.args.c (sym b.reference_of.ensures ∙ c.in-Outside.is)
 
 pub cover_spec : {M : Type 1} → statement M
 cover_spec =

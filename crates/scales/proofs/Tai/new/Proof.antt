@@ -10,16 +10,16 @@ use Rattle.scales.proofs.Tai.new.Statement.{statement}
 use Rattle.scales.proofs.Tai.new.Tie as tie
 
 -- the callee read the day from its bits
-seen : (c : tie.After-count-of) → let a = c.before.args in c.count_of.result ≡ fit_of S.Tai a.day a.micro
-seen c = c.count_of.ensures ∙ ap (λ (d : ℤ). fit_of S.Tai d c.before.args.micro) (to_z-of_z c.before.ranges.day)
+seen : (c : tie.After-count_of) → let a = c.args in c.count_of.result ≡ fit_of S.Tai a.day a.micro
+seen c = c.count_of.ensures ∙ ap (λ (d : ℤ). fit_of S.Tai d c.args.micro) (to_z-of_z c.ranges.day)
 
-returns : tie.Need-returns
-returns c = let b = c.before.before.before in let a = b.before.args in
-    count_at_lem S.Tai a.day a.micro c.before.n.given.0.0 (sym (seen b) ∙ c.before.n.given.1)
+returns : tie.Need-returns-in-At
+returns c = let b = c.before in let a = b.args in
+    count_at_lem S.Tai a.day a.micro c.in-At.n (sym (seen b) ∙ c.in-At.is)
 
-returns_2 : tie.Need-returns-2
-returns_2 c = let b = c.before.before in let a = b.before.args in
-    count_out_lem S.Tai a.day a.micro (sym (seen b) ∙ c.enum_told.given.1)
+returns_2 : tie.Need-returns-in-Outside
+returns_2 c = let b = c.before in let a = b.args in
+    count_out_lem S.Tai a.day a.micro (sym (seen b) ∙ c.in-Outside.is)
 
 pub new_spec : {M : Type 1} → statement M
 new_spec = tie.close (tie.spec (λ c κs. search rules) (λ c. search rules) (λ c. search rules) returns returns_2)

@@ -10,28 +10,19 @@ use Rattle.scales.proofs.Time.to_record.Tie as tie
 of : Time → Record
 of t = record_at (time_scale t) (time_count t)
 
-returns : tie.Need-returns
+returns : tie.Need-returns-in-Tai
 unfolding of
-returns c = c.to-record.ensures ∙ sym (ap of c.before.before.self.given.1)
+returns c = c.to_record.ensures ∙ sym (ap of c.in-Tai.is)
 
-returns_2 : tie.Need-returns-2
+returns_2 : tie.Need-returns-in-Utc
 unfolding of
-returns_2 c = c.to-record2.ensures ∙ sym (ap of c.before.before.self2.given.1)
+returns_2 c = c.to_record-in-Utc.ensures ∙ sym (ap of c.in-Utc.is)
 
-returns_3 : tie.Need-returns-3
+returns_3 : tie.Need-returns-in-Gps
 unfolding of
-returns_3 c = c.to-record3.ensures ∙ sym (ap of c.before.before.self3.given.1)
+returns_3 c = c.to_record-in-Gps.ensures ∙ sym (ap of c.in-Gps.is)
 
 pub to_record_spec : {M : Type 1} → statement M
 to_record_spec =
     tie.close
-    (tie.spec
-    (λ c. search rules)
-    (λ c κs. search rules)
-    (λ c. search rules)
-    (λ c κs. search rules)
-    (λ c. search rules)
-    (λ c κs. search rules)
-    returns
-    returns_2
-    returns_3)
+    (tie.spec (λ c. search rules) (λ c κs. search rules) (λ c. search rules) (λ c κs. search rules) (λ c. search rules) (λ c κs. search rules) returns returns_2 returns_3)

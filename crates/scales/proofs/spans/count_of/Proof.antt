@@ -22,51 +22,43 @@ days_seen S.Tai d = refl
 days_seen S.Utc d = refl
 days_seen S.Gps d = refl
 
-between_is : (c : tie.After-is-between) → let a = c.before.before.before.before.args in
-    c.is-between.result ≡ is_between (first a.scale) a.day (last a.scale)
+between_is : (c : tie.After-is_between) → let a = c.args in
+    c.is_between.result ≡ is_between (first a.scale) a.day (last a.scale)
 between_is c =
     let g = c.before.before.before in
-    let a = g.before.args in
-    c.is-between.ensures
-    ∙ ap₂ (λ (w : Span) (z : ℤ). is_between (to_z w64 (of_z w64 w.first)) z (to_z w64 (of_z w64 w.last))) g.Span-of.ensures (to_z-of_z g.before.ranges.day)
+    let a = g.args in
+    c.is_between.ensures
+    ∙ ap₂ (λ (w : Span) (z : ℤ). is_between (to_z w64 (of_z w64 w.first)) z (to_z w64 (of_z w64 w.last))) g.span_of-span.ensures (to_z-of_z g.ranges.day)
     ∙ days_seen a.scale a.day
 
-bound_is : (c : tie.After-span-of) → c.Span-of.result.bound ≡ bound c.before.args.scale
-bound_is c = ap (λ (w : Span). w.bound) c.Span-of.ensures
+bound_is : (c : tie.After-span_of-span) → c.span_of-span.result.bound ≡ bound c.args.scale
+bound_is c = ap (λ (w : Span). w.bound) c.span_of-span.ensures
 
-place_is : (c : tie.After-place-of-day) → c.place-of-day.result ≡ place_of_day c.before.before.before.before.before.before.before.args.day
-place_is c = c.place-of-day.ensures ∙ ap place_of_day (to_z-of_z c.before.before.before.before.before.before.before.ranges.day)
+place_is : (c : tie.After-place_of_day) → c.place_of_day.result ≡ place_of_day c.args.day
+place_is c = c.place_of_day.ensures ∙ ap place_of_day (to_z-of_z c.ranges.day)
 
-returns : tie.Need-returns
-returns c = let g = c.before.before.before.before in let a = g.before.args in
-    count_days a.scale a.day a.micro g.Span-of.result.bound (bound_is g) (sym (between_is c.before) ∙ not-true _ c.if1.true)
+returns : tie.Need-returns-then-not-is_between
+returns c = let g = c.before.before.before.before in let a = g.args in
+    count_days a.scale a.day a.micro g.span_of-span.result.bound (bound_is g) (sym (between_is c.before) ∙ not-true _ c.if-not-is_between.true-raw)
 
-returns_2 : tie.Need-returns-2
-returns_2 c = let g = c.before.before.before.before.before in let a = g.before.args in
-    count_over_lem a.scale a.day a.micro g.Span-of.result.bound (bound_is g) c.if2.true
+returns_2 : tie.Need-returns-then-bound-micro
+returns_2 c = let g = c.before.before.before.before.before in let a = g.args in
+    count_over_lem a.scale a.day a.micro g.span_of-span.result.bound (bound_is g) c.if-bound-micro.true
 
-mul_t9 : tie.Need-overflow-mul-t9
-mul_t9 c = let g = c.before.before.before.before.before.before in let a = g.before.args in
-    omega (arith, count_fits a.scale a.day a.micro g.Span-of.result.bound (bound_is g) c.place-of-day.result (place_is c) c.before.if2.false)
+mul_t9 : tie.Need-overflow_mul-result
+mul_t9 c = let g = c.before.before.before.before.before.before in let a = g.args in
+    omega (arith, count_fits a.scale a.day a.micro g.span_of-span.result.bound (bound_is g) c.place_of_day.result (place_is c) c.if-bound-micro.false)
 
-add_t10 : tie.Need-overflow-add-t10
-add_t10 c = let g = c.before.before.before.before.before.before in let a = g.before.args in
-    omega (arith, count_fits a.scale a.day a.micro g.Span-of.result.bound (bound_is g) c.place-of-day.result (place_is c) c.before.if2.false)
+add_t10 : tie.Need-overflow_add-result
+add_t10 c = let g = c.before.before.before.before.before.before in let a = g.args in
+    omega (arith, count_fits a.scale a.day a.micro g.span_of-span.result.bound (bound_is g) c.place_of_day.result (place_is c) c.if-bound-micro.false)
 
-returns_3 : tie.Need-returns-3
-returns_3 c = let g = c.before.before.before.before.before.before in let a = g.before.args in
-    count_within a.scale a.day a.micro g.Span-of.result.bound (bound_is g) c.place-of-day.result (place_is c) c.before.if2.false
-    (sym (between_is c.before.before.before) ∙ not-false _ c.before.before.if1.false)
+returns_3 : tie.Need-returns
+returns_3 c = let g = c.before.before.before.before.before.before in let a = g.args in
+    count_within a.scale a.day a.micro g.span_of-span.result.bound (bound_is g) c.place_of_day.result (place_is c) c.if-bound-micro.false
+    (sym (between_is c.before.before.before) ∙ not-false _ c.if-not-is_between.false-raw)
 
 pub count_of_spec : {M : Type 1} → statement M
 count_of_spec =
     tie.close
-    (tie.spec
-    (λ c κs. search rules)
-    (λ c κs. search rules)
-    returns
-    returns_2
-    (λ c κs. search rules)
-    mul_t9
-    add_t10
-    returns_3)
+    (tie.spec (λ c κs. search rules) (λ c κs. search rules) returns returns_2 (λ c κs. search rules) mul_t9 add_t10 returns_3)

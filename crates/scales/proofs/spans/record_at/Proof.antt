@@ -16,31 +16,31 @@ use Rattle.scales.specs.declared.spans.Span.{Span}
 use Rattle.scales.proofs.spans.record_at.Statement.{statement}
 use Rattle.scales.proofs.spans.record_at.Tie as tie
 
-bound_is : (c : tie.After-span-of) → c.Span-of.result.bound ≡ bound c.before.args.scale
-bound_is c = ap (λ (x : Span). x.bound) c.Span-of.ensures
+bound_is : (c : tie.After-span_of-bound) → c.span_of-bound.result.bound ≡ bound c.args.scale
+bound_is c = ap (λ (x : Span). x.bound) c.span_of-bound.ensures
 
-whole : (c : tie.After-span-of) → 86400000000 ≤ c.Span-of.result.bound
-whole c = subst (λ (n : ℕ). 86400000000 ≤ n) (sym (bound_is c)) (apart c.before.args.scale).whole
+whole : (c : tie.After-span_of-bound) → 86400000000 ≤ c.span_of-bound.result.bound
+whole c = subst (λ (n : ℕ). 86400000000 ≤ n) (sym (bound_is c)) (apart c.args.scale).whole
 
-div_day_at : tie.Need-nonzero-div-day-at
+div_day_at : tie.Need-nonzero_div-count
 div_day_at c = omega (arith, whole c)
 
 -- the day's place fits 32 bits, whatever the count
-cast_day_at : tie.Need-overflow-cast-day-at
+cast_day_at : tie.Need-overflow_cast-count
 cast_day_at c =
-    let b = c.Span-of.result.bound in
+    let b = c.span_of-bound.result.bound in
     let p : 0 < b = omega (arith, whole c) in
     let h : 4294967296 * 86400000000 ≤ 4294967296 * b = mul-le-mul_left 4294967296 (whole c) in
     record { fits = (div-lt_iff_lt-mul p).1 (omega arith) }
 
-rem_t6 : tie.Need-nonzero-rem-t6
+rem_t6 : tie.Need-nonzero_rem-result
 rem_t6 c = omega (arith, whole c.before)
 
 returns : tie.Need-returns
 returns c =
-    let a = c.before.before.args in
-    ap {B = Record} (λ (z : ℤ). record { scale = a.scale; day = z; micro = a.count % c.before.Span-of.result.bound; mark = Plain })
-    (to_z-of_z {w = w64} {z = c.day_at.result} (record { sfits = c.day_at.type-inv }) ∙ c.day_at.ensures)
+    let a = c.args in
+    ap {B = Record} (λ (z : ℤ). record { scale = a.scale; day = z; micro = a.count % c.span_of-bound.result.bound; mark = Plain })
+    (to_z-of_z {w = w64} {z = c.day_at-day.result} (record { sfits = c.day_at-day.type_inv }) ∙ c.day_at-day.ensures)
     ∙ ap {B = Record} (λ (b : ℕ). record { scale = a.scale; day = day_at (a.count / b); micro = a.count % b; mark = Plain }) (bound_is c.before)
 
 pub record_at_spec : {M : Type 1} → statement M

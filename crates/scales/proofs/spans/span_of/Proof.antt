@@ -5,14 +5,14 @@ use Rattle.scales.specs.Place.{span_of}
 use Rattle.scales.proofs.spans.span_of.Statement.{statement}
 use Rattle.scales.proofs.spans.span_of.Tie as tie
 
-returns : tie.Need-returns
-returns c = sym (ap span_of c.enum_told.given.1)
+returns : tie.Need-returns-in-Tai
+returns c = sym (ap span_of c.in-Tai.is)
 
-returns_2 : tie.Need-returns-2
-returns_2 c = sym (ap span_of c.enum-told2.given.1)
+returns_2 : tie.Need-returns-in-Utc
+returns_2 c = sym (ap span_of c.in-Utc.is)
 
-returns_3 : tie.Need-returns-3
-returns_3 c = sym (ap span_of c.enum-told3.given.1)
+returns_3 : tie.Need-returns-in-Gps
+returns_3 c = sym (ap span_of c.in-Gps.is)
 
 pub span_of_spec : {M : Type 1} → statement M
 span_of_spec =

@@ -12,34 +12,25 @@ use Rattle.clock.specs.Meaning.{Cover}
 use Rattle.season.proofs.question.answer.Statement.{statement}
 use Rattle.season.proofs.question.answer.Tie as tie
 
-returns : tie.Need-returns
-returns c = let k = c.before.before.before in rw (k.s.given.1, not-true k.s.given.0.0.found c.if1.true)
+returns : tie.Need-returns-then-not-t
+returns c = let k = c in rw (k.in-Kept.is, not-true k.in-Kept.t.found c.if-not-t.true)
 
-returns_2 : tie.Need-returns-2
+returns_2 : tie.Need-returns-else-not-t
 returns_2 c =
     let u = c.before in
     let s = u.before in
     let t = s.before in
     let e = t.before in
-    let k = e.before.before.before in
-    let x = to_z-of_z {w = w64} {z = s.Signed-of.result} (record { sfits = s.Signed-of.type-inv }) ∙ s.Signed-of.ensures ∙ ap signed_of t.turn.ensures in
-    let y = to_z-of_z {w = w64} {z = c.signed-of2.result} (record { sfits = c.signed-of2.type-inv }) ∙ c.signed-of2.ensures ∙ ap signed_of u.turn2.ensures in
+    let k = e in
+    let x = to_z-of_z {w = w64} {z = s.signed_of.result} (record { sfits = s.signed_of.type_inv }) ∙ s.signed_of.ensures ∙ ap signed_of t.turn.ensures in
+    let y = to_z-of_z {w = w64} {z = c.signed_of-in-Kept.result} (record { sfits = c.signed_of-in-Kept.type_inv }) ∙ c.signed_of-in-Kept.ensures ∙ ap signed_of u.turn-in-Kept.ensures in
     ap₂ {C = Valued Cover} (λ (f g : ℤ). valued (record { from = pos 0; to = pos 0 }) (Scales.answer (record { from = f; to = g }))) x y
-    ∙ rw (k.s.given.1, not-false k.s.given.0.0.found e.if1.false)
+    ∙ rw (k.in-Kept.is, not-false k.in-Kept.t.found e.if-not-t.false)
 
-returns_3 : tie.Need-returns-3
-returns_3 c = rw c.enum_told.given.1
+returns_3 : tie.Need-returns-in-Broken
+returns_3 c = rw c.in-Broken.is
 
 pub answer_spec : {M : Type 1} → statement M
 answer_spec =
     tie.close
-    (tie.spec
-    (λ c. search rules)
-    returns
-    (λ c κs. search rules)
-    (λ c κs. search rules)
-    (λ c κs. search rules)
-    (λ c κs. search rules)
-    (λ c. search rules)
-    returns_2
-    returns_3)
+    (tie.spec (λ c. search rules) returns (λ c κs. search rules) (λ c κs. search rules) (λ c κs. search rules) (λ c κs. search rules) (λ c. search rules) returns_2 returns_3)

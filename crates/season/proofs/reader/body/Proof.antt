@@ -25,28 +25,13 @@ returns c =
     let d = c.before.before.before in
     let p = d.before.before in
     let z = p.before in
-    made z.before.part.ensures.is z.Signed-of.ensures
-    (p.place-of-micros.ensures ∙ ap place_of_micros (to_z-of_z {w = w64} {z = z.Signed-of.result} (record { sfits = z.Signed-of.type-inv })))
-    d.before.part2.ensures.is
-    (to_z-of_z {w = w64} {z = d.day_at.result} (record { sfits = d.day_at.type-inv }) ∙ d.day_at.ensures)
-    c.before.before.part3.ensures.is c.before.part4.ensures.is c.part5.ensures.is
+    made z.part.ensures.is z.signed_of.ensures
+    (p.place_of_micros-p.ensures ∙ ap place_of_micros (to_z-of_z {w = w64} {z = z.signed_of.result} (record { sfits = z.signed_of.type_inv })))
+    d.part-2.ensures.is
+    (to_z-of_z {w = w64} {z = d.day_at.result} (record { sfits = d.day_at.type_inv }) ∙ d.day_at.ensures)
+    c.part-3.ensures.is c.part-4.ensures.is c.part-5.ensures.is
 
 pub body_spec : {M : Type 1} → statement M
 body_spec =
     tie.close
-    (tie.spec
-    (λ c. search rules)
-    (λ c κs. search rules)
-    (λ c κs. search rules)
-    (λ c κs. search rules)
-    (λ c κs. search rules)
-    (λ c. search rules)
-    (λ c. search rules)
-    (λ c κs. search rules)
-    (λ c. search rules)
-    (λ c κs. search rules)
-    (λ c. search rules)
-    (λ c κs. search rules)
-    (λ c. search rules)
-    (λ c κs. search rules)
-    returns)
+    (tie.spec (λ c. search rules) (λ c κs. search rules) (λ c κs. search rules) (λ c κs. search rules) (λ c κs. search rules) (λ c. search rules) (λ c. search rules) (λ c κs. search rules) (λ c. search rules) (λ c κs. search rules) (λ c. search rules) (λ c κs. search rules) (λ c. search rules) (λ c κs. search rules) returns)

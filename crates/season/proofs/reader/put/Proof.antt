@@ -22,10 +22,10 @@ returns c =
     let a = t.before in
     let s = told a in
     rw (
-      to_z-of_z {w = w64} {z = f.Signed-of.result} (record { sfits = f.Signed-of.type-inv }) ∙ f.Signed-of.ensures ∙ ap signed_of f.before.turn.ensures,
-      to_z-of_z {w = w64} {z = g.signed-of2.result} (record { sfits = g.signed-of2.type-inv }) ∙ g.signed-of2.ensures ∙ ap signed_of g.before.turn2.ensures,
-      to_z-of_z {w = w64} {z = a.args.c.day} (record { sfits = t.struct_told.given.1.1.0.1 }),
-      to_z_pos w64 {n = a.args.c.tick.0} (omega (arith, t.struct_told.given.0.1.1.0.1)),
+      to_z-of_z {w = w64} {z = f.signed_of.result} (record { sfits = f.signed_of.type_inv }) ∙ f.signed_of.ensures ∙ ap signed_of f.turn.ensures,
+      to_z-of_z {w = w64} {z = g.signed_of-2.result} (record { sfits = g.signed_of-2.type_inv }) ∙ g.signed_of-2.ensures ∙ ap signed_of g.turn-2.ensures,
+      to_z-of_z {w = w64} {z = a.args.c.day} (record { sfits = t.struct_told-1.given.1.1.0.1 }),
+      to_z_pos w64 {n = a.args.c.tick.0} (omega (arith, t.struct_told-1.given.0.1.1.0.1)),
       to_z_pos w64 {n = a.args.c.micro} (omega (arith, s.under)),
       to_z_pos w64 {n = a.args.c.period} (omega (arith, s.slow)),
       to_z_pos w64 {n = a.args.c.back} (omega (arith, s.back_to)),
@@ -36,24 +36,4 @@ returns c =
 pub put_spec : {M : Type 1} → statement M
 put_spec =
     tie.close
-    (tie.spec
-    (λ c κs. search rules)
-    (λ c κs. search rules)
-    (λ c. search rules)
-    (λ c κs. search rules)
-    (λ c κs. search rules)
-    (λ c. search rules)
-    (λ c. search rules)
-    (λ c. search rules)
-    (λ c. search rules)
-    (λ c. simp length-set (omega (arith, c.before.before.before.before.before.before.requires.1)))
-    (λ c. record { sfits = omega (arith, (told c.before.before.before.before.before.before.before).under) })
-    (λ c. simp length-set (omega (arith, c.before.before.before.before.before.before.before.requires.1)))
-    (λ c. record { sfits = omega (arith, (told c.before.before.before.before.before.before.before.before).slow) })
-    (λ c. simp length-set (omega (arith, c.before.before.before.before.before.before.before.before.requires.1)))
-    (λ c. record { sfits = omega (arith, (told c.before.before.before.before.before.before.before.before.before).back_to) })
-    (λ c. simp length-set (omega (arith, c.before.before.before.before.before.before.before.before.before.requires.1)))
-    (λ c. record { sfits = omega (arith, (told c.before.before.before.before.before.before.before.before.before.before).ahead_to) })
-    (λ c. simp length-set (omega (arith, c.before.before.before.before.before.before.before.before.before.before.requires.1)))
-    (λ c. simp length-set)
-    returns)
+    (tie.spec (λ c κs. search rules) (λ c κs. search rules) (λ c. search rules) (λ c κs. search rules) (λ c κs. search rules) (λ c. search rules) (λ c. search rules) (λ c. search rules) (λ c. search rules) (λ c. simp length-set (omega (arith, c.requires.1))) (λ c. record { sfits = omega (arith, (told c.before.before.before.before.before.before.before).under) }) (λ c. simp length-set (omega (arith, c.requires.1))) (λ c. record { sfits = omega (arith, (told c.before.before.before.before.before.before.before.before).slow) }) (λ c. simp length-set (omega (arith, c.requires.1))) (λ c. record { sfits = omega (arith, (told c.before.before.before.before.before.before.before.before.before).back_to) }) (λ c. simp length-set (omega (arith, c.requires.1))) (λ c. record { sfits = omega (arith, (told c.before.before.before.before.before.before.before.before.before.before).ahead_to) }) (λ c. simp length-set (omega (arith, c.requires.1))) (λ c. simp length-set) returns)

@@ -11,31 +11,31 @@ use Rattle.season.proofs.reader.stands.Statement.{statement}
 use Rattle.season.proofs.reader.stands.Tie as tie
 
 -- the cover, where there is one
-known : (c : tie.After-v) → covered_by c.before.before.before.args.c ≡ CV.At c.v.given.0.0
-known c = sym c.before.before.cover.ensures ∙ c.v.given.1
+known : (c : tie.In-At) → covered_by c.args.c ≡ CV.At c.in-At.v
+known c = sym c.cover.ensures ∙ c.in-At.is
 
-add_if1 : tie.Need-overflow-add-if1
+add_if1 : tie.Need-overflow_add-v
 add_if1 c =
-    let v = c.before.before in
-    let k = few v.before.before.before.args.c v.v.given.0.0 (known v) in
+    let v = c in
+    let k = few v.args.c v.in-At.v (known v.before) in
     record { fits = omega arith }
 
-returns : tie.Need-returns
-returns c = let v = c.before.before.before.before in rw (known v, ne_eqb _ _ c.if1.true)
+returns : tie.Need-returns-then-e-v
+returns c = let v = c in rw (known v.before.before.before, ne_eqb _ _ c.if-e-v.true)
 
-add_result : tie.Need-overflow-add-result
+add_result : tie.Need-overflow_add-result
 add_result c =
-    let v = c.before.before.before.before.before in
-    let k = few v.before.before.before.args.c v.v.given.0.0 (known v) in
+    let v = c in
+    let k = few v.args.c v.in-At.v (known v.before.before.before.before) in
     record { fits = omega arith }
 
-returns_2 : tie.Need-returns-2
-returns_2 c = let f = c.before.before in let v = f.before.before.before.before in rw (known v, eq-eqb _ _ f.if1.false)
+returns_2 : tie.Need-returns-else-e-v
+returns_2 c = let f = c.before.before in let v = f in rw (known v.before.before.before, eq-eqb _ _ f.if-e-v.false)
 
-returns_3 : tie.Need-returns-3
+returns_3 : tie.Need-returns-in-Outside
 returns_3 c =
-    let s = c.before.before in
-    sym (ap (same_as s.before.args.e) (sym s.cover.ensures ∙ c.enum_told.given.1))
+    let s = c.before in
+    sym (ap (same_as s.args.e) (sym s.cover.ensures ∙ c.in-Outside.is))
 
 pub stands_spec : {M : Type 1} → statement M
 stands_spec =

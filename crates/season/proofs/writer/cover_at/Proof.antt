@@ -9,48 +9,35 @@ use Rattle.season.proofs.writer.cover_at.Statement.{statement}
 use Rattle.season.proofs.writer.cover_at.Tie as tie
 
 -- the tick's bits, and the scale's
-tick : (c : tie.After-bits-of) → let a = c.before.before.args in c.bits_of.result ≡ bits_in a.words.now (7 * a.k)
+tick : (c : tie.After-bits_of) → let a = c.args in c.bits_of.result ≡ bits_in a.words.now (7 * a.k)
 tick c =
-    let a = c.before.before.args in
-    bits_read (word_in a.words.now (7 * a.k)) c.bits_of.result c.before.bits-of-arg.given c.bits_of.ensures
+    let a = c.args in
+    bits_read (word_in a.words.now (7 * a.k)) c.bits_of.result c.bits_of-arg-1.given c.bits_of.ensures
 
-code : (c : tie.After-bits-of2) → let a = c.before.before.before.before.before.args in c.bits-of2.result ≡ bits_in a.words.now (7 * a.k + 1)
+code : (c : tie.After-bits_of-2) → let a = c.args in c.bits_of-2.result ≡ bits_in a.words.now (7 * a.k + 1)
 code c =
-    let a = c.before.before.before.before.before.args in
-    bits_read (word_in a.words.now (7 * a.k + 1)) c.bits-of2.result c.before.bits-of-arg2.given c.bits-of2.ensures
+    let a = c.args in
+    bits_read (word_in a.words.now (7 * a.k + 1)) c.bits_of-2.result c.bits_of-arg-2-1.given c.bits_of-2.ensures
 
-returns : tie.Need-returns
-returns c = let a = c.before.before.before.args in not_tick a.words.now a.k (omega (arith, c.if1.true, tick c.before))
+returns : tie.Need-returns-then-bits_of-gt4294967295
+returns c = let a = c.args in not_tick a.words.now a.k (omega (arith, c.if-bits_of-gt4294967295.true, tick c.before))
 
-returns_2 : tie.Need-returns-2
+returns_2 : tie.Need-returns-then-bits_of-ne0
 returns_2 c =
-    let a = c.before.before.before.before.before.before.args in
-    not_tai a.words.now a.k (λ e. c.if2.true (code c.before ∙ e))
+    let a = c.args in
+    not_tai a.words.now a.k (λ e. c.if-bits_of-ne0.true (code c.before ∙ e))
 
-returns_3 : tie.Need-returns-3
+returns_3 : tie.Need-returns
 returns_3 c =
     let t = c.before in
     let e = t.before.before in
     let b = e.before.before.before in
-    let a = b.before.before.args in
+    let a = b.args in
     c.cover.ensures
-    ∙ cover_taken a.words.now a.k t.correlation-at.result t.correlation-at.ensures b.before.bits-of-arg.given e.before.bits-of-arg2.given
-    (omega (arith, e.before.before.if1.false, tick b)) (sym (code e) ∙ t.before.if2.false)
+    ∙ cover_taken a.words.now a.k t.correlation_at.result t.correlation_at.ensures b.bits_of-arg-1.given e.bits_of-arg-2-1.given
+    (omega (arith, e.if-bits_of-gt4294967295.false, tick b)) (sym (code e) ∙ t.if-bits_of-ne0.false)
 
 pub cover_at_spec : {M : Type 1} → statement M
 cover_at_spec =
     tie.close
-    (tie.spec
-    (λ c. search rules)
-    (λ c. search rules)
-    (λ c. search rules)
-    (λ c κs. search rules)
-    returns
-    (λ c. search rules)
-    (λ c. search rules)
-    (λ c. search rules)
-    (λ c κs. search rules)
-    returns_2
-    (λ c κs. search rules)
-    (λ c κs. search rules)
-    returns_3)
+    (tie.spec (λ c. search rules) (λ c. search rules) (λ c. search rules) (λ c κs. search rules) returns (λ c. search rules) (λ c. search rules) (λ c. search rules) (λ c κs. search rules) returns_2 (λ c κs. search rules) (λ c κs. search rules) returns_3)

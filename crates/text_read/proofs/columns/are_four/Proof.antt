@@ -6,13 +6,13 @@ use borrow.Author.Rules.{rules}
 use Rattle.text_read.proofs.columns.are_four.Statement.{statement}
 use Rattle.text_read.proofs.columns.are_four.Tie as tie
 
-returns : tie.Need-returns
+returns : tie.Need-returns-then-not-are_two
 unfolding are_four
-returns c = rw (sym c.before.are-two.ensures ∙ not-true _ c.if1.true)
+returns c = rw (sym c.are_two.ensures ∙ not-true _ c.if-not-are_two.true-raw)
 
-returns_2 : tie.Need-returns-2
+returns_2 : tie.Need-returns
 unfolding are_four
-returns_2 c = rw (sym c.before.before.are-two.ensures ∙ not-false _ c.before.if1.false) c.are-two2.ensures
+returns_2 c = rw (sym c.are_two.ensures ∙ not-false _ c.if-not-are_two.false-raw) c.are_two-2.ensures
 
 pub are_four_spec : {M : Type 1} → statement M
 are_four_spec = tie.close (tie.spec (λ c κs. search rules) returns (λ c κs. search rules) returns_2)

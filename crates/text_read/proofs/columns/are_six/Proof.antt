@@ -6,13 +6,13 @@ use borrow.Author.Rules.{rules}
 use Rattle.text_read.proofs.columns.are_six.Statement.{statement}
 use Rattle.text_read.proofs.columns.are_six.Tie as tie
 
-returns : tie.Need-returns
+returns : tie.Need-returns-then-not-are_four
 unfolding are_six
-returns c = rw (sym c.before.are-four.ensures ∙ not-true _ c.if1.true)
+returns c = rw (sym c.are_four.ensures ∙ not-true _ c.if-not-are_four.true-raw)
 
-returns_2 : tie.Need-returns-2
+returns_2 : tie.Need-returns
 unfolding are_six
-returns_2 c = rw (sym c.before.before.are-four.ensures ∙ not-false _ c.before.if1.false) c.are-two.ensures
+returns_2 c = rw (sym c.are_four.ensures ∙ not-false _ c.if-not-are_four.false-raw) c.are_two.ensures
 
 pub are_six_spec : {M : Type 1} → statement M
 are_six_spec = tie.close (tie.spec (λ c κs. search rules) returns (λ c κs. search rules) returns_2)

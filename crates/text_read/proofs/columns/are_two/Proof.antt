@@ -6,13 +6,13 @@ use borrow.Author.Rules.{rules}
 use Rattle.text_read.proofs.columns.are_two.Statement.{statement}
 use Rattle.text_read.proofs.columns.are_two.Tie as tie
 
-returns : tie.Need-returns
+returns : tie.Need-returns-then-not-is_digit
 unfolding are_two
-returns c = rw (sym c.before.is_digit.ensures ∙ not-true _ c.if1.true)
+returns c = rw (sym c.is_digit.ensures ∙ not-true _ c.if-not-is_digit.true-raw)
 
-returns_2 : tie.Need-returns-2
+returns_2 : tie.Need-returns
 unfolding are_two
-returns_2 c = rw (sym c.before.before.is_digit.ensures ∙ not-false _ c.before.if1.false) c.is-digit2.ensures
+returns_2 c = rw (sym c.is_digit.ensures ∙ not-false _ c.if-not-is_digit.false-raw) c.is_digit-2.ensures
 
 pub are_two_spec : {M : Type 1} → statement M
 are_two_spec = tie.close (tie.spec (λ c κs. search rules) returns (λ c κs. search rules) returns_2)

@@ -5,7 +5,7 @@ use borrow.Author.Rules.{rules}
 use Rattle.text_read.proofs.columns.digit.Statement.{statement}
 use Rattle.text_read.proofs.columns.digit.Tie as tie
 
-sub_result : tie.Need-overflow-sub-result
+sub_result : tie.Need-overflow_sub-result
 sub_result c = omega (arith, digit_from c.args.b c.requires)
 
 returns : tie.Need-returns

@@ -18,8 +18,8 @@ returns c =
     let f = c.before in
     let s = f.before in
     let x = s.args in (
-      ap₂ (λ (m n : ℕ). m * 100 + n) f.two.ensures.0 c.two2.ensures.0 ∙ four_is x.a x.b x.c x.d s.requires,
-      omega (arith, f.two.ensures.1, c.two2.ensures.1),
+      ap₂ (λ (m n : ℕ). m * 100 + n) f.two.ensures.0 c.two-2.ensures.0 ∙ four_is x.a x.b x.c x.d s.requires,
+      omega (arith, f.two.ensures.1, c.two-2.ensures.1),
     )
 
 pub four_spec : {M : Type 1} → statement M

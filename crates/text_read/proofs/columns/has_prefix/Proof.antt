@@ -6,36 +6,23 @@ use borrow.Author.Rules.{rules}
 use Rattle.text_read.proofs.columns.has_prefix.Statement.{statement}
 use Rattle.text_read.proofs.columns.has_prefix.Tie as tie
 
-returns : tie.Need-returns
+returns : tie.Need-returns-then-s-p
 unfolding has_prefix
-returns c = rw (sym c.before.before.prefix.ensures, ne_eqb _ _ c.if1.true)
+returns c = rw (sym c.prefix-p.ensures, ne_eqb _ _ c.if-s-p.true)
 
-returns_2 : tie.Need-returns-2
+returns_2 : tie.Need-returns-then-s-p-2
 unfolding has_prefix
-returns_2 c = rw (sym c.before.before.before.before.prefix.ensures, eq-eqb _ _ c.before.before.if1.false, ne_eqb _ _ c.if2.true)
+returns_2 c = rw (sym c.prefix-p.ensures, eq-eqb _ _ c.if-s-p.false, ne_eqb _ _ c.if-s-p-2.true)
 
-returns_3 : tie.Need-returns-3
+returns_3 : tie.Need-returns-then-s-p-3
 unfolding has_prefix
-returns_3 c = rw (sym c.before.before.before.before.before.before.prefix.ensures, eq-eqb _ _ c.before.before.before.before.if1.false, eq-eqb _ _ c.before.before.if2.false, ne_eqb _ _ c.if3.true)
+returns_3 c = rw (sym c.prefix-p.ensures, eq-eqb _ _ c.if-s-p.false, eq-eqb _ _ c.if-s-p-2.false, ne_eqb _ _ c.if-s-p-3.true)
 
-returns_4 : tie.Need-returns-4
+returns_4 : tie.Need-returns
 unfolding has_prefix
-returns_4 c = rw (sym c.before.before.before.before.before.before.before.prefix.ensures, eq-eqb _ _ c.before.before.before.before.before.if1.false, eq-eqb _ _ c.before.before.before.if2.false, eq-eqb _ _ c.before.if3.false)
+returns_4 c = rw (sym c.prefix-p.ensures, eq-eqb _ _ c.if-s-p.false, eq-eqb _ _ c.if-s-p-2.false, eq-eqb _ _ c.if-s-p-3.false)
 
 pub has_prefix_spec : {M : Type 1} → statement M
 has_prefix_spec =
     tie.close
-    (tie.spec
-    (λ c κs. search rules)
-    (λ c. search rules)
-    (λ c. search rules)
-    returns
-    (λ c. search rules)
-    (λ c. search rules)
-    returns_2
-    (λ c. search rules)
-    (λ c. search rules)
-    returns_3
-    (λ c. search rules)
-    (λ c. search rules)
-    returns_4)
+    (tie.spec (λ c κs. search rules) (λ c. search rules) (λ c. search rules) returns (λ c. search rules) (λ c. search rules) returns_2 (λ c. search rules) (λ c. search rules) returns_3 (λ c. search rules) (λ c. search rules) returns_4)

@@ -6,63 +6,55 @@ use borrow.Author.Rules.{rules}
 use Rattle.text_read.proofs.columns.in_limits.Statement.{statement}
 use Rattle.text_read.proofs.columns.in_limits.Tie as tie
 
-returns : tie.Need-returns
+returns : tie.Need-returns-then-h-gt23
 unfolding in_limits
 returns c =
-    let t = c.before.args.t in
+    let t = c.args.t in
     rw (lt-leb t.hour 23 (omega arith))
 
-returns_2 : tie.Need-returns-2
+returns_2 : tie.Need-returns-then-m-gt59
 unfolding in_limits
 returns_2 c =
-    let t = c.before.before.args.t in
+    let t = c.args.t in
     rw (le-leb t.hour 23 (omega arith), lt-leb t.minute 59 (omega arith))
 
-returns_3 : tie.Need-returns-3
+returns_3 : tie.Need-returns-then-s-le59
 unfolding in_limits
 returns_3 c =
     let b = c.before.before.before in
     let t = b.args.t in
     rw (le-leb t.hour 23 (omega arith), le-leb t.minute 59 (omega arith), lt-ltb t.micro 1000000 b.requires, le-leb t.second 59 (omega arith))
 
-returns_4 : tie.Need-returns-4
+returns_4 : tie.Need-returns-then-s-ne60
 unfolding in_limits
 returns_4 c =
     let b = c.before.before.before.before in
     let t = b.args.t in
-    rw (le-leb t.hour 23 (omega arith), le-leb t.minute 59 (omega arith), lt-ltb t.micro 1000000 b.requires, lt-leb t.second 59 (omega arith), ne_eqb t.second 60 c.if4.true)
+    rw (le-leb t.hour 23 (omega arith), le-leb t.minute 59 (omega arith), lt-ltb t.micro 1000000 b.requires, lt-leb t.second 59 (omega arith), ne_eqb t.second 60 c.if-s-ne60.true)
 
-returns_5 : tie.Need-returns-5
+returns_5 : tie.Need-returns-then-h-ne23
 unfolding in_limits
 returns_5 c =
     let b = c.before.before.before.before.before in
     let t = b.args.t in
-    rw (le-leb t.hour 23 (omega arith), le-leb t.minute 59 (omega arith), lt-ltb t.micro 1000000 b.requires, lt-leb t.second 59 (omega arith), eq-eqb t.second 60 c.before.if4.false, ne_eqb t.hour 23 c.if5.true)
+    rw (le-leb t.hour 23 (omega arith), le-leb t.minute 59 (omega arith), lt-ltb t.micro 1000000 b.requires, lt-leb t.second 59 (omega arith), eq-eqb t.second 60 c.if-s-ne60.false, ne_eqb t.hour 23 c.if-h-ne23.true)
 
-returns_6 : tie.Need-returns-6
+returns_6 : tie.Need-returns-then-m-ne59
 unfolding in_limits
 returns_6 c =
     let b = c.before.before.before.before.before.before in
     let t = b.args.t in
-    rw (le-leb t.hour 23 (omega arith), le-leb t.minute 59 (omega arith), lt-ltb t.micro 1000000 b.requires, lt-leb t.second 59 (omega arith), eq-eqb t.second 60 c.before.before.if4.false, eq-eqb t.hour 23 c.before.if5.false, ne_eqb t.minute 59 c.if6.true)
+    rw (le-leb t.hour 23 (omega arith), le-leb t.minute 59 (omega arith), lt-ltb t.micro 1000000 b.requires, lt-leb t.second 59 (omega arith), eq-eqb t.second 60 c.if-s-ne60.false, eq-eqb t.hour 23 c.if-h-ne23.false, ne_eqb t.minute 59 c.if-m-ne59.true)
 
-returns_7 : tie.Need-returns-7
+returns_7 : tie.Need-returns
 unfolding in_limits
 returns_7 c =
     let b = c.before.before.before.before.before.before.before in
     let t = b.args.t in
-    rw (le-leb t.hour 23 (omega arith), le-leb t.minute 59 (omega arith), lt-ltb t.micro 1000000 b.requires, lt-leb t.second 59 (omega arith), eq-eqb t.second 60 c.before.before.before.if4.false, eq-eqb t.hour 23 c.before.before.if5.false, eq-eqb t.minute 59 c.before.if6.false)
+    rw (le-leb t.hour 23 (omega arith), le-leb t.minute 59 (omega arith), lt-ltb t.micro 1000000 b.requires, lt-leb t.second 59 (omega arith), eq-eqb t.second 60 c.if-s-ne60.false, eq-eqb t.hour 23 c.if-h-ne23.false, eq-eqb t.minute 59 c.if-m-ne59.false)
     c.is_utc.ensures
 
 pub in_limits_spec : {M : Type 1} → statement M
 in_limits_spec =
     tie.close
-    (tie.spec
-    returns
-    returns_2
-    returns_3
-    returns_4
-    returns_5
-    returns_6
-    (λ c κs. search rules)
-    returns_7)
+    (tie.spec returns returns_2 returns_3 returns_4 returns_5 returns_6 (λ c κs. search rules) returns_7)

@@ -14,11 +14,11 @@ named : (c : tie.Start) (m : ℕ) → month_named (letter m 0) (letter m 1) (let
     → m ≡ month_named c.args.a c.args.b c.args.c
 named c = let x = c.args in month_named_lem x.a x.b x.c (c.ranges.a.fits, c.ranges.b.fits, c.ranges.c.fits)
 
-none : tie.Need-returns-13
+none : tie.Need-returns-in_default
 unfolding month_named seek letter names
 none c =
-    let x = c.before.args in
-    let r = c.match.rest in
+    let x = c.args in
+    let r = c.in_default.in_default-own.rest in
     rw (
       not_named x.a x.b x.c 1 r.0.0.0.0.0.0.0.0.0.0.0.1,
       not_named x.a x.b x.c 2 r.0.0.0.0.0.0.0.0.0.0.1,
@@ -38,21 +38,4 @@ pub month_of_spec : {M : Type 1} → statement M
 unfolding month_named seek is_named letter names
 month_of_spec =
     tie.close
-    (tie.spec
-    (λ c. search rules)
-    (λ c. search rules)
-    (λ c. search rules)
-    (λ c. search rules)
-    (λ c. named c.before 1 refl c.match.keys1)
-    (λ c. named c.before 2 refl c.match.keys2)
-    (λ c. named c.before 3 refl c.match.keys3)
-    (λ c. named c.before 4 refl c.match.keys4)
-    (λ c. named c.before 5 refl c.match.keys5)
-    (λ c. named c.before 6 refl c.match.keys6)
-    (λ c. named c.before 7 refl c.match.keys7)
-    (λ c. named c.before 8 refl c.match.keys8)
-    (λ c. named c.before 9 refl c.match.keys9)
-    (λ c. named c.before 10 refl c.match.keys10)
-    (λ c. named c.before 11 refl c.match.keys11)
-    (λ c. named c.before 12 refl c.match.keys12)
-    none)
+    (tie.spec (λ c. search rules) (λ c. search rules) (λ c. search rules) (λ c. search rules) (λ c. named c.before 1 refl c.in-4866382.is) (λ c. named c.before 2 refl c.in-4605250.is) (λ c. named c.before 3 refl c.in-5062994.is) (λ c. named c.before 4 refl c.in-4280402.is) (λ c. named c.before 5 refl c.in-5063001.is) (λ c. named c.before 6 refl c.in-4871502.is) (λ c. named c.before 7 refl c.in-4871500.is) (λ c. named c.before 8 refl c.in-4281671.is) (λ c. named c.before 9 refl c.in-5457232.is) (λ c. named c.before 10 refl c.in-5194580.is) (λ c. named c.before 11 refl c.in-5132118.is) (λ c. named c.before 12 refl c.in-4474179.is) none)

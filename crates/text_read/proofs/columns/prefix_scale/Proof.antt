@@ -4,14 +4,14 @@ use borrow.Author.Rules.{rules}
 use Rattle.text_read.proofs.columns.prefix_scale.Statement.{statement}
 use Rattle.text_read.proofs.columns.prefix_scale.Tie as tie
 
-returns : tie.Need-returns
-returns c = rw (sym c.before.has-prefix.ensures ∙ c.if1.true)
+returns : tie.Need-returns-then-has_prefix
+returns c = rw (sym c.has_prefix.ensures ∙ c.if-has_prefix.true)
 
-returns_2 : tie.Need-returns-2
-returns_2 c = rw (sym c.before.before.before.has-prefix.ensures ∙ c.before.before.if1.false, sym c.before.has-prefix2.ensures ∙ c.if2.true)
+returns_2 : tie.Need-returns-then-has_prefix-2
+returns_2 c = rw (sym c.has_prefix.ensures ∙ c.if-has_prefix.false, sym c.has_prefix-2.ensures ∙ c.if-has_prefix-2.true)
 
-returns_3 : tie.Need-returns-3
-returns_3 c = rw (sym c.before.before.before.has-prefix.ensures ∙ c.before.before.if1.false, sym c.before.has-prefix2.ensures ∙ c.if2.false)
+returns_3 : tie.Need-returns
+returns_3 c = rw (sym c.has_prefix.ensures ∙ c.if-has_prefix.false, sym c.has_prefix-2.ensures ∙ c.if-has_prefix-2.false)
 
 pub prefix_scale_spec : {M : Type 1} → statement M
 prefix_scale_spec =

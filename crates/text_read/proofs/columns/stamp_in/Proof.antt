@@ -8,22 +8,22 @@ use Rattle.text_read.proofs.columns.stamp_in.Tie as tie
 known : (c : tie.Start) → Digits c.args.s.now
 known c = digits c.args.s.now c.requires.1
 
-two_requires : tie.Need-two-requires
+two_requires : tie.Need-two-day-requires
 two_requires c κs = (known c.before.before.before).day
 
-four_requires : tie.Need-four-requires
+four_requires : tie.Need-four-year-requires
 four_requires c κs = (known c.before.before.before.before.before.before.before.before.before.before.before.before).year
 
-two_requires_2 : tie.Need-two-requires-2
+two_requires_2 : tie.Need-two-hour-requires
 two_requires_2 c κs = (known c.before.before.before.before.before.before.before.before.before.before.before.before.before.before.before).hour
 
-two_requires_3 : tie.Need-two-requires-3
+two_requires_3 : tie.Need-two-minute-requires
 two_requires_3 c κs = (known c.before.before.before.before.before.before.before.before.before.before.before.before.before.before.before.before.before.before).minute
 
-two_requires_4 : tie.Need-two-requires-4
+two_requires_4 : tie.Need-two-second-requires
 two_requires_4 c κs = (known c.before.before.before.before.before.before.before.before.before.before.before.before.before.before.before.before.before.before.before.before.before).second
 
-micro_in_requires : tie.Need-micro-in-requires
+micro_in_requires : tie.Need-micro_in-micro-requires
 micro_in_requires c κs = (known c.before.before.before.before.before.before.before.before.before.before.before.before.before.before.before.before.before.before.before.before.before.before).micro
 
 returns : tie.Need-returns
@@ -35,32 +35,9 @@ returns c =
     let y = h.before.before.before in
     let o = y.before.before.before.before.before in
     let d = o.before.before.before.before in
-    rw (y.four.ensures.0, o.month-of.ensures, d.two.ensures.0, h.two2.ensures.0, m.two3.ensures.0, s.two4.ensures.0, c.micro_in.ensures)
+    rw (y.four-year.ensures.0, o.month_of-month.ensures, d.two-day.ensures.0, h.two-hour.ensures.0, m.two-minute.ensures.0, s.two-second.ensures.0, c.micro_in-micro.ensures)
 
 pub stamp_in_spec : {M : Type 1} → statement M
 stamp_in_spec =
     tie.close
-    (tie.spec
-    (λ c. search rules)
-    (λ c. search rules)
-    two_requires
-    (λ c. search rules)
-    (λ c. search rules)
-    (λ c. search rules)
-    (λ c κs. search rules)
-    (λ c. search rules)
-    (λ c. search rules)
-    (λ c. search rules)
-    (λ c. search rules)
-    four_requires
-    (λ c. search rules)
-    (λ c. search rules)
-    two_requires_2
-    (λ c. search rules)
-    (λ c. search rules)
-    two_requires_3
-    (λ c. search rules)
-    (λ c. search rules)
-    two_requires_4
-    micro_in_requires
-    returns)
+    (tie.spec (λ c. search rules) (λ c. search rules) two_requires (λ c. search rules) (λ c. search rules) (λ c. search rules) (λ c κs. search rules) (λ c. search rules) (λ c. search rules) (λ c. search rules) (λ c. search rules) four_requires (λ c. search rules) (λ c. search rules) two_requires_2 (λ c. search rules) (λ c. search rules) two_requires_3 (λ c. search rules) (λ c. search rules) two_requires_4 micro_in_requires returns)

@@ -18,8 +18,8 @@ returns c =
     let f = c.before in
     let s = f.before in
     let x = s.args in (
-      ap₂ (λ (m n : ℕ). m * 10 + n) f.digit.ensures.0 c.digit2.ensures.0 ∙ two_is x.a x.b s.requires,
-      omega (arith, f.digit.ensures.1, c.digit2.ensures.1),
+      ap₂ (λ (m n : ℕ). m * 10 + n) f.digit.ensures.0 c.digit-2.ensures.0 ∙ two_is x.a x.b s.requires,
+      omega (arith, f.digit.ensures.1, c.digit-2.ensures.1),
     )
 
 pub two_spec : {M : Type 1} → statement M

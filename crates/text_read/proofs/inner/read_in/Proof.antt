@@ -8,22 +8,20 @@ use borrow.Author.Rules.{rules}
 use Rattle.text_read.proofs.inner.read_in.Statement.{statement}
 use Rattle.text_read.proofs.inner.read_in.Tie as tie
 
-returns : tie.Need-returns
+returns : tie.Need-returns-in-Refused
 returns c =
-    let g = c.before.f.given in
-    let p = c.before.before.before in
-    let x = p.before.before.before.args in
-    in_refused x.to x.days.now x.offsets.now x.last x.text.now p.parse.result p.parse.ensures g.0.0 g.1
+    let p = c.before in
+    let x = p.args in
+    in_refused x.to x.days.now x.offsets.now x.last x.text.now p.parse.result p.parse.ensures c.in-Refused.f c.in-Refused.is
 
-returns_2 : tie.Need-returns-2
+returns_2 : tie.Need-returns-in-Time
 returns_2 c =
-    let g = c.before.before.r.given in
-    let p = c.before.before.before.before in
+    let p = c.before.before in
     let s = p.before.before.before in
     let x = s.args in
-    c.record-in.ensures
-    ∙ ap (λ (z : ℤ). dated x.to (outcome (record_in x.to x.days.now x.offsets.now z g.0.0))) (to_z-of_z s.ranges.last)
-    ∙ in_parsed x.to x.days.now x.offsets.now x.last x.text.now p.parse.result p.parse.ensures g.0.0 g.1
+    c.record_in.ensures
+    ∙ ap (λ (z : ℤ). dated x.to (outcome (record_in x.to x.days.now x.offsets.now z c.in-Time.r))) (to_z-of_z s.ranges.last)
+    ∙ in_parsed x.to x.days.now x.offsets.now x.last x.text.now p.parse.result p.parse.ensures c.in-Time.r c.in-Time.is
 
 pub read_in_spec : {M : Type 1} → statement M
 read_in_spec =

@@ -14,28 +14,26 @@ use Rattle.text_read.proofs.inner.record_in.Tie as tie
 
 change_requires : tie.Need-change-requires
 change_requires c κs =
-    let s = c.before.before.before.before.before in
+    let s = c.before.before.before in
     let x = s.args in
     λ h. subst (λ (z : ℤ). accepted x.days.now x.offsets.now z ≡ true) (sym (to_z-of_z s.ranges.last)) s.requires
 
-returns : tie.Need-returns
+returns : tie.Need-returns-in-At
 returns c =
-    let g = c.before.before.t.given in
-    let k = c.before.before.before.before in
+    let k = c.before.before in
     let s = k.before.before in
     let x = s.args in
-    let n = g.0.0 in
+    let n = c.in-At.t in
     c.change.ensures
     ∙ ap (λ (z : ℤ). dated x.to (outcome (of_count (time_scale n) (time_count n) (moving (time_scale n) x.to x.days.now x.offsets.now z)))) (to_z-of_z s.ranges.last)
-    ∙ in_at x.to x.days.now x.offsets.now x.last s.requires x.r n (ap slip_timed (sym g.1) ∙ k.to-time.ensures)
+    ∙ in_at x.to x.days.now x.offsets.now x.last s.requires x.r n (ap slip_timed (sym c.in-At.is) ∙ k.to_time.ensures)
 
-returns_2 : tie.Need-returns-2
+returns_2 : tie.Need-returns-in-Refused
 returns_2 c =
-    let g = c.before.f.given in
-    let k = c.before.before.before in
+    let k = c.before in
     let s = k.before.before in
     let x = s.args in
-    in_outside x.to x.days.now x.offsets.now x.last s.requires x.r g.0.0 g.0.1.0 (ap slip_timed (sym g.1) ∙ k.to-time.ensures)
+    in_outside x.to x.days.now x.offsets.now x.last s.requires x.r c.in-Refused.f c.in-Refused.field-1 (ap slip_timed (sym c.in-Refused.is) ∙ k.to_time.ensures)
 
 pub record_in_spec : {M : Type 1} → statement M
 record_in_spec =

@@ -14,32 +14,32 @@ use borrow.Author.Rules.{rules}
 use Rattle.text_write.proofs.image.put_text.Statement.{statement}
 use Rattle.text_write.proofs.image.put_text.Tie as tie
 
-returns : tie.Need-returns
+returns : tie.Need-returns-then-out-n
 returns c =
     let n = c.before in
-    let x = n.before.before.args in
-    text_short x.form x.z x.t x.out.now n.type_size.result n.type_size.ensures c.if1.true
+    let x = n.args in
+    text_short x.form x.z x.t x.out.now n.size_of-n.result n.size_of-n.ensures c.if-out-n.true
 
-put_prefix_requires : tie.Need-put-prefix-requires
+put_prefix_requires : tie.Need-put_prefix-from-requires
 put_prefix_requires c κs =
     let e = c.before in
     let n = e.before in
-    let x = n.before.before.args in
-    front_room x.form x.z x.t x.out.now n.type_size.result n.type_size.ensures e.if1.false
+    let x = n.args in
+    front_room x.form x.z x.t x.out.now n.size_of-n.result n.size_of-n.ensures e.if-out-n.false
 
 -- the prefix is not longer than the slice
-inside : (c : tie.After-put-prefix) → c.put-prefix.result ≤ length c.put-prefix.new.1.1.0
+inside : (c : tie.After-put_prefix-from) → c.put_prefix-from.result ≤ length c.put_prefix-from.new.out
 inside c =
     let e = c.before.before in
     let n = e.before in
-    let x = n.before.before.args in
-    from_room x.form x.z x.t x.out.now n.type_size.result n.type_size.ensures e.if1.false
-    c.put-prefix.result c.put-prefix.ensures.0 c.put-prefix.new.1.1.0 c.put-prefix.ensures.1
+    let x = n.args in
+    from_room x.form x.z x.t x.out.now n.size_of-n.result n.size_of-n.ensures e.if-out-n.false
+    c.put_prefix-from.result c.put_prefix-from.ensures.0 c.put_prefix-from.new.out c.put_prefix-from.ensures.1
 
-sub_fill : tie.Need-overflow-sub-fill
+sub_fill : tie.Need-slice_bounds-fill-count
 sub_fill c = inside c.before.before.before
 
-part_fill_start : tie.Need-slice-bounds-fill-start
+part_fill_start : tie.Need-slice_bounds-fill-start
 part_fill_start c = inside c.before.before.before
 
 fill_requires : tie.Need-fill-requires
@@ -50,39 +50,29 @@ fill_requires c κs =
     let n = e.before in
     let s = n.before.before in
     let x = s.args in
-    let o = p.put-prefix.new.1.1.0 in
-    let k = p.put-prefix.result in
-    let g = rest_room x.form x.z x.t x.out.now n.type_size.result n.type_size.ensures e.if1.false
-    k p.put-prefix.ensures.0 o p.put-prefix.ensures.1 in
-    (s.requires, subst₂ (λ (y : Bool) (l : List ℕ). length (body_of y x.t) ≤ length l) (sym m.has-micros.ensures) (sym (rest_lent k o)) g)
+    let o = p.put_prefix-from.new.out in
+    let k = p.put_prefix-from.result in
+    let g = rest_room x.form x.z x.t x.out.now n.size_of-n.result n.size_of-n.ensures e.if-out-n.false
+    k p.put_prefix-from.ensures.0 o p.put_prefix-from.ensures.1 in
+    (s.requires, subst₂ (λ (y : Bool) (l : List ℕ). length (body_of y x.t) ≤ length l) (sym m.has_micros.ensures) (sym (rest_lent k o)) g)
 
-returns_2 : tie.Need-returns-2
+returns_2 : tie.Need-returns
 returns_2 c =
     let f = c.before.before in
     let m = f.before.before in
     let p = m.before.before.before in
     let e = p.before.before in
     let n = e.before in
-    let x = n.before.before.args in
-    let o = p.put-prefix.new.1.1.0 in
-    let k = p.put-prefix.result in
-    let b = f.fill.new.1.1.0 in
-    ap (wrote (W.Bytes n.type_size.result)) (rest_back k o b)
-    ∙ text_put x.form x.z x.t x.out.now n.type_size.result n.type_size.ensures e.if1.false
-    k p.put-prefix.ensures.0 o p.put-prefix.ensures.1 b
-    (f.fill.ensures ∙ ap₂ (λ (y : Bool) (s : List ℕ). onto (body_of y x.t) s) m.has-micros.ensures (rest_lent k o))
+    let x = n.args in
+    let o = p.put_prefix-from.new.out in
+    let k = p.put_prefix-from.result in
+    let b = f.fill.new.out in
+    ap (wrote (W.Bytes n.size_of-n.result)) (rest_back k o b)
+    ∙ text_put x.form x.z x.t x.out.now n.size_of-n.result n.size_of-n.ensures e.if-out-n.false
+    k p.put_prefix-from.ensures.0 o p.put_prefix-from.ensures.1 b
+    (f.fill.ensures ∙ ap₂ (λ (y : Bool) (s : List ℕ). onto (body_of y x.t) s) m.has_micros.ensures (rest_lent k o))
 
 pub put_text_spec : {M : Type 1} → statement M
 put_text_spec =
     tie.close
-    (tie.spec
-    (λ c κs. search rules)
-    returns
-    put_prefix_requires
-    (λ c κs. search rules)
-    sub_fill
-    part_fill_start
-    (λ c. search rules)
-    fill_requires
-    (λ c. search rules)
-    returns_2)
+    (tie.spec (λ c κs. search rules) returns put_prefix_requires (λ c κs. search rules) sub_fill part_fill_start (λ c. search rules) fill_requires (λ c. search rules) returns_2)

@@ -5,14 +5,14 @@ use borrow.Author.Rules.{rules}
 use Rattle.text_write.proofs.inner.has_image.Statement.{statement}
 use Rattle.text_write.proofs.inner.has_image.Tie as tie
 
-returns : tie.Need-returns
-returns c = sym (rw (sym c.before.has-scale.ensures ∙ not-true _ c.if1.true))
+returns : tie.Need-returns-then-not-has_scale
+returns c = sym (rw (sym c.has_scale.ensures ∙ not-true _ c.if-not-has_scale.true-raw))
 
-returns_2 : tie.Need-returns-2
-returns_2 c = let s = c.before.before.before in sym (rw (sym s.has-scale.ensures ∙ not-false _ c.before.before.if1.false, sym c.before.has-micros.ensures ∙ c.if2.true))
+returns_2 : tie.Need-returns-then-has_micros
+returns_2 c = let s = c.before.before.before in sym (rw (sym s.has_scale.ensures ∙ not-false _ c.if-not-has_scale.false-raw, sym c.has_micros.ensures ∙ c.if-has_micros.true))
 
-returns_3 : tie.Need-returns-3
-returns_3 c = let s = c.before.before.before in sym (rw (sym s.has-scale.ensures ∙ not-false _ c.before.before.if1.false, sym c.before.has-micros.ensures ∙ c.if2.false))
+returns_3 : tie.Need-returns
+returns_3 c = let s = c.before.before.before in sym (rw (sym s.has_scale.ensures ∙ not-false _ c.if-not-has_scale.false-raw, sym c.has_micros.ensures ∙ c.if-has_micros.false))
 
 pub has_image_spec : {M : Type 1} → statement M
 has_image_spec =

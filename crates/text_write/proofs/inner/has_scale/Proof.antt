@@ -4,11 +4,11 @@ use borrow.Author.Rules.{rules}
 use Rattle.text_write.proofs.inner.has_scale.Statement.{statement}
 use Rattle.text_write.proofs.inner.has_scale.Tie as tie
 
-returns : tie.Need-returns
-returns c = sym (rw (sym c.before.shows-scale.ensures ∙ c.if1.true))
+returns : tie.Need-returns-then-shows_scale
+returns c = sym (rw (sym c.shows_scale.ensures ∙ c.if-shows_scale.true))
 
-returns_2 : tie.Need-returns-2
-returns_2 c = c.is_utc.ensures ∙ sym (rw (sym c.before.before.shows-scale.ensures ∙ c.before.if1.false))
+returns_2 : tie.Need-returns
+returns_2 c = c.is_utc.ensures ∙ sym (rw (sym c.shows_scale.ensures ∙ c.if-shows_scale.false))
 
 pub has_scale_spec : {M : Type 1} → statement M
 has_scale_spec = tie.close (tie.spec (λ c κs. search rules) returns (λ c κs. search rules) returns_2)

@@ -14,50 +14,37 @@ use Rattle.text_write.proofs.inner.write_record.Statement.{statement}
 use Rattle.text_write.proofs.inner.write_record.Tie as tie
 
 -- the day goes to the callee by its bits
-dated : (c : tie.After-date-of) → date_slip c.date_of.result ≡ date_of_day c.before.before.before.before.before.args.r.day
-dated c = c.date_of.ensures ∙ ap date_of_day (to_z-of_z {w = w64} {z = c.before.before.before.before.before.args.r.day} (record { sfits = c.before.struct_told.given.1.0.1 }))
+dated : (c : tie.After-date_of) → date_slip c.date_of.result ≡ date_of_day c.args.r.day
+dated c = c.date_of.ensures ∙ ap date_of_day (to_z-of_z {w = w64} {z = c.args.r.day} (record { sfits = c.struct_told-1.given.1.0.1 }))
 
-returns : tie.Need-returns
+returns : tie.Need-returns-then-not-has_image
 returns c =
-    let x = c.before.before.before.args in
-    image_lacks x.form x.r.scale (record_moment x.r) x.out.now (sym c.before.has-image.ensures ∙ not-true _ c.if1.true)
+    let x = c.args in
+    image_lacks x.form x.r.scale (record_moment x.r) x.out.now (sym c.has_image.ensures ∙ not-true _ c.if-not-has_image.true-raw)
 
-put_text_requires : tie.Need-put-text-requires
+put_text_requires : tie.Need-put_text-requires
 put_text_requires c κs =
-    let g = c.before.before.before.date.given in
-    let d = c.before.before.before.before.before in
-    let s = d.before.before.before.before.before in
-    let r = s.args.r in
-    rw c.before.stamp-of.ensures (date_fits r.day g.0.0 (ap date_slip (sym g.1) ∙ dated d) r.micro (micro_under r.scale r.day r.micro s.requires))
-
-returns_2 : tie.Need-returns-2
-returns_2 c =
-    let g = c.before.before.before.before.before.before.date.given in
-    let d = c.before.before.before.before.before.before.before.before in
-    let x = d.before.before.before.before.before.args in
-    c.before.before.put-text.ensures
-    ∙ ap (λ (t : Stamp). putting (full_text x.form x.r.scale t) x.out.now) c.before.before.before.before.stamp-of.ensures
-    ∙ image_put x.form x.r.scale (record_moment x.r) x.out.now (sym d.before.before.before.has-image.ensures ∙ not-false _ d.before.before.if1.false) g.0.0 (ap date_slip (sym g.1) ∙ dated d)
-
-returns_3 : tie.Need-returns-3
-returns_3 c =
-    let g = c.before.f.given in
     let d = c.before.before.before in
     let s = d.before.before.before.before.before in
+    let r = s.args.r in
+    rw c.stamp_of.ensures (date_fits r.day c.in-Date.date (ap date_slip (sym c.in-Date.is) ∙ dated d) r.micro (micro_under r.scale r.day r.micro s.requires))
+
+returns_2 : tie.Need-returns-in-Date
+returns_2 c =
+    let d = c.before.before.before.before.before.before in
+    let x = d.args in
+    c.put_text.ensures
+    ∙ ap (λ (t : Stamp). putting (full_text x.form x.r.scale t) x.out.now) c.stamp_of.ensures
+    ∙ image_put x.form x.r.scale (record_moment x.r) x.out.now (sym d.has_image.ensures ∙ not-false _ d.if-not-has_image.false-raw) c.in-Date.date (ap date_slip (sym c.in-Date.is) ∙ dated d)
+
+returns_3 : tie.Need-returns-in-Refused
+returns_3 c =
+    let d = c.before in
+    let s = d.before.before.before.before.before in
     let x = s.args in
-    absurd (has_date x.form x.r.scale (record_moment x.r) x.out.now s.requires g.0.0 (ap date_slip (sym g.1) ∙ dated d))
+    absurd (has_date x.form x.r.scale (record_moment x.r) x.out.now s.requires c.in-Refused.f (ap date_slip (sym c.in-Refused.is) ∙ dated d))
 
 pub write_record_spec : {M : Type 1} → statement M
 write_record_spec =
     tie.close
-    (tie.spec
-    (λ c κs. search rules)
-    returns
-    (λ c κs. search rules)
-    (λ c. search rules)
-    (λ c κs. search rules)
-    put_text_requires
-    (λ c. search rules)
-    (λ c. search rules)
-    returns_2
-    returns_3)
+    (tie.spec (λ c κs. search rules) returns (λ c κs. search rules) (λ c. search rules) (λ c κs. search rules) put_text_requires (λ c. search rules) (λ c. search rules) returns_2 returns_3)

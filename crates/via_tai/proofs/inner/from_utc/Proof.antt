@@ -14,75 +14,63 @@ use Rattle.via_tai.proofs.inner.from_utc.Tie as tie
 use Rattle.via_tai.specs.Meaning.{from_utc}
 use Rattle.via_tai.specs.Ways.{left_early, left_late, left_expired, left_second, left_utc}
 
-returns : tie.Need-returns
-returns c = let a = c.before.before.before.before.args in left_early S.Utc a.t.0 (from_utc a.days.now a.offsets.now a.last) refl c.if1.true
+returns : tie.Need-returns-then-day-lt-FIRST
+returns c = let a = c.args in left_early S.Utc a.t.0 (from_utc a.days.now a.offsets.now a.last) refl c.if-day-lt-FIRST.true
 
-returns_2 : tie.Need-returns-2
-returns_2 c = let a = c.before.before.before.before.before.args in left_late S.Utc a.t.0 (from_utc a.days.now a.offsets.now a.last) refl c.if2.true
+returns_2 : tie.Need-returns-then-day-gt-LAST
+returns_2 c = let a = c.args in left_late S.Utc a.t.0 (from_utc a.days.now a.offsets.now a.last) refl c.if-day-gt-LAST.true
 
 -- the callee read the last day from its bits
-seen : (c : tie.After-place-of-day) → c.place-of-day.result ≡ place_of_day c.before.before.before.before.before.before.args.last
-seen c = c.place-of-day.ensures ∙ ap place_of_day (to_z-of_z c.before.before.before.before.before.before.ranges.last)
+seen : (c : tie.After-place_of_day) → c.place_of_day.result ≡ place_of_day c.args.last
+seen c = c.place_of_day.ensures ∙ ap place_of_day (to_z-of_z c.ranges.last)
 
-returns_3 : tie.Need-returns-3
+returns_3 : tie.Need-returns-then-place_of_day-day
 returns_3 c =
     let p = c.before in
     let s = c.before.before.before.before.before.before.before in
     let a = s.args in
-    left_expired a.days.now a.offsets.now a.last s.requires a.t.0 p.before.before.if1.false p.before.if2.false (omega (arith, seen p, c.if3.true))
+    left_expired a.days.now a.offsets.now a.last s.requires a.t.0 p.if-day-lt-FIRST.false p.if-day-gt-LAST.false (omega (arith, seen p, c.if-place_of_day-day.true))
 
-returns_4 : tie.Need-returns-4
+returns_4 : tie.Need-returns-then-not-has_micro
 returns_4 c =
     let m = c.before in
     let p = m.before.before in
     let s = c.before.before.before.before.before.before.before.before.before in
     let a = s.args in
-    left_second a.days.now a.offsets.now a.last s.requires a.t.0 p.before.before.if1.false p.before.if2.false (omega (arith, seen p, m.before.if3.false))
-    (sym m.has-micro.ensures ∙ not-true m.has-micro.result c.if4.true)
+    left_second a.days.now a.offsets.now a.last s.requires a.t.0 p.if-day-lt-FIRST.false p.if-day-gt-LAST.false (omega (arith, seen p, m.if-place_of_day-day.false))
+    (sym m.has_micro.ensures ∙ not-true m.has_micro.result c.if-not-has_micro.true-raw)
 
-offset_on_requires : tie.Need-offset-on-requires
+offset_on_requires : tie.Need-offset_on-offset-requires
 offset_on_requires c κs =
     let s = c.before.before.before.before.before.before.before.before.before in
     let a = s.args in
-    (usable a.days.now a.offsets.now a.last s.requires, omega (arith, c.before.before.before.before.if2.false))
+    (usable a.days.now a.offsets.now a.last s.requires, omega (arith, c.if-day-gt-LAST.false))
 
-small : (c : tie.After-offset-on) → c.offset_on.result < 100
+small : (c : tie.After-offset_on-offset) → c.offset_on-offset.result < 100
 small c =
     let s = c.before.before.before.before.before.before.before.before.before.before in
     let a = s.args in
-    omega (arith, c.offset_on.ensures, offset_small a.days.now a.offsets.now a.last s.requires (a.t.0 / 86401000000))
+    omega (arith, c.offset_on-offset.ensures, offset_small a.days.now a.offsets.now a.last s.requires (a.t.0 / 86401000000))
 
-mul_t16 : tie.Need-overflow-mul-t16
+mul_t16 : tie.Need-overflow_mul-result-2
 mul_t16 c = omega (arith, small c)
 
-add_t17 : tie.Need-overflow-add-t17
-add_t17 c = omega (arith, small c, c.before.before.before.before.before.if2.false)
+add_t17 : tie.Need-overflow_add-result-2
+add_t17 c = omega (arith, small c, c.if-day-gt-LAST.false)
 
-returns_5 : tie.Need-returns-5
+returns_5 : tie.Need-returns
 returns_5 c =
     let m = c.before.before in
     let p = m.before.before in
     let s = c.before.before.before.before.before.before.before.before.before.before in
     let a = s.args in
     let d = a.t.0 / 86401000000 in
-    left_utc a.days.now a.offsets.now a.last s.requires a.t.0 p.before.before.if1.false p.before.if2.false (omega (arith, seen p, m.before.if3.false))
-    (sym m.has-micro.ensures ∙ not-false m.has-micro.result c.before.if4.false)
-    (record { 0 = d * 86400000000 + a.t.0 % 86401000000 + c.offset_on.result * 1000000 })
-    (ap (λ (o : ℕ). d * 86400000000 + a.t.0 % 86401000000 + o * 1000000) c.offset_on.ensures)
+    left_utc a.days.now a.offsets.now a.last s.requires a.t.0 p.if-day-lt-FIRST.false p.if-day-gt-LAST.false (omega (arith, seen p, m.if-place_of_day-day.false))
+    (sym m.has_micro.ensures ∙ not-false m.has_micro.result c.if-not-has_micro.false-raw)
+    (record { 0 = d * 86400000000 + a.t.0 % 86401000000 + c.offset_on-offset.result * 1000000 })
+    (ap (λ (o : ℕ). d * 86400000000 + a.t.0 % 86401000000 + o * 1000000) c.offset_on-offset.ensures)
 
 pub from_utc_spec : {M : Type 1} → statement M
 from_utc_spec =
     tie.close
-    (tie.spec
-    returns
-    returns_2
-    (λ c κs. search rules)
-    returns_3
-    (λ c κs. search rules)
-    returns_4
-    offset_on_requires
-    (λ c. search rules)
-    (λ c. search rules)
-    mul_t16
-    add_t17
-    returns_5)
+    (tie.spec returns returns_2 (λ c κs. search rules) returns_3 (λ c κs. search rules) returns_4 offset_on_requires (λ c. search rules) (λ c. search rules) mul_t16 add_t17 returns_5)

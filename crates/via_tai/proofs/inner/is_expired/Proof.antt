@@ -14,44 +14,44 @@ use Rattle.via_tai.proofs.inner.is_expired.Tie as tie
 use Rattle.via_tai.specs.Ways.{expires}
 
 -- the callee read the last day from its bits, and it lies in the span
-known : (c : tie.After-place-of-day) → (c.place-of-day.result ≡ place_of_day c.before.before.args.last) × (c.place-of-day.result ≤ 76524)
+known : (c : tie.After-place_of_day-next) → (c.place_of_day-next.result ≡ place_of_day c.args.last) × (c.place_of_day-next.result ≤ 76524)
 known c =
     let s = c.before.before in
     let a = s.args in
-    let e = c.place-of-day.ensures ∙ ap place_of_day (to_z-of_z s.ranges.last) in
+    let e = c.place_of_day-next.ensures ∙ ap place_of_day (to_z-of_z s.ranges.last) in
     (e, omega (arith, e, (steps a.days.now a.offsets.now a.last s.requires).to))
 
-add_next : tie.Need-overflow-add-next
+add_next : tie.Need-overflow_add-next
 add_next c = let k = known c in omega (arith, k.1)
 
-offset_on_requires : tie.Need-offset-on-requires
+offset_on_requires : tie.Need-offset_on-offset-requires
 offset_on_requires c κs =
     let s = c.before.before in
     let a = s.args in
     let k = known c in
     (usable a.days.now a.offsets.now a.last s.requires, omega (arith, k.1))
 
-small : (c : tie.After-offset-on) → c.offset_on.result ≤ 73
+small : (c : tie.After-offset_on-offset) → c.offset_on-offset.result ≤ 73
 small c =
     let s = c.before.before.before in
     let a = s.args in
-    omega (arith, c.offset_on.ensures, offset_small a.days.now a.offsets.now a.last s.requires (c.before.place-of-day.result + 1))
+    omega (arith, c.offset_on-offset.ensures, offset_small a.days.now a.offsets.now a.last s.requires (c.place_of_day-next.result + 1))
 
-limit : (c : tie.After-offset-on) → let a = c.before.before.before.args in
-    (c.before.place-of-day.result + 1) * 86400000000 + c.offset_on.result * 1000000 ≡ tai_at a.days.now a.offsets.now (place_of_day a.last + 1) 0
+limit : (c : tie.After-offset_on-offset) → let a = c.args in
+    (c.place_of_day-next.result + 1) * 86400000000 + c.offset_on-offset.result * 1000000 ≡ tai_at a.days.now a.offsets.now (place_of_day a.last + 1) 0
 limit c =
-    let a = c.before.before.before.args in
+    let a = c.args in
     let e = (known c.before).0 in
-    let o = c.offset_on.ensures ∙ ap (λ (n : ℕ). offset_on a.days.now a.offsets.now (day_at (n + 1))) e in
+    let o = c.offset_on-offset.ensures ∙ ap (λ (n : ℕ). offset_on a.days.now a.offsets.now (day_at (n + 1))) e in
     omega arith
 
-mul_result : tie.Need-overflow-mul-result
+mul_result : tie.Need-overflow_mul-result
 mul_result c = let k = known c.before in omega (arith, k.1)
 
-mul_result_2 : tie.Need-overflow-mul-result-2
+mul_result_2 : tie.Need-overflow_mul-result-2
 mul_result_2 c = let k = small c in omega arith
 
-add_result : tie.Need-overflow-add-result
+add_result : tie.Need-overflow_add-result
 add_result c = let k = known c.before in let m = small c in omega (arith, k.1)
 
 returns : tie.Need-returns
@@ -63,11 +63,4 @@ returns c =
 pub is_expired_spec : {M : Type 1} → statement M
 is_expired_spec =
     tie.close
-    (tie.spec
-    (λ c κs. search rules)
-    add_next
-    offset_on_requires
-    mul_result
-    mul_result_2
-    add_result
-    returns)
+    (tie.spec (λ c κs. search rules) add_next offset_on_requires mul_result mul_result_2 add_result returns)

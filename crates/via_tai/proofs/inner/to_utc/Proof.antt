@@ -14,35 +14,31 @@ use Rattle.via_tai.specs.Meaning.{to_utc}
 use Rattle.via_tai.specs.Ways.{utc_expired}
 
 -- whether the count is expired
-abbrev entry : tie.After-is-expired → tie.Start
+abbrev entry : tie.After-is_expired → tie.Start
 entry c = c.before.before
 
-expired : (c : tie.After-is-expired) → let a = (entry c).args in c.is-expired.result ≡ is_expired_tai a.days.now a.offsets.now a.last (micros_at a.c.0)
-expired c = let s = entry c in c.is-expired.ensures ∙ ap (λ (e : ℤ). is_expired_tai s.args.days.now s.args.offsets.now e (micros_at s.args.c.0)) (to_z-of_z s.fits.last)
+expired : (c : tie.After-is_expired) → let a = (entry c).args in c.is_expired.result ≡ is_expired_tai a.days.now a.offsets.now a.last (micros_at a.c.0)
+expired c = let s = entry c in c.is_expired.ensures ∙ ap (λ (e : ℤ). is_expired_tai s.args.days.now s.args.offsets.now e (micros_at s.args.c.0)) (to_z-of_z s.ranges.last)
 
-unexpired : (c : tie.Else1) → let a = (entry c.before).args in is_expired_tai a.days.now a.offsets.now a.last (micros_at a.c.0) ≡ false
-unexpired c = sym (expired c.before) ∙ c.if1.false
+unexpired : (c : tie.Else-is_expired) → let a = (entry c.before).args in is_expired_tai a.days.now a.offsets.now a.last (micros_at a.c.0) ≡ false
+unexpired c = sym (expired c.before) ∙ c.if-is_expired.false
 
-returns : tie.Need-returns
+returns : tie.Need-returns-then-is_expired
 returns c =
     let s = entry c.before in
     let a = s.args in
-    utc_expired a.c.0 a.days.now a.offsets.now a.last s.pre.1 (sym (expired c.before) ∙ c.if1.true)
+    utc_expired a.c.0 a.days.now a.offsets.now a.last s.requires.1 (sym (expired c.before) ∙ c.if-is_expired.true)
 
-unexpired_to_utc_requires : tie.Need-unexpired-to-utc-requires
-unexpired_to_utc_requires c κs = let s = entry c.before in (s.pre.0, (rw (to_z-of_z s.fits.last) s.pre.1, rw (to_z-of_z s.fits.last) (unexpired c)))
+unexpired_to_utc_requires : tie.Need-unexpired_to_utc-requires
+unexpired_to_utc_requires c κs = let s = entry c.before in (s.requires.0, (rw (to_z-of_z s.ranges.last) s.requires.1, rw (to_z-of_z s.ranges.last) (unexpired c)))
 
-returns_2 : tie.Need-returns-2
+returns_2 : tie.Need-returns
 returns_2 c =
     let s = entry c.before.before in
     let a = s.args in
-    c.unexpired-to-utc.ensures ∙ ap (λ (e : ℤ). dated S.Utc (outcome (to_utc a.days.now a.offsets.now e (micros_at a.c.0)))) (to_z-of_z s.fits.last)
+    c.unexpired_to_utc.ensures ∙ ap (λ (e : ℤ). dated S.Utc (outcome (to_utc a.days.now a.offsets.now e (micros_at a.c.0)))) (to_z-of_z s.ranges.last)
 
 pub to_utc_spec : {M : Type 1} → statement M
 to_utc_spec =
     tie.close
-    (tie.spec
-    (λ c κs. search rules)
-    returns
-    unexpired_to_utc_requires
-    returns_2)
+    (tie.spec (λ c κs. search rules) returns unexpired_to_utc_requires returns_2)
