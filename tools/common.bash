@@ -30,14 +30,15 @@ needed() { # TOOL..
     [ -z "$old" ] || stop "too old:${old#,}"
 }
 
-# A kit that KIT does not list may prove the same, so this is told and not refused.
+# A kit that KIT does not list may prove the same, so this is told and not refused. It is asked once, for rt takes its time.
+own_kit=''
 kit() {
-    local have listed='' one
-    have=$(rt version 2>/dev/null || true)
+    local listed='' one
+    own_kit=$(rt version 2>/dev/null || true)
     while IFS= read -r one || [ -n "$one" ]; do
-        case $one in '' | '#'*) ;; "$have") return ;; *) listed="$listed, '$one'" ;; esac
+        case $one in '' | '#'*) ;; "$own_kit") return ;; *) listed="$listed, '$one'" ;; esac
     done <KIT
-    tell "warning: rt is '$have', and the file KIT names${listed#,}"
+    tell "warning: rt is '$own_kit', and the file KIT names${listed#,}"
 }
 
 # The names in crates.txt.
@@ -61,7 +62,7 @@ with_below() { # CRATE
 
 # A sum of all that is proved of these crates and of what that rests on: the kit, crates.txt, and all their files but what rt makes.
 sources() { # CRATE..
-    { rt version && cat crates.txt && cd crates &&
+    { if [ -n "$own_kit" ]; then echo "$own_kit"; else rt version; fi && cat crates.txt && cd crates &&
         find "$@" -regex '[^/]*/out' -prune -o -type f -print0 | LC_ALL=C sort -z | xargs -0 sha256sum; } | sha256sum
 }
 

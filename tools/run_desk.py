@@ -14,7 +14,7 @@ if sys.version_info < (3, 9):
     sys.exit("desk: too old: python3 %d.%d (at least 3.9 is needed)" % sys.version_info[:2])
 ROOT = os.path.normpath(os.path.join(os.path.dirname(os.path.abspath(__file__)), ".."))
 PROVE = [os.path.join(ROOT, "tools/prove"), "desk", "desk"]
-PROGRAM = [os.path.join(ROOT, "tools/x86-64"), os.path.join(ROOT, "target/proved/desk")]
+LOADER, PROGRAM = [os.path.join(ROOT, "tools/x86-64")], os.path.join(ROOT, "target/proved/desk")
 # What the program says where nobody reads on: SIGPIPE, which would end it, is ignored in it from its start.
 UNREAD = f"desk: write: {os.strerror(errno.EPIPE)}\n".encode()
 running = []
@@ -64,8 +64,8 @@ def take_input():
 
 def start(words, **pipes):
     """A program that is sent the signals that this one is sent."""
-    running[:] = [subprocess.Popen(words, **pipes)]
-    return running[0]
+    running.append(subprocess.Popen(words, **pipes))
+    return running[-1]
 
 
 def explain(lines):
@@ -80,9 +80,9 @@ def explain(lines):
     put(rest)
 
 
-def answer(with_words):
+def answer(loader, with_words):
     """The exit status. The program writes to standard error only where a read or a write failed."""
-    child = start(PROGRAM, stdout=subprocess.PIPE if with_words else None, stderr=subprocess.PIPE)
+    child = start([*loader, PROGRAM], stdout=subprocess.PIPE if with_words else None, stderr=subprocess.PIPE)
     try:
         if with_words:
             explain(child.stdout)
@@ -124,11 +124,17 @@ def main(words):
         # What the caller wants ignored (nohup) stays so.
         if signal.getsignal(number) != signal.SIG_IGN:
             signal.signal(number, pass_on)
+    # rt takes its time to tell where the loader is: meanwhile the program is proved.
+    loader = start(LOADER, stdin=subprocess.DEVNULL, stdout=subprocess.PIPE, stderr=subprocess.PIPE)
     status = start(PROVE, stdin=subprocess.DEVNULL, stdout=subprocess.DEVNULL).wait()
+    before, said = loader.communicate()
     running.clear()
     if status < 0:
         end(-status)
-    return 1 if status else answer("--words" in words)
+    if status or loader.returncode:
+        tell(b"" if status else said)
+        return 1
+    return answer(before.decode().splitlines(), "--words" in words)
 
 
 sys.exit(main(sys.argv[1:]))
