@@ -13,12 +13,6 @@ use Rattle.calendar.proofs.is_first.Tie as tie
 seen : (c : tie.After-place_of_day-place) → c.place_of_day-place.result ≡ place_of_day c.args.day
 seen c = c.place_of_day-place.ensures ∙ ap place_of_day (to_z-of_z c.ranges.day)
 
-returns : tie.Need-returns-then-place-lt29773
-returns c = let b = c.before in sym (first_early b.args.day (omega (arith, seen b)))
-
-returns_2 : tie.Need-returns-then-place-gt76525
-returns_2 c = let b = c.before.before in sym (first_late b.args.day (omega (arith, seen b)))
-
 is_first_requires : tie.Need-is_first-requires
 is_first_requires c κs = let b = c.before.before in (omega (arith, b.place_of_day-place.ensures), omega (arith, b.place_of_day-place.ensures))
 
@@ -28,4 +22,7 @@ returns_3 c = c.is_first.ensures ∙ ap is_first (to_z-of_z c.ranges.day)
 pub is_first_spec : {M : Type 1} → statement M
 is_first_spec =
     tie.close
-    (tie.spec (λ c κs. search rules) returns returns_2 is_first_requires returns_3)
+    (tie.spec (λ c κs. search rules)
+    (λ c. let b = c.before in sym (first_early b.args.day (omega (arith, seen b))))
+    (λ c. let b = c.before.before in sym (first_late b.args.day (omega (arith, seen b))))
+    is_first_requires returns_3)

@@ -52,20 +52,14 @@ add_s c =
     let e = g.before.before.before.before in
     omega (arith, utc_few (given e) (limited e), to g, offset_is g.before.before)
 
-returns_4 : tie.Need-returns-then-s-ge433308303360000
-returns_4 c =
-    let g = c.before.before in
-    let e = g.before.before.before.before in
-    past_span (given e) (limited e) (from g.before) (to g) (omega (arith, c.if-s-ge433308303360000.true, offset_is g.before.before))
-
-returns_5 : tie.Need-returns
-returns_5 c =
-    let g = c.before.before in
-    let e = g.before.before.before.before in
-    ap (λ (x : ℕ). P.At ((given e).utc0 + x)) (offset_is g.before.before)
-    ∙ reference_is (given e) (limited e) (from g.before) (to g) (omega (arith, c.if-s-ge433308303360000.false, offset_is g.before.before))
-
 pub reference_of_spec : {M : Type 1} → statement M
 reference_of_spec =
     tie.close
-    (tie.spec (λ c κs. search rules) returns (λ c κs. search rules) returns_2 returns_3 add_s returns_4 returns_5)
+    (tie.spec (λ c κs. search rules) returns (λ c κs. search rules) returns_2 returns_3 add_s
+    (λ c. let g = c.before.before in
+    let e = g.before.before.before.before in
+    past_span (given e) (limited e) (from g.before) (to g) (omega (arith, offset_is g.before.before)))
+    (λ c. let g = c.before.before in
+    let e = g.before.before.before.before in
+    ap (λ (x : ℕ). P.At ((given e).utc0 + x)) (offset_is g.before.before)
+    ∙ reference_is (given e) (limited e) (from g.before) (to g) (omega (arith, offset_is g.before.before))))

@@ -39,22 +39,16 @@ returns_5 c =
     let t = b.args.t in
     rw (le-leb t.hour 23 (omega arith), le-leb t.minute 59 (omega arith), lt-ltb t.micro 1000000 b.requires, lt-leb t.second 59 (omega arith), eq-eqb t.second 60 c.if-s-ne60.false, ne_eqb t.hour 23 c.if-h-ne23.true)
 
-returns_6 : tie.Need-returns-then-m-ne59
-unfolding in_limits
-returns_6 c =
-    let b = c.before.before.before.before.before.before in
-    let t = b.args.t in
-    rw (le-leb t.hour 23 (omega arith), le-leb t.minute 59 (omega arith), lt-ltb t.micro 1000000 b.requires, lt-leb t.second 59 (omega arith), eq-eqb t.second 60 c.if-s-ne60.false, eq-eqb t.hour 23 c.if-h-ne23.false, ne_eqb t.minute 59 c.if-m-ne59.true)
-
-returns_7 : tie.Need-returns
-unfolding in_limits
-returns_7 c =
-    let b = c.before.before.before.before.before.before.before in
-    let t = b.args.t in
-    rw (le-leb t.hour 23 (omega arith), le-leb t.minute 59 (omega arith), lt-ltb t.micro 1000000 b.requires, lt-leb t.second 59 (omega arith), eq-eqb t.second 60 c.if-s-ne60.false, eq-eqb t.hour 23 c.if-h-ne23.false, eq-eqb t.minute 59 c.if-m-ne59.false)
-    c.is_utc.ensures
-
 pub in_limits_spec : {M : Type 1} → statement M
+unfolding in_limits
 in_limits_spec =
     tie.close
-    (tie.spec returns returns_2 returns_3 returns_4 returns_5 returns_6 (λ c κs. search rules) returns_7)
+    (tie.spec returns returns_2 returns_3 returns_4 returns_5
+    (λ c. let b = c.before.before.before.before.before.before in
+    let t = b.args.t in
+    rw (le-leb t.hour 23 (omega arith), le-leb t.minute 59 (omega arith), lt-ltb t.micro 1000000 b.requires, lt-leb t.second 59 (omega arith), eq-eqb t.second 60 (omega arith), eq-eqb t.hour 23 (omega arith), ne_eqb t.minute 59 (λ e. omega arith)))
+    (λ c κs. search rules)
+    (λ c. let b = c.before.before.before.before.before.before.before in
+    let t = b.args.t in
+    rw (le-leb t.hour 23 (omega arith), le-leb t.minute 59 (omega arith), lt-ltb t.micro 1000000 b.requires, lt-leb t.second 59 (omega arith), eq-eqb t.second 60 (omega arith), eq-eqb t.hour 23 (omega arith), eq-eqb t.minute 59 (omega arith))
+    c.is_utc.ensures))
