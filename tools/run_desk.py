@@ -1,5 +1,5 @@
-"""What ./desk does: proves and builds the program where that is not done yet, then runs it. A proved program has no exit
-status; this gives it one, and leaves its input and output alone. Its input comes as number 3."""
+"""What ./desk does: proves and builds the program where that is not done yet, then runs it. The program tells what failed and
+ends with status 0; this gives it one, and leaves its input and output alone. Its input comes as number 3."""
 
 import errno
 import os
