@@ -1,5 +1,5 @@
 -- An answer that is marked: the mark is laid on what a plain chain hands back. Assumes nothing.
-use Rattle.std.specs.Prelude.{◌≡◌, refl, true, false, ltb}
+use Rattle.std.specs.Prelude.{◌≡◌, refl, true, false, ltb, Err}
 use Rattle.std.proofs.Common.{sym, arith, ltb-true, ne_eqb}
 use Rattle.axis.specs.Meaning.{Moment}
 use Rattle.scales.specs.Meaning.{Judged, given, gives, outcome, dated_as, dated, remark, number_of, slip}
@@ -7,8 +7,7 @@ use Rattle.scales.specs.Order.{numbered}
 use Rattle.scales.specs.Place.{and_both}
 use Rattle.scales.specs.Same.{no_zero}
 use Rattle.scales.specs.declared.Scale.{Scale}
-use Rattle.scales.specs.declared.Refusal.{Refusal}
-use Rattle.scales.specs.declared.Dated.TheVariants as D
+use Rattle.scales.specs.declared.Refused.{Refused}
 use Rattle.scales.specs.declared.Mark.{Mark}
 use Rattle.scales.specs.declared.Mark.TheVariants as M
 
@@ -22,5 +21,5 @@ remarked m o s (gives t) p = refl
 pub remark_is : (m : Mark) (s : Scale) (j : Judged Moment) → numbered j ≡ true → remark m (dated s (outcome j)) ≡ dated_as m s (outcome j)
 remark_is m = remarked m M.Plain
 
-pub remark_refused : (m : Mark) (f : Refusal) (s : Scale) → slip (D.Refused f s) ≡ remark m (slip (D.Refused f s))
-remark_refused m f s = sym (rw (ne_eqb (number_of f) 0 (no_zero f)))
+pub remark_refused : (m : Mark) (e : Refused) → slip (Err e) ≡ remark m (slip (Err e))
+remark_refused m e = sym (rw (ne_eqb (number_of e.refusal) 0 (no_zero e.refusal)))

@@ -1,6 +1,6 @@
 -- The paper's words: the spans of the scales, the order of the refusals, what an answer hands back and what a refusal hands
 -- back. Days are signed, counted from 1 January 2000. Assumes nothing.
-use Rattle.std.specs.Prelude.{Bool, true, false, cond, ◌&&◌, List, [], ◌∷◌, ◌++◌, ℕ, ◌/◌, ◌%◌, ltb, eqb, ℤ, pos, negsuc, length, drop}
+use Rattle.std.specs.Prelude.{Bool, true, false, cond, ◌&&◌, List, [], ◌∷◌, ◌++◌, ℕ, ◌/◌, ◌%◌, ltb, eqb, ℤ, pos, negsuc, length, drop, Result, Ok, Err}
 use Rattle.std.specs.Int.Signed.{le_z}
 use Rattle.axis.specs.Meaning.{day_at, Moment}
 use Rattle.scales.specs.declared.Scale.{Scale}
@@ -8,26 +8,15 @@ use Rattle.scales.specs.declared.Scale.TheVariants as S
 use Rattle.scales.specs.declared.Refusal.{Refusal}
 use Rattle.scales.specs.declared.Refusal.TheVariants as R
 use Rattle.scales.specs.declared.Record.{Record}
+use Rattle.scales.specs.declared.Refused.{Refused}
+use Rattle.scales.specs.declared.Tick.{Tick}
+use Rattle.scales.specs.declared.Tai.{Tai}
+use Rattle.scales.specs.declared.Utc.{Utc}
+use Rattle.scales.specs.declared.Gps.{Gps}
 use Rattle.scales.specs.declared.Mark.{Mark}
 use Rattle.scales.specs.declared.Mark.TheVariants as M
-use Rattle.scales.specs.declared.Dated.{Dated}
-use Rattle.scales.specs.declared.Dated.TheVariants as D
-use Rattle.scales.specs.declared.DatedTai.{DatedTai}
-use Rattle.scales.specs.declared.DatedTai.TheVariants as DT
-use Rattle.scales.specs.declared.DatedUtc.{DatedUtc}
-use Rattle.scales.specs.declared.DatedUtc.TheVariants as DU
-use Rattle.scales.specs.declared.DatedGps.{DatedGps}
-use Rattle.scales.specs.declared.DatedGps.TheVariants as DG
-use Rattle.scales.specs.declared.Ticked.{Ticked}
-use Rattle.scales.specs.declared.Ticked.TheVariants as TK
-use Rattle.scales.specs.declared.Counted.{Counted}
-use Rattle.scales.specs.declared.Counted.TheVariants as C
-use Rattle.scales.specs.declared.Written.{Written}
-use Rattle.scales.specs.declared.Written.TheVariants as W
 use Rattle.scales.specs.declared.Time.{Time}
 use Rattle.scales.specs.declared.Time.TheVariants as TM
-use Rattle.scales.specs.declared.Timed.{Timed}
-use Rattle.scales.specs.declared.Timed.TheVariants as TD
 
 -- a scale as a number
 abbrev pub code_of : Scale → ℕ
@@ -157,67 +146,47 @@ number_of R.NoEntry = 15
 number_of R.NotOneSecond = 16
 number_of R.ResultLater = 17
 
-abbrev pub slip : Dated → Slip
-slip (D.At r) = dated_as r.mark r.scale (answer (record { day = r.day; micro = r.micro }))
-slip (D.Refused f s) = dated s (refused (number_of f))
+abbrev pub slip : Result Record Refused → Slip
+slip (Ok r) = dated_as r.mark r.scale (answer (record { day = r.day; micro = r.micro }))
+slip (Err e) = dated e.scale (refused (number_of e.refusal))
 
 -- the second argument is the lent slice as the writer leaves it
-abbrev pub wrote : {A : Type 0} → Written → List A → Wrote A
-wrote (W.Bytes n) out = record { number = 0; length = n; lent = out }
-wrote (W.Refused f) out = record { number = number_of f; length = 0; lent = out }
+abbrev pub wrote : {A : Type 0} → Result ℕ Refusal → List A → Wrote A
+wrote (Ok n) out = record { number = 0; length = n; lent = out }
+wrote (Err f) out = record { number = number_of f; length = 0; lent = out }
 
--- every other answer holds one value or a refusal, and its type says of what
-pub data Reply (A : Type 0) : Type 0 where
-  some : A → Reply A
-  no : Refusal → Reply A
+-- every other answer holds one value or a refusal
+abbrev pub value_slip : {A : Type 0} → A → Result A Refusal → Valued A
+value_slip zero (Ok a) = valued zero (answer a)
+value_slip zero (Err f) = valued zero (refused (number_of f))
 
-abbrev pub value_slip : {A : Type 0} → A → Reply A → Valued A
-value_slip zero (some a) = valued zero (answer a)
-value_slip zero (no f) = valued zero (refused (number_of f))
+abbrev pub count_slip : Result ℕ Refusal → Valued ℕ
+count_slip r = value_slip 0 r
 
-abbrev pub reply_tick : Ticked → Reply ℕ
-reply_tick (TK.Tick t) = some t.0
-reply_tick (TK.Refused f) = no f
-
-abbrev pub reply_count : Counted → Reply ℕ
-reply_count (C.Count n) = some n
-reply_count (C.Refused f) = no f
-
-abbrev pub tick_slip : Ticked → Valued ℕ
-tick_slip r = value_slip 0 (reply_tick r)
-
-abbrev pub count_slip : Counted → Valued ℕ
-count_slip r = value_slip 0 (reply_count r)
+abbrev pub tick_slip : Result Tick Refusal → Valued ℕ
+tick_slip (Ok t) = count_slip (Ok t.0)
+tick_slip (Err f) = count_slip (Err f)
 
 -- a count of scale s holds `bound s` microseconds a day, from day -40000 on
 abbrev pub moment_at : Scale → ℕ → Moment
 moment_at s n = record { day = day_at (n / bound s); micro = n % bound s }
 
 -- an answer whose type tells its scale is such a count or a refusal
-abbrev pub time_slip : Scale → Reply ℕ → Slip
-time_slip s (some n) = dated s (answer (moment_at s n))
-time_slip s (no f) = dated s (refused (number_of f))
+abbrev pub time_slip : Scale → Result ℕ Refusal → Slip
+time_slip s (Ok n) = dated s (answer (moment_at s n))
+time_slip s (Err f) = dated s (refused (number_of f))
 
-abbrev pub reply_tai : DatedTai → Reply ℕ
-reply_tai (DT.At t) = some t.0
-reply_tai (DT.Refused f) = no f
+abbrev pub slip_tai : Result Tai Refusal → Slip
+slip_tai (Ok t) = time_slip S.Tai (Ok t.0)
+slip_tai (Err f) = time_slip S.Tai (Err f)
 
-abbrev pub reply_utc : DatedUtc → Reply ℕ
-reply_utc (DU.At t) = some t.0
-reply_utc (DU.Refused f) = no f
+abbrev pub slip_utc : Result Utc Refusal → Slip
+slip_utc (Ok t) = time_slip S.Utc (Ok t.0)
+slip_utc (Err f) = time_slip S.Utc (Err f)
 
-abbrev pub reply_gps : DatedGps → Reply ℕ
-reply_gps (DG.At t) = some t.0
-reply_gps (DG.Refused f) = no f
-
-abbrev pub slip_tai : DatedTai → Slip
-slip_tai r = time_slip S.Tai (reply_tai r)
-
-abbrev pub slip_utc : DatedUtc → Slip
-slip_utc r = time_slip S.Utc (reply_utc r)
-
-abbrev pub slip_gps : DatedGps → Slip
-slip_gps r = time_slip S.Gps (reply_gps r)
+abbrev pub slip_gps : Result Gps Refusal → Slip
+slip_gps (Ok t) = time_slip S.Gps (Ok t.0)
+slip_gps (Err f) = time_slip S.Gps (Err f)
 
 -- a time is a scale and a count
 abbrev pub time_scale : Time → Scale
@@ -235,11 +204,14 @@ time_at S.Tai n = TM.Tai (record { 0 = n })
 time_at S.Utc n = TM.Utc (record { 0 = n })
 time_at S.Gps n = TM.Gps (record { 0 = n })
 
-abbrev pub slip_timed : Timed → Slip
-slip_timed (TD.At t) = time_slip (time_scale t) (some (time_count t))
-slip_timed (TD.Refused f s) = time_slip s (no f)
+abbrev pub slip_timed : Result Time Refused → Slip
+slip_timed (Ok t) = time_slip (time_scale t) (Ok (time_count t))
+slip_timed (Err e) = time_slip e.scale (Err e.refusal)
 
 -- ---- the functions of this crate
+abbrev pub refused_of : Scale → Refusal → Refused
+refused_of s f = record { refusal = f; scale = s }
+
 abbrev pub marked_record : Mark → Record → Record
 marked_record m r = record { scale = r.scale; day = r.day; micro = r.micro; mark = m }
 

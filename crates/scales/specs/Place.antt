@@ -1,5 +1,5 @@
 -- The spans on the axis, one law over the scale, and what a typed count is. Assumes nothing.
-use Rattle.std.specs.Prelude.{◌≡◌, refl, Bool, true, false, cond, not, ◌&&◌, ℕ, ◌≤◌, ◌<◌, ◌+◌, ◌*◌, ◌/◌, ◌%◌, leb, ltb, ℤ}
+use Rattle.std.specs.Prelude.{◌≡◌, refl, Bool, true, false, cond, not, ◌&&◌, ℕ, ◌≤◌, ◌<◌, ◌+◌, ◌*◌, ◌/◌, ◌%◌, leb, ltb, ℤ, Result, Ok, Err}
 use Rattle.std.proofs.Common.{sym, ap, ap₂, ◌∙◌, arith, mod-eq_of_lt, div-add-mod', lit<, lit≤, le-leb, lt-ltb, le-ltb, leb-true, ltb-true}
 use Rattle.std.proofs.Math.Bool.{and_assoc}
 use Rattle.std.proofs.lemmas.Bool.{false≢true, lt-leb}
@@ -7,14 +7,14 @@ use Rattle.std.proofs.Math.Nat.{div-eq_of_lt-le, mul-add-mod_self_right}
 use Rattle.std.specs.Int.Signed.{le_z}
 use Rattle.axis.specs.Meaning.{is_between, place_of_day, day_at}
 use Rattle.axis.specs.Axis.{day_from, day_to, day_le, day_place, day_inj}
-use Rattle.scales.specs.Meaning.{first, last, bound, in_span, refused, answer, dated_as, dated, moment_at, spanned_as, spanned}
+use Rattle.scales.specs.Meaning.{first, last, bound, in_span, refused, answer, dated_as, dated, moment_at, spanned_as, spanned, refused_of}
 use Rattle.scales.specs.declared.Scale.{Scale}
 use Rattle.scales.specs.declared.Scale.TheVariants as S
 use Rattle.scales.specs.declared.Mark.{Mark}
 use Rattle.scales.specs.declared.Mark.TheVariants as M
 use Rattle.scales.specs.declared.spans.Span.{Span}
-use Rattle.scales.specs.declared.spans.Fit.{Fit}
-use Rattle.scales.specs.declared.spans.Fit.TheVariants as C
+use Rattle.scales.specs.declared.Refused.{Refused}
+use Rattle.scales.specs.declared.Refusal.TheVariants as R
 
 -- ---- the places of a span
 abbrev pub first_at : Scale → ℕ
@@ -159,5 +159,5 @@ moment_of_lem s d u e =
 abbrev pub span_of : Scale → Span
 span_of s = record { first = first s; last = last s; bound = bound s }
 
-abbrev pub fit_of : Scale → ℤ → ℕ → Fit
-fit_of s d u = cond (in_span s d u) (C.At (count_of s d u)) C.Outside
+abbrev pub fit_of : Scale → ℤ → ℕ → Result ℕ Refused
+fit_of s d u = cond (in_span s d u) (Ok (count_of s d u)) (Err (refused_of s R.OutsideSpan))

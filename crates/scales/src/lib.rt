@@ -2,13 +2,13 @@
 #![tactic(auto)]
 
 ghost use Rattle.std.specs.Prelude.{◌≡◌};
-ghost use Rattle.scales.specs.Meaning.{code_of, number_of, slip, slip_tai, slip_utc, slip_gps, slip_timed, spanned, spanned_as, remark, record_of, marked_record, record_at, time_scale, time_count};
+ghost use Rattle.scales.specs.Meaning.{code_of, number_of, slip, slip_tai, slip_utc, slip_gps, slip_timed, spanned, spanned_as, record_of, marked_record, record_at, time_scale, time_count, refused_of};
 
 mod spans;
 
-use spans::{Fit, count_of, record_at, time_at};
+use spans::{count_of, record_at, time_at};
 
-#[derive(Clone, Copy)]
+#[derive(Clone, Copy, PartialEq, Eq)]
 pub enum Scale {
     Tai,
     Utc,
@@ -70,7 +70,7 @@ pub enum Time {
 }
 
 // The rows of the refusal slip, as refusals.txt lists them.
-#[derive(Clone, Copy)]
+#[derive(Clone, Copy, PartialEq, Eq)]
 pub enum Refusal {
     LengthIsNone,
     MarkerWrong,
@@ -92,6 +92,16 @@ pub enum Refusal {
 }
 
 impl Refusal {
+    // The refusal, and the scale of its empty record.
+    pub fn of(self, scale: Scale) -> Refused
+        ensures { result ≡ refused_of scale self }
+    {
+        Refused {
+            refusal: self,
+            scale,
+        }
+    }
+
     pub fn number(self) -> u32
         ensures { result ≡ number_of self }
     {
@@ -117,58 +127,20 @@ impl Refusal {
     }
 }
 
-// A dated record, or a refusal and the scale of its empty record.
-#[derive(Clone, Copy)]
-pub enum Dated {
-    At(Record),
-    Refused(Refusal, Scale),
+// Why there is no record, and the scale of the empty one that is handed back instead.
+#[derive(Clone, Copy, PartialEq, Eq)]
+pub struct Refused {
+    pub refusal: Refusal,
+    pub scale: Scale,
 }
 
-// The same where the type tells the scale.
-#[derive(Clone, Copy)]
-pub enum DatedTai {
-    At(Tai),
-    Refused(Refusal),
-}
+// Where the answer's type tells the scale, the refusal is enough.
+impl From<Refused> for Refusal {
+    ghost from_gives = { λ e f. f ≡ e.refusal };
 
-#[derive(Clone, Copy)]
-pub enum DatedUtc {
-    At(Utc),
-    Refused(Refusal),
-}
-
-#[derive(Clone, Copy)]
-pub enum DatedGps {
-    At(Gps),
-    Refused(Refusal),
-}
-
-// A record taken apart, or a refusal and the scale of its empty record.
-#[derive(Clone, Copy)]
-pub enum Timed {
-    At(Time),
-    Refused(Refusal, Scale),
-}
-
-// A tick, or a refusal: then tick 0.
-#[derive(Clone, Copy)]
-pub enum Ticked {
-    Tick(Tick),
-    Refused(Refusal),
-}
-
-// A count, or a refusal: then count 0.
-#[derive(Clone, Copy)]
-pub enum Counted {
-    Count(u64),
-    Refused(Refusal),
-}
-
-// How many bytes were written onto the front of a lent slice, or a refusal: then none.
-#[derive(Clone, Copy)]
-pub enum Written {
-    Bytes(usize),
-    Refused(Refusal),
+    fn from(e: Refused) -> Refusal {
+        e.refusal
+    }
 }
 
 impl Time {
@@ -220,37 +192,20 @@ impl Record {
     }
 
     // The time that a record stands for, or 7 outside its scale's span.
-    pub fn to_time(self) -> Timed
+    pub fn to_time(self) -> Result<Time, Refused>
         ensures { slip_timed result ≡ spanned self.scale self.day self.micro }
     {
         let scale = self.scale;
-        match count_of(scale, self.day, self.micro) {
-            Fit::At(n) => Timed::At(time_at(scale, n)),
-            Fit::Outside => Timed::Refused(Refusal::OutsideSpan, scale),
-        }
+        let n = count_of(scale, self.day, self.micro)?;
+        Ok(time_at(scale, n))
     }
 
     // The record itself, or 7 outside its scale's span.
-    pub fn judged(self) -> Dated
+    pub fn judged(self) -> Result<Record, Refused>
         ensures { slip result ≡ spanned_as self.mark self.scale self.day self.micro }
     {
-        let scale = self.scale;
-        match count_of(scale, self.day, self.micro) {
-            Fit::At(_) => Dated::At(self),
-            Fit::Outside => Dated::Refused(Refusal::OutsideSpan, scale),
-        }
-    }
-}
-
-impl Dated {
-    // An answer with a mark; a refusal stays as it is.
-    pub fn with_mark(self, mark: Mark) -> Dated
-        ensures { slip result ≡ remark mark (slip self) }
-    {
-        match self {
-            Dated::At(r) => Dated::At(r.with_mark(mark)),
-            Dated::Refused(f, s) => Dated::Refused(f, s),
-        }
+        count_of(self.scale, self.day, self.micro)?;
+        Ok(self)
     }
 }
 
@@ -261,13 +216,10 @@ impl Tai {
 
     pub const BOUND: u64 = 86_400_000_000;
 
-    pub fn new(day: i64, micro: u64) -> DatedTai
+    pub fn new(day: i64, micro: u64) -> Result<Tai, Refusal>
         ensures { slip_tai result ≡ spanned Scale.Tai day micro }
     {
-        match count_of(Scale::Tai, day, micro) {
-            Fit::At(n) => DatedTai::At(Tai(n)),
-            Fit::Outside => DatedTai::Refused(Refusal::OutsideSpan),
-        }
+        Ok(Tai(count_of(Scale::Tai, day, micro)?))
     }
 
     pub fn to_record(self) -> Record
@@ -284,13 +236,10 @@ impl Utc {
 
     pub const BOUND: u64 = 86_401_000_000;
 
-    pub fn new(day: i64, micro: u64) -> DatedUtc
+    pub fn new(day: i64, micro: u64) -> Result<Utc, Refusal>
         ensures { slip_utc result ≡ spanned Scale.Utc day micro }
     {
-        match count_of(Scale::Utc, day, micro) {
-            Fit::At(n) => DatedUtc::At(Utc(n)),
-            Fit::Outside => DatedUtc::Refused(Refusal::OutsideSpan),
-        }
+        Ok(Utc(count_of(Scale::Utc, day, micro)?))
     }
 
     pub fn to_record(self) -> Record
@@ -307,13 +256,10 @@ impl Gps {
 
     pub const BOUND: u64 = 86_400_000_000;
 
-    pub fn new(day: i64, micro: u64) -> DatedGps
+    pub fn new(day: i64, micro: u64) -> Result<Gps, Refusal>
         ensures { slip_gps result ≡ spanned Scale.Gps day micro }
     {
-        match count_of(Scale::Gps, day, micro) {
-            Fit::At(n) => DatedGps::At(Gps(n)),
-            Fit::Outside => DatedGps::Refused(Refusal::OutsideSpan),
-        }
+        Ok(Gps(count_of(Scale::Gps, day, micro)?))
     }
 
     pub fn to_record(self) -> Record

@@ -3,13 +3,7 @@ ghost use Rattle.std.specs.Prelude.{◌≡◌};
 ghost use Rattle.scales.specs.Meaning.{record_at, time_at};
 ghost use Rattle.scales.specs.Place.{span_of, fit_of};
 
-use crate::{Gps, Mark, Record, Scale, Tai, Time, Utc};
-
-#[derive(Clone, Copy)]
-pub enum Fit {
-    At(u64),
-    Outside,
-}
+use crate::{Gps, Mark, Record, Refusal, Refused, Scale, Tai, Time, Utc};
 
 // A span: its first and last day, and the microseconds of a day.
 #[derive(Clone, Copy)]
@@ -41,19 +35,19 @@ fn span_of(scale: Scale) -> Span
     }
 }
 
-// The count of a day and a microsecond of a scale, if they lie in its span.
-pub fn count_of(scale: Scale, day: i64, micro: u64) -> Fit
+// The count of a day and a microsecond of a scale, or 7 outside its span.
+pub fn count_of(scale: Scale, day: i64, micro: u64) -> Result<u64, Refused>
     ensures { result ≡ fit_of scale day micro }
 {
     let span = span_of(scale);
     let bound = span.bound;
     if !axis::is_between(span.first, day, span.last) {
-        return Fit::Outside;
+        return Err(Refusal::OutsideSpan.of(scale));
     }
     if bound <= micro {
-        return Fit::Outside;
+        return Err(Refusal::OutsideSpan.of(scale));
     }
-    Fit::At(axis::place_of_day(day) * bound + micro)
+    Ok(axis::place_of_day(day) * bound + micro)
 }
 
 // The record of a count, plain. This function, `Record::new` and `Record::with_mark` are the only ones that build a record.
