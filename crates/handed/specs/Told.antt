@@ -5,7 +5,7 @@ use Rattle.std.proofs.lemmas.Bool.{false≢true}
 use Rattle.std.specs.Float.{nan, inf, fin}
 use Rattle.axis.specs.Meaning.{place_of_day, Moment}
 use Rattle.axis.specs.Axis.{day_place}
-use Rattle.scales.specs.Meaning.{bound, in_span, answer, outcome, dated, moment_at, time_scale, time_count, time_at, record_of, record_at}
+use Rattle.scales.specs.Meaning.{bound, in_span, Judged, given, refused, answer, outcome, number_of, dated, moment_at, time_scale, time_count, time_at, record_of, record_at}
 use Rattle.scales.specs.Place.{first_at, apart, Placed, placed, day_part, micro_part, count_of}
 use Rattle.scales.specs.Same.{time_scale_lem, time_count_lem}
 use Rattle.scales.specs.declared.Scale.{Scale}
@@ -16,7 +16,7 @@ use Rattle.handed.specs.declared.Handed.TheVariants as H
 use Rattle.handed.specs.Signs.{place_from, place_to, day_at_lem, micro_at}
 use Rattle.handed.specs.declared.Untaken.{Untaken}
 use Rattle.handed.specs.declared.Untaken.TheVariants as K
-use Rattle.handed.specs.Meaning.{scale_of, is_finite, is_in_span, day_of, micro_of, taken_of, Kept, Took, taken_slip, taking}
+use Rattle.handed.specs.Meaning.{scale_of, is_finite, is_in_span, day_of, micro_of, taken_of, Kept, Took, taken_slip, taking, refused_by, refusal_by}
 
 -- Any two answers that the contract of `take` allows are equal.
 pub took_one : (h : Handed) (s t : Result Time Untaken) → Took h s → Took h t → s ≡ t
@@ -89,6 +89,20 @@ module _ (h : Handed) (t : Result Time Untaken) (w : Took h t) where
 
   pub told_at : (n : Time) → t ≡ Ok n → Told h n
   told_at n e = subst (Tells h) e (tells h t w)
+
+  -- what is not taken is refused so by every chain that judges the two first
+  pub untaken_lem : (e : Untaken) → t ≡ Err e → {A : Type 0} (rest : Judged A) → outcome (given (is_finite h) 4 (given (is_in_span h) 7 rest)) ≡ refused (number_of (refusal_by e))
+  untaken_lem (K.NotFinite s) q rest = rw (told_nothing s q).0
+  untaken_lem (K.Outside s) q rest = let k = told_outside s q in rw (k.0, k.1)
+
+  pub untaken_scale : (e : Untaken) → t ≡ Err e → (refused_by e).scale ≡ scale_of h
+  untaken_scale (K.NotFinite s) q = (told_nothing s q).1
+  untaken_scale (K.Outside s) q = (told_outside s q).2
+
+-- with its scale or without, the refusal is the same
+pub refused_refusal : (e : Untaken) → (refused_by e).refusal ≡ refusal_by e
+refused_refusal (K.NotFinite s) = refl
+refused_refusal (K.Outside s) = refl
 
 -- ---- a time that was taken: its place on the axis, its scale, its count and its record
 module _ (h : Handed) (t : Time) (w : Told h t) where
