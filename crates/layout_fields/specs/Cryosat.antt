@@ -1,13 +1,12 @@
 -- "CryoSat general (8 bytes): day 16 bits, millisecond 32 bits (below 86,400,000), microsecond 16 bits (below 1,000)".
 -- Assumes nothing.
-use Rattle.std.specs.Prelude.{Bool, cond, ◌&&◌, List, ◌++◌, ℕ, ltb, eqb, length}
+use Rattle.std.specs.Prelude.{Bool, cond, ◌&&◌, List, ◌++◌, ℕ, ltb, eqb, length, Result, Ok, Err}
 use Rattle.octets.specs.Meaning.{field, part}
-use Rattle.scales.specs.Meaning.{Judged, given, gives, outcome, Wrote, written, Valued, valued, Reply, some, no, value_slip}
+use Rattle.scales.specs.Meaning.{Judged, given, gives, outcome, Wrote, written, Valued, valued, value_slip}
 use Rattle.scales.specs.declared.Refusal.TheVariants as R
 use Rattle.layout_fields.specs.Meaning.{placing}
 use Rattle.layout_fields.specs.declared.cryosat.Fields.{Fields}
-use Rattle.layout_fields.specs.declared.cryosat.CryosatParted.{CryosatParted}
-use Rattle.layout_fields.specs.declared.cryosat.CryosatParted.TheVariants as P
+use Rattle.scales.specs.declared.Refusal.{Refusal}
 
 abbrev pub fields_of : List ℕ → Fields
 fields_of s = record { day = part s 0 2; millisecond = part s 2 4; microsecond = part s 6 2 }
@@ -31,19 +30,15 @@ writing f out =
     (placing (image_of f) out)
 
 -- the fields that bytes begin with, or 3: SIRAL's begin so too
-abbrev pub front_of : List ℕ → CryosatParted
-front_of s = cond (in_limits (part s 2 4) (part s 6 2)) (P.Fields (fields_of s)) (P.Refused R.FieldOver)
+abbrev pub front_of : List ℕ → Result Fields Refusal
+front_of s = cond (in_limits (part s 2 4) (part s 6 2)) (Ok (fields_of s)) (Err R.FieldOver)
 
 -- ---- what is handed back
 abbrev pub empty : Fields
 empty = record { day = 0; millisecond = 0; microsecond = 0 }
 
-abbrev pub parted : CryosatParted → Reply Fields
-parted (P.Fields f) = some f
-parted (P.Refused r) = no r
-
-abbrev pub slip : CryosatParted → Valued Fields
-slip r = value_slip empty (parted r)
+abbrev pub slip : Result Fields Refusal → Valued Fields
+slip r = value_slip empty r
 
 unfoldable pub read : List ℕ → Valued Fields
 read s = valued empty (outcome (reading s))

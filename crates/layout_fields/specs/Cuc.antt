@@ -1,11 +1,10 @@
 -- "CUC, Aeolus (6 bytes): seconds 32 bits, fraction 16 bits". Assumes nothing.
-use Rattle.std.specs.Prelude.{List, ◌++◌, ℕ, eqb, length}
+use Rattle.std.specs.Prelude.{List, ◌++◌, ℕ, eqb, length, Result}
 use Rattle.octets.specs.Meaning.{field, part}
-use Rattle.scales.specs.Meaning.{Judged, given, gives, outcome, Wrote, written, Valued, valued, Reply, some, no, value_slip}
+use Rattle.scales.specs.Meaning.{Judged, given, gives, outcome, Wrote, written, Valued, valued, value_slip}
 use Rattle.layout_fields.specs.Meaning.{placing}
 use Rattle.layout_fields.specs.declared.cuc.Fields.{Fields}
-use Rattle.layout_fields.specs.declared.cuc.CucParted.{CucParted}
-use Rattle.layout_fields.specs.declared.cuc.CucParted.TheVariants as P
+use Rattle.scales.specs.declared.Refusal.{Refusal}
 
 abbrev pub fields_of : List ℕ → Fields
 fields_of s = record { seconds = part s 0 4; fraction = part s 4 2 }
@@ -25,12 +24,8 @@ writing f out = placing (image_of f) out
 abbrev pub empty : Fields
 empty = record { seconds = 0; fraction = 0 }
 
-abbrev pub parted : CucParted → Reply Fields
-parted (P.Fields f) = some f
-parted (P.Refused r) = no r
-
-abbrev pub slip : CucParted → Valued Fields
-slip r = value_slip empty (parted r)
+abbrev pub slip : Result Fields Refusal → Valued Fields
+slip r = value_slip empty r
 
 unfoldable pub read : List ℕ → Valued Fields
 read s = valued empty (outcome (reading s))

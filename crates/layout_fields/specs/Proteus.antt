@@ -1,12 +1,11 @@
 -- "Proteus, SMOS (8 bytes): week 12 bits, three zero bits, H3, second of week 32 bits (at most 604,799), fraction as in CUC".
 -- Assumes nothing.
-use Rattle.std.specs.Prelude.{Bool, true, false, ◌&&◌, List, ◌++◌, ℕ, ◌+◌, ◌*◌, ◌/◌, ◌%◌, leb, ltb, eqb, length}
+use Rattle.std.specs.Prelude.{Bool, true, false, ◌&&◌, List, ◌++◌, ℕ, ◌+◌, ◌*◌, ◌/◌, ◌%◌, leb, ltb, eqb, length, Result}
 use Rattle.octets.specs.Meaning.{field, part}
-use Rattle.scales.specs.Meaning.{Judged, given, gives, outcome, Wrote, written, Valued, valued, Reply, some, no, value_slip}
+use Rattle.scales.specs.Meaning.{Judged, given, gives, outcome, Wrote, written, Valued, valued, value_slip}
 use Rattle.layout_fields.specs.Meaning.{placing}
 use Rattle.layout_fields.specs.declared.proteus.Fields.{Fields}
-use Rattle.layout_fields.specs.declared.proteus.ProteusParted.{ProteusParted}
-use Rattle.layout_fields.specs.declared.proteus.ProteusParted.TheVariants as P
+use Rattle.scales.specs.declared.Refusal.{Refusal}
 
 -- ---- the first 16 bits: week, three zero bits, H3
 abbrev pub head_of : ℕ → Bool → ℕ
@@ -49,12 +48,8 @@ writing f out =
 abbrev pub empty : Fields
 empty = record { week = 0; h3 = false; second = 0; fraction = 0 }
 
-abbrev pub parted : ProteusParted → Reply Fields
-parted (P.Fields f) = some f
-parted (P.Refused r) = no r
-
-abbrev pub slip : ProteusParted → Valued Fields
-slip r = value_slip empty (parted r)
+abbrev pub slip : Result Fields Refusal → Valued Fields
+slip r = value_slip empty r
 
 unfoldable pub read : List ℕ → Valued Fields
 read s = valued empty (outcome (reading s))

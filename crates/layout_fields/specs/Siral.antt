@@ -1,12 +1,11 @@
 -- "SIRAL (10 bytes): the same, then a 16-bit extra counter": the same as CryoSat general. Assumes nothing.
-use Rattle.std.specs.Prelude.{List, ◌++◌, ℕ, eqb, length}
+use Rattle.std.specs.Prelude.{List, ◌++◌, ℕ, eqb, length, Result}
 use Rattle.octets.specs.Meaning.{field, part}
-use Rattle.scales.specs.Meaning.{Judged, given, gives, outcome, Wrote, written, Valued, valued, Reply, some, no, value_slip}
+use Rattle.scales.specs.Meaning.{Judged, given, gives, outcome, Wrote, written, Valued, valued, value_slip}
 use Rattle.layout_fields.specs.Meaning.{placing}
 use Rattle.layout_fields.specs.Cryosat.{in_limits}
 use Rattle.layout_fields.specs.declared.siral.Fields.{Fields}
-use Rattle.layout_fields.specs.declared.siral.SiralParted.{SiralParted}
-use Rattle.layout_fields.specs.declared.siral.SiralParted.TheVariants as P
+use Rattle.scales.specs.declared.Refusal.{Refusal}
 
 abbrev pub fields_of : List ℕ → Fields
 fields_of s = record { day = part s 0 2; millisecond = part s 2 4; microsecond = part s 6 2; extra = part s 8 2 }
@@ -29,12 +28,8 @@ writing f out =
 abbrev pub empty : Fields
 empty = record { day = 0; millisecond = 0; microsecond = 0; extra = 0 }
 
-abbrev pub parted : SiralParted → Reply Fields
-parted (P.Fields f) = some f
-parted (P.Refused r) = no r
-
-abbrev pub slip : SiralParted → Valued Fields
-slip r = value_slip empty (parted r)
+abbrev pub slip : Result Fields Refusal → Valued Fields
+slip r = value_slip empty r
 
 unfoldable pub read : List ℕ → Valued Fields
 read s = valued empty (outcome (reading s))

@@ -3,7 +3,7 @@ ghost use Rattle.std.specs.Prelude.{◌≡◌, ◌≤◌, length};
 ghost use Rattle.scales.specs.Meaning.{wrote};
 ghost use Rattle.layout_fields.specs.Cryosat.{in_limits, front_of, slip, read, write};
 
-use scales::{Refusal, Written};
+use scales::Refusal;
 
 #[derive(Clone, Copy)]
 pub struct Fields {
@@ -12,59 +12,51 @@ pub struct Fields {
     pub microsecond: u16,
 }
 
-#[derive(Clone, Copy)]
-pub enum CryosatParted {
-    Fields(Fields),
-    Refused(Refusal),
-}
-
 // Are the two fields that have a limit below it?
 pub(crate) fn in_limits(millisecond: u32, microsecond: u16) -> bool
     ensures { result ≡ in_limits millisecond microsecond }
 {
-    if millisecond < 86_400_000 {
-        microsecond < 1000
-    } else {
-        false
-    }
+    millisecond < 86_400_000 && microsecond < 1000
 }
 
 // The three fields that bytes begin with, or 3: SIRAL's begin so too.
-pub(crate) fn front(b: &[u8]) -> CryosatParted
+pub(crate) fn front(b: &[u8]) -> Result<Fields, Refusal>
     requires { 8 ≤ length b.now }
     ensures { result ≡ front_of b.now }
 {
     let millisecond = octets::inner::part(b, 2, 4) as u32;
     let microsecond = octets::inner::part(b, 6, 2) as u16;
     if !in_limits(millisecond, microsecond) {
-        return CryosatParted::Refused(Refusal::FieldOver);
+        return Err(Refusal::FieldOver);
     }
-    CryosatParted::Fields(Fields {
+    Ok(Fields {
         day: octets::inner::part(b, 0, 2) as u16,
         millisecond,
         microsecond,
     })
 }
 
-pub fn read(b: &[u8]) -> CryosatParted
+#[tactic(auto, unfolding(crate::specs::Cryosat::read))]
+pub fn read(b: &[u8]) -> Result<Fields, Refusal>
     ensures { slip result ≡ read b.now }
 {
     if b.len() != 8 {
-        return CryosatParted::Refused(Refusal::LengthIsNone);
+        return Err(Refusal::LengthIsNone);
     }
     front(b)
 }
 
-pub fn write(f: Fields, out: &mut [u8]) -> Written
+#[tactic(auto, unfolding(crate::specs::Cryosat::write))]
+pub fn write(f: Fields, out: &mut [u8]) -> Result<usize, Refusal>
     ensures { wrote result out.new ≡ write f out.old }
 {
     if !in_limits(f.millisecond, f.microsecond) {
-        return Written::Refused(Refusal::FieldOver);
+        return Err(Refusal::FieldOver);
     }
     crate::place_two(
-        f.day as u64,
+        u64::from(f.day),
         2,
-        (f.millisecond as u64) * 65536 + (f.microsecond as u64),
+        u64::from(f.millisecond) * 65536 + u64::from(f.microsecond),
         6,
         out,
     )

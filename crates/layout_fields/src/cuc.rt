@@ -3,7 +3,7 @@ ghost use Rattle.std.specs.Prelude.{◌≡◌};
 ghost use Rattle.scales.specs.Meaning.{wrote};
 ghost use Rattle.layout_fields.specs.Cuc.{slip, read, write};
 
-use scales::{Refusal, Written};
+use scales::Refusal;
 
 #[derive(Clone, Copy)]
 pub struct Fields {
@@ -11,26 +11,22 @@ pub struct Fields {
     pub fraction: u16,
 }
 
-#[derive(Clone, Copy)]
-pub enum CucParted {
-    Fields(Fields),
-    Refused(Refusal),
-}
-
-pub fn read(b: &[u8]) -> CucParted
+#[tactic(auto, unfolding(crate::specs::Cuc::read))]
+pub fn read(b: &[u8]) -> Result<Fields, Refusal>
     ensures { slip result ≡ read b.now }
 {
     if b.len() != 6 {
-        return CucParted::Refused(Refusal::LengthIsNone);
+        return Err(Refusal::LengthIsNone);
     }
-    CucParted::Fields(Fields {
+    Ok(Fields {
         seconds: octets::inner::part(b, 0, 4) as u32,
         fraction: octets::inner::part(b, 4, 2) as u16,
     })
 }
 
-pub fn write(f: Fields, out: &mut [u8]) -> Written
+#[tactic(auto, unfolding(crate::specs::Cuc::write))]
+pub fn write(f: Fields, out: &mut [u8]) -> Result<usize, Refusal>
     ensures { wrote result out.new ≡ write f out.old }
 {
-    crate::place_two(f.seconds as u64, 4, f.fraction as u64, 2, out)
+    crate::place_two(u64::from(f.seconds), 4, u64::from(f.fraction), 2, out)
 }

@@ -3,23 +3,25 @@ ghost use Rattle.std.specs.Prelude.{◌≡◌};
 ghost use Rattle.scales.specs.Meaning.{wrote, count_slip};
 ghost use Rattle.layout_fields.specs.Goce.{read, write};
 
-use scales::{Counted, Refusal, Written};
+use scales::Refusal;
 
-pub fn read(b: &[u8]) -> Counted
+#[tactic(auto, unfolding(crate::specs::Goce::read))]
+pub fn read(b: &[u8]) -> Result<u64, Refusal>
     ensures { count_slip result ≡ read b.now }
 {
     if b.len() != 6 {
-        return Counted::Refused(Refusal::LengthIsNone);
+        return Err(Refusal::LengthIsNone);
     }
-    Counted::Count(octets::inner::part(b, 0, 6))
+    Ok(octets::inner::part(b, 0, 6))
 }
 
-pub fn write(count: u64, out: &mut [u8]) -> Written
+#[tactic(auto, unfolding(crate::specs::Goce::write))]
+pub fn write(count: u64, out: &mut [u8]) -> Result<usize, Refusal>
     ensures { wrote result out.new ≡ write count out.old }
 {
     // 2^48
     if 281_474_976_710_656 <= count {
-        return Written::Refused(Refusal::FieldOver);
+        return Err(Refusal::FieldOver);
     }
     crate::place(count, 6, out)
 }

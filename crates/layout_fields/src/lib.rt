@@ -6,7 +6,7 @@ ghost use Rattle.octets.specs.Meaning.{field};
 ghost use Rattle.scales.specs.Meaning.{wrote, written, outcome};
 ghost use Rattle.layout_fields.specs.Meaning.{placing};
 
-use scales::{Refusal, Written};
+use scales::Refusal;
 
 pub mod cryosat;
 pub mod cuc;
@@ -17,21 +17,22 @@ pub mod sbt;
 pub mod siral;
 
 // x in n bytes and after it y in m bytes, onto the front of a lent slice; 13 where it is shorter.
-fn place_two(x: u64, n: usize, y: u64, m: usize, out: &mut [u8]) -> Written
+fn place_two(x: u64, n: usize, y: u64, m: usize, out: &mut [u8]) -> Result<usize, Refusal>
     requires { n + m ≤ 16 }
     ensures { wrote result out.new ≡ written out.old (outcome (placing (field n x ++ field m y) out.old)) }
 {
     let end = n + m;
     if out.len() < end {
-        return Written::Refused(Refusal::OutputShorter);
+        return Err(Refusal::OutputShorter);
     }
-    octets::lay(x, &mut out[0..n]);
+    octets::lay(x, &mut out[..n]);
     octets::lay(y, &mut out[n..end]);
-    Written::Bytes(end)
+    Ok(end)
 }
 
 // The same of one number.
-fn place(x: u64, n: usize, out: &mut [u8]) -> Written
+#[tactic(auto, unfolding(octets::specs::Meaning::field))]
+fn place(x: u64, n: usize, out: &mut [u8]) -> Result<usize, Refusal>
     requires { n ≤ 16 }
     ensures { wrote result out.new ≡ written out.old (outcome (placing (field n x) out.old)) }
 {

@@ -3,26 +3,28 @@ ghost use Rattle.std.specs.Prelude.{◌≡◌};
 ghost use Rattle.scales.specs.Meaning.{wrote, count_slip};
 ghost use Rattle.layout_fields.specs.Obet.{read, write};
 
-use scales::{Counted, Refusal, Written};
+use scales::Refusal;
 
-pub fn read(b: &[u8]) -> Counted
+#[tactic(auto, unfolding(crate::specs::Obet::read))]
+pub fn read(b: &[u8]) -> Result<u64, Refusal>
     ensures { count_slip result ≡ read b.now }
 {
     if b.len() != 8 {
-        return Counted::Refused(Refusal::LengthIsNone);
+        return Err(Refusal::LengthIsNone);
     }
     if octets::inner::part(b, 0, 1) != 0x66 {
-        return Counted::Refused(Refusal::MarkerWrong);
+        return Err(Refusal::MarkerWrong);
     }
-    Counted::Count(octets::inner::part(b, 1, 7))
+    Ok(octets::inner::part(b, 1, 7))
 }
 
-pub fn write(count: u64, out: &mut [u8]) -> Written
+#[tactic(auto, unfolding(crate::specs::Obet::write))]
+pub fn write(count: u64, out: &mut [u8]) -> Result<usize, Refusal>
     ensures { wrote result out.new ≡ write count out.old }
 {
     // 2^56
     if 72_057_594_037_927_936 <= count {
-        return Written::Refused(Refusal::FieldOver);
+        return Err(Refusal::FieldOver);
     }
     crate::place_two(0x66, 1, count, 7, out)
 }

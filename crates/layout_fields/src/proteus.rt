@@ -3,7 +3,7 @@ ghost use Rattle.std.specs.Prelude.{◌≡◌, ◌<◌};
 ghost use Rattle.scales.specs.Meaning.{wrote};
 ghost use Rattle.layout_fields.specs.Proteus.{slip, read, write, head_of};
 
-use scales::{Refusal, Written};
+use scales::Refusal;
 
 #[derive(Clone, Copy)]
 pub struct Fields {
@@ -13,28 +13,23 @@ pub struct Fields {
     pub fraction: u16,
 }
 
-#[derive(Clone, Copy)]
-pub enum ProteusParted {
-    Fields(Fields),
-    Refused(Refusal),
-}
-
-pub fn read(b: &[u8]) -> ProteusParted
+#[tactic(auto, unfolding(crate::specs::Proteus::read))]
+pub fn read(b: &[u8]) -> Result<Fields, Refusal>
     ensures { slip result ≡ read b.now }
 {
     if b.len() != 8 {
-        return ProteusParted::Refused(Refusal::LengthIsNone);
+        return Err(Refusal::LengthIsNone);
     }
     let head = octets::inner::part(b, 0, 2);
     if head / 2 % 8 != 0 {
-        return ProteusParted::Refused(Refusal::MarkerWrong);
+        return Err(Refusal::MarkerWrong);
     }
     let second = octets::inner::part(b, 2, 4);
     if 604_799 < second {
-        return ProteusParted::Refused(Refusal::FieldOver);
+        return Err(Refusal::FieldOver);
     }
     let fraction = octets::inner::part(b, 6, 2);
-    ProteusParted::Fields(Fields {
+    Ok(Fields {
         week: (head / 16) as u16,
         h3: head % 2 == 1,
         second: second as u32,
@@ -47,24 +42,22 @@ fn head(week: u64, h3: bool) -> u64
     requires { week < 4096 }
     ensures { result ≡ head_of week h3 }
 {
-    if h3 { week * 16 + 1 } else { week * 16 }
+    week * 16 + u64::from(h3)
 }
 
-pub fn write(f: Fields, out: &mut [u8]) -> Written
+#[tactic(auto, unfolding(crate::specs::Proteus::write))]
+pub fn write(f: Fields, out: &mut [u8]) -> Result<usize, Refusal>
     ensures { wrote result out.new ≡ write f out.old }
 {
-    let week = f.week as u64;
-    let second = f.second as u64;
-    if 4096 <= week {
-        return Written::Refused(Refusal::FieldOver);
-    }
-    if 604_799 < second {
-        return Written::Refused(Refusal::FieldOver);
+    let week = u64::from(f.week);
+    let second = u64::from(f.second);
+    if 4096 <= week || 604_799 < second {
+        return Err(Refusal::FieldOver);
     }
     crate::place_two(
         head(week, f.h3),
         2,
-        second * 65536 + (f.fraction as u64),
+        second * 65536 + u64::from(f.fraction),
         6,
         out,
     )

@@ -3,19 +3,21 @@ ghost use Rattle.std.specs.Prelude.{◌≡◌};
 ghost use Rattle.scales.specs.Meaning.{tick_slip, wrote};
 ghost use Rattle.layout_fields.specs.Sbt.{read, write};
 
-use scales::{Refusal, Tick, Ticked, Written};
+use scales::{Refusal, Tick};
 
-pub fn read(b: &[u8]) -> Ticked
+#[tactic(auto, unfolding(crate::specs::Sbt::read))]
+pub fn read(b: &[u8]) -> Result<Tick, Refusal>
     ensures { tick_slip result ≡ read b.now }
 {
     if b.len() != 4 {
-        return Ticked::Refused(Refusal::LengthIsNone);
+        return Err(Refusal::LengthIsNone);
     }
-    Ticked::Tick(Tick(octets::inner::part(b, 0, 4) as u32))
+    Ok(Tick(octets::inner::part(b, 0, 4) as u32))
 }
 
-pub fn write(tick: Tick, out: &mut [u8]) -> Written
+#[tactic(auto, unfolding(crate::specs::Sbt::write))]
+pub fn write(tick: Tick, out: &mut [u8]) -> Result<usize, Refusal>
     ensures { wrote result out.new ≡ write tick.0 out.old }
 {
-    crate::place(tick.0 as u64, 4, out)
+    crate::place(u64::from(tick.0), 4, out)
 }

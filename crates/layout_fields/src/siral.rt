@@ -3,8 +3,7 @@ ghost use Rattle.std.specs.Prelude.{◌≡◌};
 ghost use Rattle.scales.specs.Meaning.{wrote};
 ghost use Rattle.layout_fields.specs.Siral.{slip, read, write};
 
-use crate::cryosat::CryosatParted;
-use scales::{Refusal, Written};
+use scales::Refusal;
 
 #[derive(Clone, Copy)]
 pub struct Fields {
@@ -14,36 +13,30 @@ pub struct Fields {
     pub extra: u16,
 }
 
-#[derive(Clone, Copy)]
-pub enum SiralParted {
-    Fields(Fields),
-    Refused(Refusal),
-}
-
-pub fn read(b: &[u8]) -> SiralParted
+#[tactic(auto, unfolding(crate::specs::Siral::read))]
+pub fn read(b: &[u8]) -> Result<Fields, Refusal>
     ensures { slip result ≡ read b.now }
 {
     if b.len() != 10 {
-        return SiralParted::Refused(Refusal::LengthIsNone);
+        return Err(Refusal::LengthIsNone);
     }
-    match crate::cryosat::front(b) {
-        CryosatParted::Fields(f) => SiralParted::Fields(Fields {
-            day: f.day,
-            millisecond: f.millisecond,
-            microsecond: f.microsecond,
-            extra: octets::inner::part(b, 8, 2) as u16,
-        }),
-        CryosatParted::Refused(r) => SiralParted::Refused(r),
-    }
+    let f = crate::cryosat::front(b)?;
+    Ok(Fields {
+        day: f.day,
+        millisecond: f.millisecond,
+        microsecond: f.microsecond,
+        extra: octets::inner::part(b, 8, 2) as u16,
+    })
 }
 
-pub fn write(f: Fields, out: &mut [u8]) -> Written
+#[tactic(auto, unfolding(crate::specs::Siral::write))]
+pub fn write(f: Fields, out: &mut [u8]) -> Result<usize, Refusal>
     ensures { wrote result out.new ≡ write f out.old }
 {
     if !crate::cryosat::in_limits(f.millisecond, f.microsecond) {
-        return Written::Refused(Refusal::FieldOver);
+        return Err(Refusal::FieldOver);
     }
-    let front = (f.day as u64) * 4_294_967_296 + (f.millisecond as u64);
-    let back = (f.microsecond as u64) * 65536 + (f.extra as u64);
+    let front = u64::from(f.day) * 4_294_967_296 + u64::from(f.millisecond);
+    let back = u64::from(f.microsecond) * 65536 + u64::from(f.extra);
     crate::place_two(front, 6, back, 4, out)
 }

@@ -6,23 +6,14 @@ ghost use Rattle.octets.specs.Meaning.{word, field, has_room, onto};
 
 pub mod inner;
 
-// Behind a call, a byte that is read asks only that its index is in range.
-fn wide(b: u8) -> u64
-    ensures { result ≡ b }
-{
-    b as u64
-}
-
 // The number that the bytes of a slice stand for, most significant first; its last 64 bits where the slice is longer than 8 bytes.
 pub fn number_of(s: &[u8]) -> u64
     ensures { result ≡ word s.now }
 {
-    let mut n: u64 = 0;
-    let mut i = 0;
-    while i < s.len() {
+    let mut n = 0;
+    for b in s {
         // 2^56: what would leave the 64 bits is taken off first.
-        n = n % 72057594037927936 * 256 + wide(s[i]);
-        i += 1;
+        n = n % 72_057_594_037_927_936 * 256 + u64::from(*b);
     }
     n
 }
@@ -32,11 +23,9 @@ pub fn lay(v: u64, out: &mut [u8])
     ensures { out.new ≡ field (length out.old) v }
 {
     let mut x = v;
-    let mut i = out.len();
-    while 0 < i {
-        i -= 1;
+    for i in (0..out.len()).rev() {
         out[i] = (x % 256) as u8;
-        x = x / 256;
+        x /= 256;
     }
 }
 
@@ -47,10 +36,6 @@ pub fn put(image: &[u8], out: &mut [u8]) -> bool
     if out.len() < image.len() {
         return false;
     }
-    let mut i = 0;
-    while i < image.len() {
-        out[i] = image[i];
-        i += 1;
-    }
+    out[..image.len()].copy_from_slice(image);
     true
 }
