@@ -41,7 +41,8 @@ impl<'a> Model for Accepted<'a> {
 
 impl<'a> Accepted<'a> {
     pub fn list(&self) -> &List<'a>
-        ensures { result.now ≡ self.now }
+        ensures same { result.now ≡ self.now }
+        ensures accepted { accepted self.now.days self.now.offsets self.now.last ≡ true }
     {
         &self.list
     }
