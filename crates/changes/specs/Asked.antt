@@ -1,10 +1,10 @@
 -- What a list is asked for a record that stays in its scale: the stages, a law for each way out, and what an answer tells. Assumes nothing.
-use Rattle.std.specs.Prelude.{◌≡◌, refl, Bool, true, false, not, ◌&&◌, ◌||◌, List, ℕ, ◌<◌, ◌≤◌, ltb, ℤ}
+use Rattle.std.specs.Prelude.{◌≡◌, refl, Bool, true, false, not, ◌&&◌, ◌||◌, List, ℕ, ◌<◌, ◌≤◌, ltb, ℤ, Ok, Err}
 use Rattle.std.proofs.Common.{sym, ap, ap₂, ◌∙◌, arith, ltb-true, lt-ltb, le-ltb}
 use Rattle.std.proofs.lemmas.Bool.{false≢true}
 use Rattle.axis.specs.Meaning.{place_of_day, day_at, Moment}
 use Rattle.axis.specs.Axis.{day_place}
-use Rattle.scales.specs.Meaning.{in_span, Judged, given, gives, Outcome, refused, answer, outcome, Slip, dated, number_of, slip, slip_timed, spanned, record_moment}
+use Rattle.scales.specs.Meaning.{in_span, Judged, given, gives, Outcome, refused, answer, outcome, Slip, dated, number_of, slip, slip_timed, spanned, record_moment, refused_of}
 use Rattle.scales.specs.Order.{no_answer, numbered}
 use Rattle.scales.specs.Same.{no_zero}
 use Rattle.scales.specs.Place.{and_both, apart, placed, spanned_out}
@@ -13,8 +13,6 @@ use Rattle.scales.specs.declared.Scale.{Scale}
 use Rattle.scales.specs.declared.Scale.TheVariants as S
 use Rattle.scales.specs.declared.Record.{Record}
 use Rattle.scales.specs.declared.Refusal.{Refusal}
-use Rattle.scales.specs.declared.Dated.TheVariants as D
-use Rattle.scales.specs.declared.Timed.TheVariants as TD
 use Rattle.handed.specs.Meaning.{scale_of, is_finite, is_in_span, moment_in}
 use Rattle.handed.specs.Laid.{LaidAt}
 use Rattle.handed.specs.declared.Handed.{Handed}
@@ -52,7 +50,7 @@ module _ (ds : List ℤ) (os : List ℕ) (e : ℤ) where
     abbrev Judges : Slip → Type 0
     Judges x = x ≡ dated r.scale (outcome (record_asked r ds os e))
 
-    pub judge_outside : (f : Refusal) (y : Scale) → slip_timed (TD.Refused f y) ≡ spanned r.scale r.day r.micro → Judges (slip (D.Refused f y))
+    pub judge_outside : (f : Refusal) (y : Scale) → slip_timed (Err (refused_of y f)) ≡ spanned r.scale r.day r.micro → Judges (slip (Err (refused_of y f)))
     judge_outside f y q =
         let k = timed_no r.scale r.day r.micro f y q in
         q ∙ spanned_out r.scale r.day r.micro k.0 ∙ sym (rw (list_passes r.scale w, k.0))
@@ -120,10 +118,10 @@ pub asked_sound : (r : Record) (ds : List ℤ) (os : List ℕ) (e : ℤ) → out
 asked_sound r ds os e = sound (record_asked r ds os e) refl
 
 -- an answer: its moment, and its scale
-pub slip_answer : (s : Scale) (o : Outcome Moment) → (o ≡ refused 0 → ⊥) → (r : Record) → slip (D.At r) ≡ dated s o → (r.scale ≡ s) × (o ≡ answer (record_moment r))
+pub slip_answer : (s : Scale) (o : Outcome Moment) → (o ≡ refused 0 → ⊥) → (r : Record) → slip (Ok r) ≡ dated s o → (r.scale ≡ s) × (o ≡ answer (record_moment r))
 slip_answer s (refused n) w r q = absurd (w (ap refused (λ i. (sym q i).number)))
 slip_answer s (answer m) w r q = (λ i. (q i).scale, λ i. answer (record { day = (sym q i).day; micro = (sym q i).micro }))
 
-pub slip_refused : (s : Scale) (o : Outcome Moment) (f : Refusal) (z : Scale) → slip (D.Refused f z) ≡ dated s o → o ≡ refused (number_of f)
+pub slip_refused : (s : Scale) (o : Outcome Moment) (f : Refusal) (z : Scale) → slip (Err (refused_of z f)) ≡ dated s o → o ≡ refused (number_of f)
 slip_refused s (refused n) f z q = ap refused (λ i. (sym q i).number)
 slip_refused s (answer m) f z q = absurd (no_zero f (λ i. (q i).number))

@@ -1,5 +1,5 @@
 -- The ways out of the one change of any time to any scale. Assumes nothing.
-use Rattle.std.specs.Prelude.{◌≡◌, refl, Bool, true, false, not, ◌&&◌, ◌||◌, List, ℕ, ℤ}
+use Rattle.std.specs.Prelude.{◌≡◌, refl, Bool, true, false, not, ◌&&◌, ◌||◌, List, ℕ, ℤ, Result, Ok, Err}
 use Rattle.std.proofs.Math.Path.{sym, ap, ap₂}
 use Rattle.std.proofs.Common.{◌∙◌}
 use Rattle.std.proofs.lemmas.Bool.{false≢true}
@@ -12,8 +12,6 @@ use Rattle.scales.specs.declared.Scale.{Scale}
 use Rattle.scales.specs.declared.Scale.TheVariants as S
 use Rattle.scales.specs.declared.Refusal.{Refusal}
 use Rattle.scales.specs.declared.Tai.{Tai}
-use Rattle.scales.specs.declared.DatedTai.{DatedTai}
-use Rattle.scales.specs.declared.DatedTai.TheVariants as DT
 use Rattle.scales.specs.declared.Time.{Time}
 use Rattle.handed.specs.declared.Handed.{Handed}
 use Rattle.handed.specs.Told.{Told, told_scale, told_moment}
@@ -33,20 +31,20 @@ pub uses_to : (s to : Scale) → is_utc to ≡ true → change_uses_list s to �
 uses_to s to e = rw e (or_true (is_utc s))
 
 -- ---- to its own scale, or to another; the last day is e, and a callee reads it from its bits, as z
-module _ (s : Scale) (n : ℕ) (ds : List ℤ) (os : List ℕ) {z e : ℤ} (q : z ≡ e) {r : DatedTai} (w : Left (of_count s n (from_scale s ds os z)) r) (to : Scale) where
+module _ (s : Scale) (n : ℕ) (ds : List ℤ) (os : List ℕ) {z e : ℤ} (q : z ≡ e) {r : Result Tai Refusal} (w : Left (of_count s n (from_scale s ds os z)) r) (to : Scale) where
   abbrev moved : ℤ → Slip
   moved y = dated to (outcome (of_count s n (moving s to ds os y)))
 
   abbrev next : ℤ → Judged Moment
   next = settled s to ds os z (moment_at s n)
 
-  pub move_stays : {t : Tai} → r ≡ DT.At t → same_scale s to ≡ true → dated s (answer (moment_at s n)) ≡ moved e
+  pub move_stays : {t : Tai} → r ≡ Ok t → same_scale s to ≡ true → dated s (answer (moment_at s n)) ≡ moved e
   move_stays g h = way_on w to next g (ap (λ (x : Scale). dated x (answer (moment_at s n))) (same_scale_lem s to h) ∙ sym (rw h)) ∙ ap moved q
 
-  pub move_goes : {t : Tai} {x : Slip} → r ≡ DT.At t → same_scale s to ≡ false → x ≡ dated to (outcome (to_scale to ds os z (micros_at t.0))) → x ≡ moved e
+  pub move_goes : {t : Tai} {x : Slip} → r ≡ Ok t → same_scale s to ≡ false → x ≡ dated to (outcome (to_scale to ds os z (micros_at t.0))) → x ≡ moved e
   move_goes g h i = way_on w to next g (i ∙ sym (rw h)) ∙ ap moved q
 
-  pub move_out : {f : Refusal} → r ≡ DT.Refused f → dated to (refused (number_of f)) ≡ moved e
+  pub move_out : {f : Refusal} → r ≡ Err f → dated to (refused (number_of f)) ≡ moved e
   move_out g = way_out w to next g ∙ ap moved q
 
 -- none of its refusals has the number of an answer

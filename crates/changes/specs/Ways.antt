@@ -1,5 +1,5 @@
 -- The ways out of a change that uses a list: the list is judged before the time. Assumes nothing.
-use Rattle.std.specs.Prelude.{◌≡◌, refl, Bool, true, false, List, ℕ, ℤ}
+use Rattle.std.specs.Prelude.{◌≡◌, refl, Bool, true, false, List, ℕ, ℤ, Result, Ok, Err}
 use Rattle.std.proofs.Common.{sym, ap, subst, ◌∙◌, arith}
 use Rattle.axis.specs.Meaning.{micros_at, Moment}
 use Rattle.scales.specs.Meaning.{and_then, Judged, given, refused, answer, outcome, Slip, dated, number_of}
@@ -8,8 +8,6 @@ use Rattle.scales.specs.declared.Scale.{Scale}
 use Rattle.scales.specs.declared.Refusal.{Refusal}
 use Rattle.scales.specs.declared.Refusal.TheVariants as R
 use Rattle.scales.specs.declared.Tai.{Tai}
-use Rattle.scales.specs.declared.DatedTai.{DatedTai}
-use Rattle.scales.specs.declared.DatedTai.TheVariants as DT
 use Rattle.leap.specs.Meaning.{accepted}
 use Rattle.via_tai.specs.Meaning.{of_count, from_scale, to_scale}
 use Rattle.via_tai.specs.Ways.{OnTheWay, counted, Left, way_held, way_on, way_out}
@@ -23,28 +21,28 @@ list_in to ds os e j h = sym (rw h)
 abbrev by_list : Scale → ℕ → List ℤ → List ℕ → ℤ → Judged ℤ
 by_list s n ds os e = given (accepted ds os e) 5 (of_count s n (from_scale s ds os e))
 
-pub record ByList (s : Scale) (n : ℕ) (ds : List ℤ) (os : List ℕ) (e : ℤ) (r : DatedTai) : Type 0 where
+pub record ByList (s : Scale) (n : ℕ) (ds : List ℤ) (os : List ℕ) (e : ℤ) (r : Result Tai Refusal) : Type 0 where
   pub left : Left (by_list s n ds os e) r
 
 -- the last day is e; a callee reads it from its bits, as z
 module _ {s : Scale} {n : ℕ} {ds : List ℤ} {os : List ℕ} {z e : ℤ} (q : z ≡ e) where
-  pub list_lacks : accepted ds os z ≡ false → ByList s n ds os e (DT.Refused R.ListNotAccepted)
+  pub list_lacks : accepted ds os z ≡ false → ByList s n ds os e (Err R.ListNotAccepted)
   list_lacks h = record { left = record { is = sym (rw (← q, h)); held = omega arith } }
 
-  pub list_there : {r : DatedTai} → accepted ds os z ≡ true → Left (of_count s n (from_scale s ds os z)) r → ByList s n ds os e r
+  pub list_there : {r : Result Tai Refusal} → accepted ds os z ≡ true → Left (of_count s n (from_scale s ds os z)) r → ByList s n ds os e r
   list_there {r} h w = subst (λ (y : ℤ). ByList s n ds os y r) q (record { left = record { is = w.is ∙ sym (rw h); held = w.held } })
 
-  module _ {r : DatedTai} (w : ByList s n ds os z r) (to : Scale) where
+  module _ {r : Result Tai Refusal} (w : ByList s n ds os z r) (to : Scale) where
     abbrev by : ℤ → Slip
     by y = dated to (outcome (and_then (by_list s n ds os y) (to_scale to ds os y)))
 
-    pub list_on : {t : Tai} {x : Slip} → r ≡ DT.At t → x ≡ dated to (outcome (to_scale to ds os z (micros_at t.0))) → x ≡ by e
+    pub list_on : {t : Tai} {x : Slip} → r ≡ Ok t → x ≡ dated to (outcome (to_scale to ds os z (micros_at t.0))) → x ≡ by e
     list_on g h = way_on w.left to (to_scale to ds os z) g h ∙ ap by q
 
-    pub list_out : {f : Refusal} → r ≡ DT.Refused f → dated to (refused (number_of f)) ≡ by e
+    pub list_out : {f : Refusal} → r ≡ Err f → dated to (refused (number_of f)) ≡ by e
     list_out g = way_out w.left to (to_scale to ds os z) g ∙ ap by q
 
-module _ {s : Scale} {n : ℕ} {ds : List ℤ} {os : List ℕ} {z : ℤ} {r : DatedTai} (w : ByList s n ds os z r) {t : Tai} (g : r ≡ DT.At t) where
+module _ {s : Scale} {n : ℕ} {ds : List ℤ} {os : List ℕ} {z : ℤ} {r : Result Tai Refusal} (w : ByList s n ds os z r) {t : Tai} (g : r ≡ Ok t) where
   pub list_held : OnTheWay t.0
   list_held = way_held w.left g
 

@@ -2,96 +2,72 @@
 #![tactic(auto)]
 
 ghost use Rattle.std.specs.Prelude.{◌≡◌};
-ghost use Rattle.scales.specs.Meaning.{slip, slip_tai, slip_utc, slip_gps, time_scale, time_count};
+ghost use Rattle.scales.specs.Meaning.{slip, slip_tai, slip_utc, slip_gps};
 ghost use Rattle.changes.specs.Meaning.{tai_to_gps, gps_to_tai, utc_to_tai, utc_to_gps, tai_to_utc, gps_to_utc, change_of};
-ghost use Rattle.changes.specs.Ways.{ByList};
 
-use handed::{Handed, Taken};
-use scales::{Dated, DatedGps, DatedTai, DatedUtc, Gps, Refusal, Scale, Tai, Time, Utc};
+use handed::{Handed, Untaken};
+use leap::List;
+use scales::{Gps, Record, Refusal, Refused, Scale, Tai, Utc};
 
 pub mod inner;
 
-pub fn tai_to_gps(t: Tai) -> DatedGps
+pub fn tai_to_gps(t: Tai) -> Result<Gps, Refusal>
     ensures { slip_gps result ≡ tai_to_gps t.0 }
 {
-    match via_tai::inner::from_tai(t) {
-        DatedTai::At(c) => via_tai::inner::to_gps(c),
-        DatedTai::Refused(f) => DatedGps::Refused(f),
-    }
+    via_tai::inner::to_gps(via_tai::inner::from_tai(t)?)
 }
 
-pub fn gps_to_tai(t: Gps) -> DatedTai
+pub fn gps_to_tai(t: Gps) -> Result<Tai, Refusal>
     ensures { slip_tai result ≡ gps_to_tai t.0 }
 {
-    match via_tai::inner::from_gps(t) {
-        DatedTai::At(c) => via_tai::inner::to_tai(c),
-        DatedTai::Refused(f) => DatedTai::Refused(f),
-    }
+    via_tai::inner::to_tai(via_tai::inner::from_gps(t)?)
 }
 
-// The way to the TAI count in a change that uses a list: the list is judged before the time.
-fn by_list(t: Time, days: &[i64], offsets: &[u64], last: i64) -> DatedTai
-    ensures { ByList (time_scale t) (time_count t) days.now offsets.now last result }
+pub fn utc_to_tai(t: Utc, list: &List) -> Result<Tai, Refusal>
+    ensures { slip_tai result ≡ utc_to_tai t.0 list.now.days list.now.offsets list.now.last }
 {
-    if !leap::is_accepted(days, offsets, last) {
-        return DatedTai::Refused(Refusal::ListNotAccepted);
-    }
-    via_tai::inner::from_time(t, days, offsets, last)
+    let list = list.accepted()?;
+    via_tai::inner::to_tai(via_tai::inner::from_utc(t, &list)?)
 }
 
-pub fn utc_to_tai(t: Utc, days: &[i64], offsets: &[u64], last: i64) -> DatedTai
-    ensures { slip_tai result ≡ utc_to_tai t.0 days.now offsets.now last }
+pub fn utc_to_gps(t: Utc, list: &List) -> Result<Gps, Refusal>
+    ensures { slip_gps result ≡ utc_to_gps t.0 list.now.days list.now.offsets list.now.last }
 {
-    match by_list(Time::Utc(t), days, offsets, last) {
-        DatedTai::At(c) => via_tai::inner::to_tai(c),
-        DatedTai::Refused(f) => DatedTai::Refused(f),
-    }
+    let list = list.accepted()?;
+    via_tai::inner::to_gps(via_tai::inner::from_utc(t, &list)?)
 }
 
-pub fn utc_to_gps(t: Utc, days: &[i64], offsets: &[u64], last: i64) -> DatedGps
-    ensures { slip_gps result ≡ utc_to_gps t.0 days.now offsets.now last }
+pub fn tai_to_utc(t: Tai, list: &List) -> Result<Utc, Refusal>
+    ensures { slip_utc result ≡ tai_to_utc t.0 list.now.days list.now.offsets list.now.last }
 {
-    match by_list(Time::Utc(t), days, offsets, last) {
-        DatedTai::At(c) => via_tai::inner::to_gps(c),
-        DatedTai::Refused(f) => DatedGps::Refused(f),
-    }
+    let list = list.accepted()?;
+    via_tai::inner::to_utc(via_tai::inner::from_tai(t)?, &list)
 }
 
-pub fn tai_to_utc(t: Tai, days: &[i64], offsets: &[u64], last: i64) -> DatedUtc
-    ensures { slip_utc result ≡ tai_to_utc t.0 days.now offsets.now last }
+pub fn gps_to_utc(t: Gps, list: &List) -> Result<Utc, Refusal>
+    ensures { slip_utc result ≡ gps_to_utc t.0 list.now.days list.now.offsets list.now.last }
 {
-    match by_list(Time::Tai(t), days, offsets, last) {
-        DatedTai::At(c) => via_tai::inner::to_utc(c, days, offsets, last),
-        DatedTai::Refused(f) => DatedUtc::Refused(f),
-    }
-}
-
-pub fn gps_to_utc(t: Gps, days: &[i64], offsets: &[u64], last: i64) -> DatedUtc
-    ensures { slip_utc result ≡ gps_to_utc t.0 days.now offsets.now last }
-{
-    match by_list(Time::Gps(t), days, offsets, last) {
-        DatedTai::At(c) => via_tai::inner::to_utc(c, days, offsets, last),
-        DatedTai::Refused(f) => DatedUtc::Refused(f),
-    }
+    let list = list.accepted()?;
+    via_tai::inner::to_utc(via_tai::inner::from_gps(t)?, &list)
 }
 
 // Any time that is handed in, to any scale.
-pub fn change(h: Handed, to: Scale, days: &[i64], offsets: &[u64], last: i64) -> Dated
-    ensures { slip result ≡ change_of h to days.now offsets.now last }
+pub fn change(h: Handed, to: Scale, list: &List) -> Result<Record, Refused>
+    ensures { slip result ≡ change_of h to list.now.days list.now.offsets list.now.last }
 {
     match handed::take(h) {
-        Taken::NotFinite(_) => Dated::Refused(Refusal::DecimalNotFinite, to),
-        Taken::Outside(s) => {
-            if inner::lacks_list(inner::change_uses_list(s, to), days, offsets, last) {
-                return Dated::Refused(Refusal::ListNotAccepted, to);
+        Err(Untaken::NotFinite(_)) => Err(Refusal::DecimalNotFinite.of(to)),
+        Err(Untaken::Outside(s)) => {
+            if inner::lacks_list(inner::change_uses_list(s, to), list) {
+                return Err(Refusal::ListNotAccepted.of(to));
             }
-            Dated::Refused(Refusal::OutsideSpan, to)
+            Err(Refusal::OutsideSpan.of(to))
         }
-        Taken::At(t) => {
-            if inner::lacks_list(inner::change_uses_list(t.scale(), to), days, offsets, last) {
-                return Dated::Refused(Refusal::ListNotAccepted, to);
+        Ok(t) => {
+            if inner::lacks_list(inner::change_uses_list(t.scale(), to), list) {
+                return Err(Refusal::ListNotAccepted.of(to));
             }
-            inner::change(t, to, days, offsets, last).with_mark(h.mark())
+            Ok(inner::change(t, to, list)?.with_mark(h.mark()))
         }
     }
 }

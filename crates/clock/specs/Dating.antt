@@ -1,6 +1,6 @@
 -- The chain of a date by what the code finds on the places: one law for each way out of `inner::date`, and the chain of a counter's
 -- dates from what its crate reckoned. Assumes nothing.
-use Rattle.std.specs.Prelude.{◌≡◌, refl, Bool, true, false, ◌&&◌, List, ℕ, ◌≤◌, ◌<◌, ltb, ℤ}
+use Rattle.std.specs.Prelude.{◌≡◌, refl, Bool, true, false, ◌&&◌, List, ℕ, ◌≤◌, ◌<◌, ltb, ℤ, Some, None}
 use Rattle.std.proofs.Common.{sym, ap, ap₂, ◌∙◌, arith, le-leb}
 use Rattle.std.proofs.lemmas.Bool.{lt-leb}
 use Rattle.axis.specs.Meaning.{micros_at, Moment, day_micros, since}
@@ -16,15 +16,14 @@ use Rattle.clock.specs.Meaning.{Clock, elapsed, time, in_window, Cover, cover, l
 use Rattle.clock.specs.Places.{time_at, ends_at, cover_of, within_at, window_at, reckoned_at, count_from, within_place, elapsed_place, Based, time_place, cover_place, window_place}
 use Rattle.clock.specs.Stage.{spot, place_in, placing, judging, judging_own, result_at, lacking_at, At, at_place, found, none, held, since_place}
 use Rattle.clock.specs.declared.inner.Ends.{Ends}
-use Rattle.clock.specs.declared.inner.Place.TheVariants as P
 use Rattle.clock.specs.declared.inner.Reckoned.{Reckoned}
 
 -- ---- under a TAI or GPS correlation
 module _ (s : Scale) (i : Bool) (v : Ends) (m : ℕ) (d : ℤ) (u : ℕ) where
-  pub own_7 : place_in s d u ≡ P.Outside → dated s (refused 7) ≡ dated s (outcome (judging_own s i (cover_of v) (micros_at m) d u))
+  pub own_7 : place_in s d u ≡ None → dated s (refused 7) ≡ dated s (outcome (judging_own s i (cover_of v) (micros_at m) d u))
   own_7 f = rw (none (in_span s d u && ltb u day_micros) (spot d u) f)
 
-  module _ (w : ℕ) (f : place_in s d u ≡ P.At w) where
+  module _ (w : ℕ) (f : place_in s d u ≡ Some w) where
     in_day : (in_span s d u && ltb u day_micros) ≡ true
     in_day = (found (in_span s d u && ltb u day_micros) (spot d u) w f).0
 

@@ -11,6 +11,7 @@ use Rattle.axis.specs.Shift.{number_add}
 use Rattle.clock.specs.Meaning.{Clock, elapsed, clock, time, in_window, Cover, cover, within, count_at}
 use Rattle.clock.specs.Clock.{less_one}
 use Rattle.clock.specs.Window.{Runs, divided, divided_to}
+use Rattle.clock.specs.declared.inner.Base.{Base}
 use Rattle.clock.specs.declared.inner.Ends.{Ends}
 use Rattle.clock.specs.declared.inner.Reckoned.{Reckoned}
 
@@ -20,6 +21,9 @@ time_at r n d h k = (r + k * n - h * n) / d
 
 abbrev pub last_at : ℕ → ℕ → ℕ → ℕ → ℕ → ℕ
 last_at r n d h w = ((w + 1) * d + h * n - r - 1) / n
+
+abbrev pub base_as : ℕ → Bool → Base
+base_as n b = record { at = n; current = b }
 
 -- the cover of a window of b counts back and a ahead
 abbrev pub ends_at : ℕ → ℕ → ℕ → ℕ → ℕ → ℕ → Ends

@@ -1,6 +1,6 @@
 -- What the code finds on its way through the chains: places of days and of times, the chain of a date from 7 on and that of a time to be
 -- turned back, each under an accepted correlation, and a list that is accepted where it is used. Assumes nothing.
-use Rattle.std.specs.Prelude.{◌≡◌, refl, Bool, true, false, cond, not, ◌&&◌, ◌||◌, List, ℕ, ◌+◌, ◌*◌, ◌/◌, ◌%◌, ◌≤◌, ltb, ℤ, pos, ◌+ℤ◌, ◌*ℤ◌}
+use Rattle.std.specs.Prelude.{◌≡◌, refl, Bool, true, false, cond, not, ◌&&◌, ◌||◌, List, ℕ, ◌+◌, ◌*◌, ◌/◌, ◌%◌, ◌≤◌, ltb, ℤ, pos, ◌+ℤ◌, ◌*ℤ◌, Result, Option, Ok, Err, Some, None}
 use Rattle.std.proofs.Common.{sym, ap, ◌∙◌, arith, le-leb}
 use Rattle.std.proofs.lemmas.Bool.{false≢true, not-true}
 use Rattle.std.specs.Int.Signed.{le_z}
@@ -11,7 +11,6 @@ use Rattle.axis.specs.Shift.{number_add}
 use Rattle.scales.specs.Meaning.{first, last, in_span, Judged, given, gives, Outcome, refused, answer, outcome, Slip, dated, moment_at, number_of, resulting}
 use Rattle.scales.specs.Order.{passed}
 use Rattle.scales.specs.Place.{apart, placed}
-use Rattle.scales.specs.declared.DatedTai.{DatedTai}
 use Rattle.scales.specs.declared.Scale.{Scale}
 use Rattle.scales.specs.declared.Scale.TheVariants as S
 use Rattle.handed.specs.declared.Handed.{Handed}
@@ -20,19 +19,17 @@ use Rattle.leap.specs.Meaning.{accepted, offset_on, tai_of, has_micro, is_expire
 use Rattle.via_tai.specs.Meaning.{is_utc, from_utc, of_count}
 use Rattle.via_tai.specs.Ways.{Left, counted, count_is}
 use Rattle.via_tai.specs.Known.{current_to}
+use Rattle.clock.specs.Places.{base_as}
 use Rattle.clock.specs.Meaning.{instant, moment_after, list_serves, is_current, is_current_at, has_second, is_known, Cover, within, has_image, instant_of}
-use Rattle.clock.specs.declared.inner.Base.TheVariants as B
-use Rattle.clock.specs.declared.inner.Place.{Place}
-use Rattle.clock.specs.declared.inner.Place.TheVariants as P
-use Rattle.clock.specs.declared.inner.Placed.{Placed}
-use Rattle.clock.specs.declared.inner.Placed.TheVariants as T
+use Rattle.scales.specs.declared.Refusal.{Refusal}
+use Rattle.scales.specs.declared.Tai.{Tai}
 
 -- ---- the reference: the place of a day and a microsecond, every day having 86,400 s, and how many seconds the axis is ahead
 abbrev pub spot : ℤ → ℕ → ℕ
 spot d u = place_of_day d * 86400000000 + u
 
-abbrev pub place_in : Scale → ℤ → ℕ → Place
-place_in s d u = cond (in_span s d u && ltb u day_micros) (P.At (spot d u)) P.Outside
+abbrev pub place_in : Scale → ℤ → ℕ → Option ℕ
+place_in s d u = cond (in_span s d u && ltb u day_micros) (Some (spot d u)) None
 
 abbrev pub seconds_in : Scale → ℤ → List ℤ → List ℕ → ℕ
 seconds_in s d ds os = cond (is_utc s) (offset_on ds os d) 0
@@ -47,9 +44,9 @@ placing m ds os e =
     (given (has_micro ds m.day m.micro) 10
     (gives (tai_of ds os m.day m.micro)))
 
-abbrev pub landed : Placed → Outcome ℤ
-landed (T.At w) = answer (micros_at w)
-landed (T.Refused f) = refused (number_of f)
+abbrev pub landed : Result ℕ Refusal → Outcome ℤ
+landed (Ok w) = answer (micros_at w)
+landed (Err f) = refused (number_of f)
 
 -- ---- a date from 7 on: whether the reference is current, whether the count is in the window, the cover, and the time of the count
 abbrev pub judging : Scale → Bool → Bool → Cover → ℤ → ℤ → ℕ → List ℤ → List ℕ → ℤ → Judged Moment
@@ -167,19 +164,19 @@ module _ (s : Scale) (i : is_utc s ≡ false) where
     serves_own = rw i
 
 -- ---- a place that is found where a test holds, as a reference's
-pub found : (t : Bool) (x r : ℕ) → cond t (P.At x) P.Outside ≡ P.At r → (t ≡ true) × (x ≡ r)
+pub found : (t : Bool) (x r : ℕ) → cond t (Some x) None ≡ Some r → (t ≡ true) × (x ≡ r)
 found true x r e = (refl, cc)
 found false x r e = absurd (let z : ◌≡◌ {A = ℕ} 0 1 = cc in omega arith)
 
-pub none : (t : Bool) (x : ℕ) → cond t (P.At x) P.Outside ≡ P.Outside → t ≡ false
+pub none : (t : Bool) (x : ℕ) → cond t (Some x) None ≡ None → t ≡ false
 none true x e = absurd (let z : ◌≡◌ {A = ℕ} 0 1 = cc in omega arith)
 none false x e = refl
 
-pub based_at : (t : Bool) (x r : ℕ) (b n : Bool) → cond t (B.At x b) B.Outside ≡ B.At r n → (t ≡ true) × ((x ≡ r) × (b ≡ n))
+pub based_at : (t : Bool) (x r : ℕ) (b n : Bool) → cond t (Some (base_as x b)) None ≡ Some (base_as r n) → (t ≡ true) × ((x ≡ r) × (b ≡ n))
 based_at true x r b n e = (refl, (cc, cc))
 based_at false x r b n e = absurd (let z : ◌≡◌ {A = ℕ} 0 1 = cc in omega arith)
 
-pub based_none : (t : Bool) (x : ℕ) (b : Bool) → cond t (B.At x b) B.Outside ≡ B.Outside → t ≡ false
+pub based_none : (t : Bool) (x : ℕ) (b : Bool) → cond t (Some (base_as x b)) None ≡ None → t ≡ false
 based_none true x b e = absurd (let z : ◌≡◌ {A = ℕ} 0 1 = cc in omega arith)
 based_none false x b e = refl
 
@@ -214,6 +211,6 @@ module _ (m : Moment) (ds : List ℤ) (os : List ℕ) (e : ℤ) where
       (ap (le_z (micros_at n)) a.is ∙ micros_le n w ∙ le-leb n w l)
 
   -- a count of its span, by the way to TAI
-  pub left_placing : (r : DatedTai) (n : ℕ) → Spanned S.Utc n → moment_at S.Utc n ≡ m → Left (of_count S.Utc n (from_utc ds os e)) r →
+  pub left_placing : (r : Result Tai Refusal) (n : ℕ) → Spanned S.Utc n → moment_at S.Utc n ≡ m → Left (of_count S.Utc n (from_utc ds os e)) r →
       counted r ≡ outcome (placing m ds os e)
   left_placing r n i q w = w.is ∙ rw i (ap (λ (x : Moment). outcome (placing x ds os e)) q)

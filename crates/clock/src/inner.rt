@@ -1,7 +1,7 @@
 // The chains on places: each counter's crate reckons the places and judges its own correlation. A clock's axis is TAI under a UTC
 // correlation, whose list was accepted before, and its own scale under another, which looks at no list.
 ghost use Rattle.std.specs.Prelude.{◌≡◌, true, false, ◌+◌, ◌≤◌, ◌<◌, ◌^◌};
-ghost use Rattle.scales.specs.Meaning.{slip, number_of, record_at, time_scale, time_count, dated, refused, outcome};
+ghost use Rattle.scales.specs.Meaning.{slip, slip_utc, number_of, record_at, time_scale, time_count, dated, refused, outcome};
 ghost use Rattle.axis.specs.Meaning.{place_of_day, day_at, micros_at};
 ghost use Rattle.leap.specs.Meaning.{accepted};
 ghost use Rattle.via_tai.specs.Meaning.{is_utc};
@@ -9,22 +9,16 @@ ghost use Rattle.clock.specs.Meaning.{is_current};
 ghost use Rattle.clock.specs.Places.{cover_of, within_at, window_at};
 ghost use Rattle.clock.specs.Stage.{place_in, Spanned, judging, result_at, lacking_at, judging_own, covering, covering_own, unaccepted_by, landed};
 
-use handed::{Handed, Taken};
-use scales::{Dated, DatedTai, DatedUtc, Record, Refusal, Scale, Tai, Time, Timed, Utc};
+use crate::Receipt;
+use handed::{Handed, Untaken};
+use leap::Accepted;
+use scales::{Record, Refusal, Refused, Scale, Tai, Time, Utc};
 
-// A place of the axis.
+// Of an accepted UTC correlation: the place of its reference in TAI, in the counter's own parts, and whether its day is not expired.
 #[derive(Clone, Copy)]
-pub enum Place {
-    At(u64),
-    Outside,
-}
-
-// Where a UTC correlation is accepted, the place of its reference in TAI, in the counter's own parts, and whether its day is not
-// expired.
-#[derive(Clone, Copy)]
-pub enum Base {
-    At(u64, bool),
-    Outside,
+pub struct Base {
+    pub at: u64,
+    pub current: bool,
 }
 
 // The places of time(-b) and time(a).
@@ -42,26 +36,17 @@ pub struct Reckoned {
     pub at: u64,
 }
 
-// The place of a time in the cover, or a refusal.
-#[derive(Clone, Copy)]
-pub enum Placed {
-    At(u64),
-    Refused(Refusal),
-}
-
 // ---- what both axes share
 
 // The place of a day and a microsecond of a scale, every day having 86,400 s.
-pub fn place_in(scale: Scale, day: i64, micro: u64) -> Place
+pub fn place_in(scale: Scale, day: i64, micro: u64) -> Option<u64>
     ensures { result ≡ place_in scale day micro }
 {
     if 86_400_000_000 <= micro {
-        return Place::Outside;
+        return None;
     }
-    match Record::new(scale, day, micro).to_time() {
-        Timed::At(_) => Place::At(axis::place_of_day(day) * 86_400_000_000 + micro),
-        Timed::Refused(_, _) => Place::Outside,
-    }
+    Record::new(scale, day, micro).to_time().ok()?;
+    Some(axis::place_of_day(day) * 86_400_000_000 + micro)
 }
 
 // The count is in the window.
@@ -69,20 +54,14 @@ pub fn in_window(half: u64, back: u64, ahead: u64, k: u64) -> bool
     requires { (back ≤ half) × (half + ahead < 2 ^ 64) }
     ensures { result ≡ window_at half back ahead k }
 {
-    if k < half - back {
-        return false;
-    }
-    k <= half + ahead
+    half - back <= k && k <= half + ahead
 }
 
 // The place w is in the cover.
 fn covers(v: Ends, w: u64) -> bool
     ensures { result ≡ within_at v w }
 {
-    if w < v.from {
-        return false;
-    }
-    w <= v.to
+    v.from <= w && w <= v.to
 }
 
 // The refusal of a handed time where the list or the correlation is not accepted: 4 stands before it.
@@ -90,82 +69,63 @@ pub fn unaccepted(h: Handed, f: Refusal) -> Refusal
     ensures { number_of result ≡ unaccepted_by h (number_of f) }
 {
     match handed::take(h) {
-        Taken::NotFinite(_) => Refusal::DecimalNotFinite,
-        Taken::Outside(_) => f,
-        Taken::At(_) => f,
+        Err(Untaken::NotFinite(_)) => Refusal::DecimalNotFinite,
+        _ => f,
     }
 }
 
 // ---- under a TAI or GPS correlation
 
 // The record of a place, or 11 outside its scale's span.
-fn record_at(scale: Scale, place: u64) -> Dated
+fn record_at(scale: Scale, place: u64) -> Result<Record, Refused>
     ensures { slip result ≡ result_at scale place }
 {
     let day = axis::day_at((place / 86_400_000_000) as u32);
     let r = Record::new(scale, day, place % 86_400_000_000);
     match r.to_time() {
-        Timed::At(_) => Dated::At(r),
-        Timed::Refused(_, _) => Dated::Refused(Refusal::ResultOutside, scale),
+        Ok(_) => Ok(r),
+        Err(_) => Err(Refusal::ResultOutside.of(scale)),
     }
 }
 
 // The date of a count under an accepted correlation.
-pub fn date(scale: Scale, k: Reckoned, receipt_day: i64, receipt_micro: u64) -> Dated
-    ensures { slip result ≡ dated scale (outcome (judging_own scale k.inside (cover_of k.ends) (micros_at k.at) receipt_day receipt_micro)) }
+pub fn date(scale: Scale, k: Reckoned, receipt: Receipt) -> Result<Record, Refused>
+    ensures { slip result ≡ dated scale (outcome (judging_own scale k.inside (cover_of k.ends) (micros_at k.at) receipt.day receipt.micro)) }
 {
-    let Place::At(w) = place_in(scale, receipt_day, receipt_micro) else {
-        return Dated::Refused(Refusal::OutsideSpan, scale);
+    let Some(w) = place_in(scale, receipt.day, receipt.micro) else {
+        return Err(Refusal::OutsideSpan.of(scale));
     };
-    if !k.inside {
-        return Dated::Refused(Refusal::NotInForce, scale);
-    }
-    let v = k.ends;
-    if !covers(v, w) {
-        return Dated::Refused(Refusal::NotInForce, scale);
+    if !k.inside || !covers(k.ends, w) {
+        return Err(Refusal::NotInForce.of(scale));
     }
     if w < k.at {
-        return Dated::Refused(Refusal::ResultLater, scale);
+        return Err(Refusal::ResultLater.of(scale));
     }
     record_at(scale, k.at)
 }
 
-fn count_of(t: Time) -> u64
-    ensures { result ≡ time_count t }
-{
-    match t {
-        Time::Tai(n) => n.0,
-        Time::Utc(n) => n.0,
-        Time::Gps(n) => n.0,
-    }
-}
-
 // The place of a time of its scale's span, in the cover of a correlation of a scale: its count is a place.
-fn turn_time(due: Scale, v: Ends, t: Time) -> Placed
+fn turn_time(due: Scale, v: Ends, t: Time) -> Result<u64, Refusal>
     requires spanned { Spanned (time_scale t) (time_count t) }
-    requires due_value { is_utc due ≡ false }
+    requires due_is_own { is_utc due ≡ false }
     ensures { landed result ≡ outcome (covering_own due (cover_of v) (Handed.Record (record_at (time_scale t) (time_count t)))) }
 {
-    if t.scale().code() != due.code() {
-        return Placed::Refused(Refusal::NoImage);
+    if t.scale() != due {
+        return Err(Refusal::NoImage);
     }
-    let w = count_of(t);
+    let w = t.count();
     if !covers(v, w) {
-        return Placed::Refused(Refusal::NotInForce);
+        return Err(Refusal::NotInForce);
     }
-    Placed::At(w)
+    Ok(w)
 }
 
 // The place of a handed time, in the cover of an accepted correlation of a scale.
-pub fn turn(due: Scale, v: Ends, h: Handed) -> Placed
+pub fn turn(due: Scale, v: Ends, h: Handed) -> Result<u64, Refusal>
     requires { is_utc due ≡ false }
     ensures { landed result ≡ outcome (covering_own due (cover_of v) h) }
 {
-    match handed::take(h) {
-        Taken::NotFinite(_) => Placed::Refused(Refusal::DecimalNotFinite),
-        Taken::Outside(_) => Placed::Refused(Refusal::OutsideSpan),
-        Taken::At(t) => turn_time(due, v, t),
-    }
+    turn_time(due, v, handed::take(h)?)
 }
 
 // ---- under a UTC correlation, by the list
@@ -178,107 +138,73 @@ pub fn is_current(day: u64, last: i64) -> bool
     day <= axis::place_of_day(last)
 }
 
-// Where the receipt has no TAI time: 9 of the result stands before 10 of the receipt.
-fn without_receipt(f: Refusal, place: u64, days: &[i64], offsets: &[u64], last: i64) -> Dated
-    requires { accepted days.now offsets.now last ≡ true }
-    ensures { slip result ≡ dated Scale.Utc (refused (lacking_at (number_of f) (micros_at place) days.now offsets.now last)) }
+// The refusal where the receipt has no TAI time: 9 of the result stands before 10 of the receipt.
+fn without_receipt(f: Refusal, place: u64, list: &Accepted) -> Refusal
+    ensures { number_of result ≡ lacking_at (number_of f) (micros_at place) list.now.days list.now.offsets list.now.last }
 {
-    if via_tai::inner::is_expired(Tai(place), days, offsets, last) {
-        return Dated::Refused(Refusal::ListExpired, Scale::Utc);
+    if via_tai::inner::is_expired(Tai(place), list) {
+        return Refusal::ListExpired;
     }
-    Dated::Refused(f, Scale::Utc)
+    f
 }
 
 // The date of a count under an accepted correlation; `current` says whether its reference is not expired.
-pub fn date_by_list(
-    k: Reckoned,
-    current: bool,
-    receipt_day: i64,
-    receipt_micro: u64,
-    days: &[i64],
-    offsets: &[u64],
-    last: i64,
-) -> Dated
-    requires le_at { 10000000 ≤ k.at }
-    requires last_value { accepted days.now offsets.now last ≡ true }
-    ensures { slip result ≡ dated Scale.Utc (outcome (judging Scale.Utc current k.inside (cover_of k.ends) (micros_at k.at) receipt_day receipt_micro days.now offsets.now last)) }
+pub fn date_by_list(k: Reckoned, current: bool, receipt: Receipt, list: &Accepted) -> Result<Utc, Refusal>
+    requires { 10000000 ≤ k.at }
+    ensures { slip_utc result ≡ dated Scale.Utc (outcome (judging Scale.Utc current k.inside (cover_of k.ends) (micros_at k.at) receipt.day receipt.micro list.now.days list.now.offsets list.now.last)) }
 {
-    let DatedUtc::At(t) = Utc::new(receipt_day, receipt_micro) else {
-        return Dated::Refused(Refusal::OutsideSpan, Scale::Utc);
-    };
+    let t = Utc::new(receipt.day, receipt.micro)?;
     if !k.inside {
-        return Dated::Refused(Refusal::NotInForce, Scale::Utc);
+        return Err(Refusal::NotInForce);
     }
     if !current {
-        return Dated::Refused(Refusal::ListExpired, Scale::Utc);
+        return Err(Refusal::ListExpired);
     }
-    match via_tai::inner::from_utc(t, days, offsets, last) {
-        DatedTai::At(w) => {
-            let v = k.ends;
-            if !covers(v, w.0) {
-                return Dated::Refused(Refusal::NotInForce, Scale::Utc);
+    match via_tai::inner::from_utc(t, list) {
+        Ok(w) => {
+            if !covers(k.ends, w.0) {
+                return Err(Refusal::NotInForce);
             }
             if w.0 < k.at {
-                return Dated::Refused(Refusal::ResultLater, Scale::Utc);
+                return Err(Refusal::ResultLater);
             }
             // The receipt is not expired, so that what is not later is not.
-            let z = Tai(k.at);
-            changes::inner::dated_utc(via_tai::inner::unexpired_to_utc(z, days, offsets, last))
+            via_tai::inner::unexpired_to_utc(Tai(k.at), list)
         }
-        DatedTai::Refused(f) => without_receipt(f, k.at, days, offsets, last),
+        Err(f) => Err(without_receipt(f, k.at, list)),
     }
 }
 
 // The TAI place of a UTC time of its span, in the cover of a correlation.
-fn turn_utc(v: Ends, t: Utc, days: &[i64], offsets: &[u64], last: i64) -> Placed
-    requires spanned { Spanned Scale.Utc t.0 }
-    requires last_value { accepted days.now offsets.now last ≡ true }
-    ensures { landed result ≡ outcome (covering Scale.Utc true (cover_of v) (Handed.Record (record_at Scale.Utc t.0)) days.now offsets.now last) }
+fn turn_utc(v: Ends, t: Utc, list: &Accepted) -> Result<u64, Refusal>
+    requires { Spanned Scale.Utc t.0 }
+    ensures { landed result ≡ outcome (covering Scale.Utc true (cover_of v) (Handed.Record (record_at Scale.Utc t.0)) list.now.days list.now.offsets list.now.last) }
 {
-    match via_tai::inner::from_utc(t, days, offsets, last) {
-        DatedTai::At(w) => {
-            if !covers(v, w.0) {
-                return Placed::Refused(Refusal::NotInForce);
-            }
-            Placed::At(w.0)
-        }
-        DatedTai::Refused(f) => Placed::Refused(f),
+    let w = via_tai::inner::from_utc(t, list)?;
+    if !covers(v, w.0) {
+        return Err(Refusal::NotInForce);
     }
+    Ok(w.0)
 }
 
 // The TAI place of a time of its scale's span, in the cover of a correlation whose reference is not expired.
-fn turn_to_tai(v: Ends, t: Time, days: &[i64], offsets: &[u64], last: i64) -> Placed
-    requires spanned { Spanned (time_scale t) (time_count t) }
-    requires last_value { accepted days.now offsets.now last ≡ true }
-    ensures { landed result ≡ outcome (covering Scale.Utc true (cover_of v) (Handed.Record (record_at (time_scale t) (time_count t))) days.now offsets.now last) }
+fn turn_to_tai(v: Ends, t: Time, list: &Accepted) -> Result<u64, Refusal>
+    requires { Spanned (time_scale t) (time_count t) }
+    ensures { landed result ≡ outcome (covering Scale.Utc true (cover_of v) (Handed.Record (record_at (time_scale t) (time_count t))) list.now.days list.now.offsets list.now.last) }
 {
     match t {
-        Time::Tai(_) => Placed::Refused(Refusal::NoImage),
-        Time::Utc(n) => turn_utc(v, n, days, offsets, last),
-        Time::Gps(_) => Placed::Refused(Refusal::NoImage),
+        Time::Utc(n) => turn_utc(v, n, list),
+        Time::Tai(_) | Time::Gps(_) => Err(Refusal::NoImage),
     }
 }
 
 // The TAI place of a handed time, in the cover of an accepted correlation; `current` says whether its reference is not expired.
-pub fn turn_by_list(
-    current: bool,
-    v: Ends,
-    h: Handed,
-    days: &[i64],
-    offsets: &[u64],
-    last: i64,
-) -> Placed
-    requires { accepted days.now offsets.now last ≡ true }
-    ensures { landed result ≡ outcome (covering Scale.Utc current (cover_of v) h days.now offsets.now last) }
+pub fn turn_by_list(current: bool, v: Ends, h: Handed, list: &Accepted) -> Result<u64, Refusal>
+    ensures { landed result ≡ outcome (covering Scale.Utc current (cover_of v) h list.now.days list.now.offsets list.now.last) }
 {
-    match handed::take(h) {
-        Taken::NotFinite(_) => Placed::Refused(Refusal::DecimalNotFinite),
-        Taken::Outside(_) => Placed::Refused(Refusal::OutsideSpan),
-        Taken::At(t) => {
-            if !current {
-                return Placed::Refused(Refusal::ListExpired);
-            }
-            turn_to_tai(v, t, days, offsets, last)
-        }
+    let t = handed::take(h)?;
+    if !current {
+        return Err(Refusal::ListExpired);
     }
+    turn_to_tai(v, t, list)
 }

@@ -3,3 +3,10 @@
 #![tactic(auto)]
 
 pub mod inner;
+
+// When a packet was received: a day and a microsecond of its correlation's scale.
+#[derive(Clone, Copy)]
+pub struct Receipt {
+    pub day: i64,
+    pub micro: u64,
+}

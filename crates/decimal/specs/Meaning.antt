@@ -1,13 +1,12 @@
 -- Decimal days: what is read of an f64 of days, and what is written of a handed time. Assumes nothing.
-use Rattle.std.specs.Prelude.{◌≡◌, ltb, ℤ, Float}
+use Rattle.std.specs.Prelude.{◌≡◌, ltb, ℤ, Float, Result}
 use Rattle.axis.specs.Meaning.{day_micros, Moment, since}
-use Rattle.scales.specs.Meaning.{Judged, given, gives, Outcome, refused, answer, outcome, Slip, dated, Valued, Reply, some, no, value_slip}
+use Rattle.scales.specs.Meaning.{Judged, given, gives, Outcome, refused, answer, outcome, Slip, dated, Valued, value_slip}
+use Rattle.scales.specs.declared.Refusal.{Refusal}
 use Rattle.scales.specs.declared.Scale.{Scale}
 use Rattle.double.specs.Meaning.{finite, exact_of, plus_zero, QuotientOf}
 use Rattle.handed.specs.Meaning.{spans, nearest_moment, is_finite, is_in_span, day_of, micro_of}
 use Rattle.handed.specs.declared.Handed.{Handed}
-use Rattle.decimal.specs.declared.Decimal.{Decimal}
-use Rattle.decimal.specs.declared.Decimal.TheVariants as D
 
 -- ---- read
 abbrev pub reading : Float → Scale → Judged Moment
@@ -32,17 +31,13 @@ abbrev pub DayOf : ℤ → Float → Type 0
 DayOf z x = QuotientOf z day_micros x
 
 -- ---- the number and the value of an answer: "Every refusal returns its number, .. or decimal plus zero"
-abbrev pub reply_decimal : Decimal → Reply Float
-reply_decimal (D.Day x) = some x
-reply_decimal (D.Refused f) = no f
-
-abbrev pub decimal_slip : Decimal → Valued Float
-decimal_slip r = value_slip plus_zero (reply_decimal r)
+abbrev pub decimal_slip : Result Float Refusal → Valued Float
+decimal_slip r = value_slip plus_zero r
 
 -- what is handed back of an outcome: a refusal's number with plus zero, or 0 with the decimal day
 abbrev pub Allowed : Outcome ℤ → Valued Float → Type 0
 Allowed (refused n) w = (w.number ≡ n) × (w.value ≡ plus_zero)
 Allowed (answer z) w = (w.number ≡ 0) × DayOf z w.value
 
-abbrev pub WroteDay : Handed → Decimal → Type 0
+abbrev pub WroteDay : Handed → Result Float Refusal → Type 0
 WroteDay h r = Allowed (outcome (writing h)) (decimal_slip r)

@@ -1,9 +1,9 @@
 -- What the private functions answer: what is written of a time that was taken apart. Assumes nothing.
-use Rattle.std.specs.Prelude.{ℕ, ◌/◌, ◌%◌, ℤ, ltb}
+use Rattle.std.specs.Prelude.{ℕ, ◌/◌, ◌%◌, ℤ, ltb, Float, Result}
 use Rattle.axis.specs.Meaning.{day_at, day_micros, since}
 use Rattle.scales.specs.Meaning.{Judged, given, gives, outcome}
 use Rattle.decimal.specs.Meaning.{decimal_slip, Allowed}
-use Rattle.decimal.specs.declared.Decimal.{Decimal}
+use Rattle.scales.specs.declared.Refusal.{Refusal}
 
 -- what is written of a day and a microsecond in the span
 abbrev pub imaging : ℤ → ℕ → Judged ℤ
@@ -12,5 +12,5 @@ imaging d u =
     (gives (since d u))
 
 -- the same of a count that holds b microseconds a day
-abbrev pub Imaged : ℕ → ℕ → Decimal → Type 0
+abbrev pub Imaged : ℕ → ℕ → Result Float Refusal → Type 0
 Imaged b n r = Allowed (outcome (imaging (day_at (n / b)) (n % b))) (decimal_slip r)

@@ -7,25 +7,14 @@ ghost use Rattle.scales.specs.Meaning.{slip, bound, time_scale, time_count};
 ghost use Rattle.decimal.specs.Meaning.{DayOf, read_of, WroteDay};
 ghost use Rattle.decimal.specs.Parts.{Imaged};
 
-use handed::{Handed, Taken};
-use scales::{Dated, Gps, Refusal, Scale, Tai, Time, Utc};
-
-// A decimal day as it is written, or a refusal.
-#[derive(Clone, Copy)]
-pub enum Decimal {
-    Day(f64),
-    Refused(Refusal),
-}
+use handed::Handed;
+use scales::{Gps, Record, Refusal, Refused, Scale, Tai, Time, Utc};
 
 // The record that a decimal day stands for.
-pub fn read(day: f64, scale: Scale) -> Dated
+pub fn read(day: f64, scale: Scale) -> Result<Record, Refused>
     ensures { slip result ≡ read_of day scale }
 {
-    match handed::inner::take_decimal(day, scale) {
-        Taken::NotFinite(s) => Dated::Refused(Refusal::DecimalNotFinite, s),
-        Taken::Outside(s) => Dated::Refused(Refusal::OutsideSpan, s),
-        Taken::At(t) => Dated::At(t.to_record()),
-    }
+    Ok(handed::inner::take_decimal(day, scale)?.to_record())
 }
 
 // ---- writing
@@ -42,18 +31,18 @@ fn day_of(n: u64) -> f64
 }
 
 // The same of a count that holds `bound` microseconds a day; second 60 has no decimal day.
-fn write_count(bound: u64, count: u64) -> Decimal
+fn write_count(bound: u64, count: u64) -> Result<f64, Refusal>
     requires { (0 < bound) × (count / bound < 100000) }
     ensures { Imaged bound count result }
 {
     let micro = count % bound;
     if 86_400_000_000 <= micro {
-        return Decimal::Refused(Refusal::NoImage);
+        return Err(Refusal::NoImage);
     }
-    Decimal::Day(day_of(count / bound * 86_400_000_000 + micro))
+    Ok(day_of(count / bound * 86_400_000_000 + micro))
 }
 
-fn write_time(t: Time) -> Decimal
+fn write_time(t: Time) -> Result<f64, Refusal>
     requires { time_count t / bound (time_scale t) < 100000 }
     ensures { Imaged (bound (time_scale t)) (time_count t) result }
 {
@@ -65,12 +54,8 @@ fn write_time(t: Time) -> Decimal
 }
 
 // The decimal day of a handed time.
-pub fn write(h: Handed) -> Decimal
+pub fn write(h: Handed) -> Result<f64, Refusal>
     ensures { WroteDay h result }
 {
-    match handed::take(h) {
-        Taken::NotFinite(_) => Decimal::Refused(Refusal::DecimalNotFinite),
-        Taken::Outside(_) => Decimal::Refused(Refusal::OutsideSpan),
-        Taken::At(t) => write_time(t),
-    }
+    write_time(handed::take(h)?)
 }

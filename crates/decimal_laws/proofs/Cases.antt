@@ -4,6 +4,7 @@ use mathlib.Core.Path.{◌≡◌, refl}
 use mathlib.Core.Logic.{inl}
 use mathlib.Core.Bool.{true, false}
 use mathlib.Core.List.{List, [], ◌∷◌}
+use Rattle.std.specs.Prelude.{Result, Ok, Err}
 use Prim.Native.Nat.{ℕ, ◌*◌, ◌^◌, ◌≤◌}
 use lib.Dec.{lit<, lit≤}
 use lib.IntN.{ℤ, pos, negsuc}
@@ -15,13 +16,14 @@ use Rattle.scales.specs.declared.Scale.{Scale}
 use Rattle.scales.specs.declared.Scale.TheVariants as S
 use Rattle.scales.specs.declared.Refusal.TheVariants as R
 use Rattle.scales.specs.declared.Mark.TheVariants as M
-use Rattle.scales.specs.declared.Dated.TheVariants as A
 use Rattle.double.specs.Meaning.{exact_of, plus_zero}
+use Rattle.scales.specs.declared.Refusal.{Refusal}
+use Rattle.scales.specs.declared.Time.{Time}
+use Rattle.handed.specs.declared.Untaken.{Untaken}
 use Rattle.handed.specs.declared.Handed.TheVariants as H
 use Rattle.decimal.specs.Meaning.{read_of, WroteDay}
 use Rattle.handed.specs.Told.{took_one, told_nothing, told_outside, told_at, handed_placed}
-use Rattle.decimal.specs.declared.Decimal.TheVariants as D
-use Rattle.handed.specs.declared.Taken.TheVariants as K
+use Rattle.handed.specs.declared.Untaken.TheVariants as K
 use Rattle.handed.specs.Meaning.{is_finite, is_in_span, taken_of, Took}
 use Rattle.decimal_laws.specs.Meaning.{off, less}
 use Rattle.decimal_laws.proofs.Unique.{wrote_one}
@@ -86,7 +88,7 @@ pub one_bits : of_bits binary64 0x3da9_739f_dcab_50dc ≡ one
 unfolding of_bits
 one_bits = refl
 
-pub half_written : WroteDay (H.Record (record_of S.Tai (negsuc 0) 43200000000)) (D.Day half)
+pub half_written : WroteDay (H.Record (record_of S.Tai (negsuc 0) 43200000000)) (Ok half)
 unfolding fits
 half_written = (
   refl,
@@ -102,7 +104,7 @@ half_written = (
   },
 )
 
-pub one_written : WroteDay (H.Record (record_of S.Tai (pos 0) 1)) (D.Day one)
+pub one_written : WroteDay (H.Record (record_of S.Tai (pos 0) 1)) (Ok one)
 unfolding fits
 one_written = (
   refl,
@@ -118,63 +120,63 @@ one_written = (
   },
 )
 
-pub zero_written : WroteDay (H.Record (record_of S.Gps (pos 0) 0)) (D.Day plus_zero)
+pub zero_written : WroteDay (H.Record (record_of S.Gps (pos 0) 0)) (Ok plus_zero)
 zero_written = (refl, refl)
 
 -- a decimal day is written anew from its microsecond: 2 ^ -40 days are less than half a microsecond
-pub decimal_written : WroteDay (H.Decimal (fin false 1 (negsuc 39)) S.Tai) (D.Day plus_zero)
+pub decimal_written : WroteDay (H.Decimal (fin false 1 (negsuc 39)) S.Tai) (Ok plus_zero)
 decimal_written = (refl, refl)
 
 -- 4 before 7 before 12, and with each the number's plus zero
-pub infinite_unwritten : WroteDay (H.Decimal (of_bits binary64 0x7ff0_0000_0000_0000) S.Utc) (D.Refused R.DecimalNotFinite)
+pub infinite_unwritten : WroteDay (H.Decimal (of_bits binary64 0x7ff0_0000_0000_0000) S.Utc) (Err R.DecimalNotFinite)
 unfolding of_bits
 infinite_unwritten = (refl, refl)
 
-pub outside_unwritten : WroteDay (H.Record (record_of S.Utc (pos 36525) 86400000000)) (D.Refused R.OutsideSpan)
+pub outside_unwritten : WroteDay (H.Record (record_of S.Utc (pos 36525) 86400000000)) (Err R.OutsideSpan)
 outside_unwritten = (refl, refl)
 
-pub sixty_unwritten : WroteDay (H.Record (record_of S.Utc (pos 6209) 86400000000)) (D.Refused R.NoImage)
+pub sixty_unwritten : WroteDay (H.Record (record_of S.Utc (pos 6209) 86400000000)) (Err R.NoImage)
 sixty_unwritten = (refl, refl)
 
 -- ---- the theorems at these inputs
-pub one_answer : D.Day half ≡ D.Day half
-one_answer = wrote_one (H.Record (record_of S.Tai (negsuc 0) 43200000000)) (D.Day half) (D.Day half) half_written half_written
+pub one_answer : ◌≡◌ {A = Result Float Refusal} (Ok half) (Ok half)
+one_answer = wrote_one (H.Record (record_of S.Tai (negsuc 0) 43200000000)) (Ok half) (Ok half) half_written half_written
 
 -- the next double is further from a microsecond
 pub none_nearer : off (pos 1) day_micros (exact_of one) * 2 ^ 89 ≤ off (pos 1) day_micros (exact_of (fin false 7164004856975581 (negsuc 88))) * 2 ^ 87
 unfolding fits
 none_nearer = no_nearer (pos 1) one (fin false 7164004856975581 (negsuc 88)) one_written.1 tt refl
 
-pub half_trip : read_of half S.Tai ≡ slip (A.At (record_of S.Tai (negsuc 0) 43200000000))
+pub half_trip : read_of half S.Tai ≡ slip (Ok (record_of S.Tai (negsuc 0) 43200000000))
 half_trip = trip (marked_record (M.Correlated 9) (record_of S.Tai (negsuc 0) 43200000000)) half half_written
 
 pub half_less : less (exact_of half) (exact_of one) ≡ true
 half_less = later S.Tai (negsuc 0) (pos 0) 43200000000 1 half one half_written one_written (inl refl)
 
 -- ---- taken apart, and the theorems at these inputs
-pub half_taken : Took (H.Decimal half S.Tai) (K.At (time_at S.Tai 3455956800000000))
+pub half_taken : Took (H.Decimal half S.Tai) (Ok (time_at S.Tai 3455956800000000))
 unfolding taken_of
 half_taken = record { is = refl; kept = refl }
 
-pub first_unreached : Took (H.Record (record_of S.Gps (negsuc 7300) 0)) (K.Outside S.Gps)
+pub first_unreached : Took (H.Record (record_of S.Gps (negsuc 7300) 0)) (Err (K.Outside S.Gps))
 unfolding taken_of
 first_unreached = record { is = refl; kept = lit≤ tt }
 
-pub infinite_taken : Took (H.Decimal (of_bits binary64 0x7ff0_0000_0000_0000) S.Utc) (K.NotFinite S.Utc)
+pub infinite_taken : Took (H.Decimal (of_bits binary64 0x7ff0_0000_0000_0000) S.Utc) (Err (K.NotFinite S.Utc))
 unfolding taken_of of_bits
 infinite_taken = record { is = refl; kept = lit≤ tt }
 
-pub one_taking : K.At (time_at S.Tai 3455956800000000) ≡ K.At (time_at S.Tai 3455956800000000)
+pub one_taking : ◌≡◌ {A = Result Time Untaken} (Ok (time_at S.Tai 3455956800000000)) (Ok (time_at S.Tai 3455956800000000))
 one_taking =
-    took_one (H.Decimal half S.Tai) (K.At (time_at S.Tai 3455956800000000)) (K.At (time_at S.Tai 3455956800000000)) half_taken half_taken
+    took_one (H.Decimal half S.Tai) (Ok (time_at S.Tai 3455956800000000)) (Ok (time_at S.Tai 3455956800000000)) half_taken half_taken
 
 pub half_placed : Placed S.Tai (negsuc 0) 43200000000
 half_placed =
     handed_placed (H.Decimal half S.Tai) (time_at S.Tai 3455956800000000)
-    (told_at (H.Decimal half S.Tai) (K.At (time_at S.Tai 3455956800000000)) half_taken (time_at S.Tai 3455956800000000) refl)
+    (told_at (H.Decimal half S.Tai) (Ok (time_at S.Tai 3455956800000000)) half_taken (time_at S.Tai 3455956800000000) refl)
 
 pub first_told : is_in_span (H.Record (record_of S.Gps (negsuc 7300) 0)) ≡ false
-first_told = (told_outside (H.Record (record_of S.Gps (negsuc 7300) 0)) (K.Outside S.Gps) first_unreached S.Gps refl).1
+first_told = (told_outside (H.Record (record_of S.Gps (negsuc 7300) 0)) (Err (K.Outside S.Gps)) first_unreached S.Gps refl).1
 
 pub infinite_told : is_finite (H.Decimal (of_bits binary64 0x7ff0_0000_0000_0000) S.Utc) ≡ false
-infinite_told = (told_nothing (H.Decimal (of_bits binary64 0x7ff0_0000_0000_0000) S.Utc) (K.NotFinite S.Utc) infinite_taken S.Utc refl).0
+infinite_told = (told_nothing (H.Decimal (of_bits binary64 0x7ff0_0000_0000_0000) S.Utc) (Err (K.NotFinite S.Utc)) infinite_taken S.Utc refl).0

@@ -3,6 +3,7 @@
 use mathlib.Core.Path.{◌≡◌, refl, sym, ap, ap₂, subst, ◌∙◌}
 use mathlib.Core.Logic.{◌⊎◌, inl, inr}
 use mathlib.Core.Bool.{Bool, true, false, cond}
+use Rattle.std.specs.Prelude.{Ok}
 use Prim.Native.Nat.{ℕ, zero, suc, ◌+◌, ◌-◌, ◌*◌, ◌/◌, ◌^◌, ◌≤◌, ◌<◌}
 use native.Mathlib.Nat.{eq-or-lt_of_le, mul-le-mul_right, mul-lt-mul_of_pos_right, div-eq_of_lt-le, add-mul-div_right}
 use native.Mathlib.Omega.{arith}
@@ -25,7 +26,6 @@ use Rattle.handed.specs.declared.Handed.TheVariants as H
 use Rattle.decimal.specs.Meaning.{read_of, DayOf, decimal_slip, Allowed, WroteDay}
 use Rattle.handed.specs.Signs.{double_pos}
 use Rattle.handed.specs.Meaning.{spans, micros_of, nearest_moment}
-use Rattle.decimal.specs.declared.Decimal.TheVariants as D
 use Rattle.decimal_laws.specs.Meaning.{off, less, Sooner}
 use Rattle.decimal_laws.proofs.Distance.{off_sub, close}
 use Rattle.decimal_laws.proofs.Nearer.{exact_day}
@@ -135,11 +135,11 @@ record Placing (s : Scale) (d : ℤ) (u : ℕ) (x : Float) : Type 0 where
 abbrev place_at : ℤ → ℕ → ℕ
 place_at d u = place_of_day d * day_micros + u
 
-placing : (s : Scale) (d : ℤ) (u : ℕ) (x : Float) → WroteDay (H.Record (record_of s d u)) (D.Day x) → Placing s d u x
+placing : (s : Scale) (d : ℤ) (u : ℕ) (x : Float) → WroteDay (H.Record (record_of s d u)) (Ok x) → Placing s d u x
 placing s d u x w = go (in_span s d u) refl (ltb u day_micros) refl w
   where
     go : (i : Bool) → in_span s d u ≡ i → (j : Bool) → ltb u day_micros ≡ j →
-        Allowed (cond i (cond j (answer (since d u)) (refused 12)) (refused 7)) (decimal_slip (D.Day x)) → Placing s d u x
+        Allowed (cond i (cond j (answer (since d u)) (refused 12)) (refused 7)) (decimal_slip (Ok x)) → Placing s d u x
     go false e j f a = absurd (let z : ◌≡◌ {A = ℕ} 0 7 = a.0 in omega arith)
     go true e false f a = absurd (let z : ◌≡◌ {A = ℕ} 0 12 = a.0 in omega arith)
     go true e true f a =
@@ -179,7 +179,7 @@ module _ (s : Scale) (d : ℤ) (u : ℕ) (x : Float) (w : Placing s d u x) where
   trip_by = rw (ends (micros_at (place_at d u)) x w.day, spans_here) (ap (λ (m : Moment). dated s (answer m)) moment)
 
 -- Record to double to record is the same time, and plain.
-pub trip : (r : Record) (x : Float) → WroteDay (H.Record r) (D.Day x) → read_of x r.scale ≡ dated r.scale (answer (record_moment r))
+pub trip : (r : Record) (x : Float) → WroteDay (H.Record r) (Ok x) → read_of x r.scale ≡ dated r.scale (answer (record_moment r))
 trip r x w = trip_by r.scale r.day r.micro x (placing r.scale r.day r.micro x w)
 
 -- ---- the order
@@ -208,7 +208,7 @@ sooner_at d u e w i j l (inr t) = let k = ap place_of_day t.0 in let h = t.1 in 
 
 -- Of two records of one scale the later gives the larger double.
 pub later : (s : Scale) (d e : ℤ) (u w : ℕ) (x y : Float) →
-    WroteDay (H.Record (record_of s d u)) (D.Day x) → WroteDay (H.Record (record_of s e w)) (D.Day y) → Sooner d u e w → less (exact_of x) (exact_of y) ≡ true
+    WroteDay (H.Record (record_of s d u)) (Ok x) → WroteDay (H.Record (record_of s e w)) (Ok y) → Sooner d u e w → less (exact_of x) (exact_of y) ≡ true
 later s d e u w x y p q h =
     let i = placing s d u x p in
     let j = placing s e w y q in

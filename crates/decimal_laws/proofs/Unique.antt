@@ -1,7 +1,8 @@
 -- Any two answers that the contract of `write` allows are equal: the relation of a quotient and its nearest double allows one double.
 -- Assumes nothing.
-use mathlib.Core.Path.{◌≡◌, refl, sym, ap, ◌∙◌, subst}
+use mathlib.Core.Path.{◌≡◌, sym, ap, ◌∙◌, subst}
 use mathlib.Core.Bool.{Bool, true, false, cond}
+use Rattle.std.specs.Prelude.{Result}
 use Prim.Native.Nat.{ℕ, zero, suc, ◌+◌, ◌-◌, ◌*◌, ◌/◌, ◌%◌, ◌^◌, ◌≤◌, ◌<◌}
 use native.Mathlib.Nat.{lt_irrefl, lt_of_lt_of_le, le_antisymm, lt_of_not-le, le_of_suc-le-suc, mul-pos, mul-le-mul_right, lt_of_mul-lt-mul_right, le_of_mul-le-mul_right, mul-div_cancel, pow-succ'}
 use native.Mathlib.Omega.{arith}
@@ -13,12 +14,11 @@ use lib.Ieee.Fits.{down_pos}
 use lib.Ieee.Exact.{HasValue}
 use lib.Ieee.Bits.{of_bits-to_bits}
 use Rattle.axis.specs.Meaning.{day_micros}
-use Rattle.scales.specs.Meaning.{Outcome, refused, answer, outcome, Valued, Reply, some, no, value_slip}
-use Rattle.scales.specs.Same.{same_made, same_reply}
+use Rattle.scales.specs.Meaning.{Outcome, refused, answer, outcome, Valued}
+use Rattle.scales.specs.Same.{same_reply}
+use Rattle.scales.specs.declared.Refusal.{Refusal}
 use Rattle.handed.specs.declared.Handed.{Handed}
-use Rattle.decimal.specs.Meaning.{reply_decimal, decimal_slip, Allowed, writing, WroteDay}
-use Rattle.decimal.specs.declared.Decimal.{Decimal}
-use Rattle.decimal.specs.declared.Decimal.TheVariants as D
+use Rattle.decimal.specs.Meaning.{decimal_slip, Allowed, writing, WroteDay}
 use Rattle.double.proofs.Exact.{has}
 use Rattle.double.specs.Meaning.{apart, Holds, Nearest, plus_zero, QuotientOf}
 
@@ -91,17 +91,6 @@ quotient_one (pos (suc n)) d x y D a b = nearest_one false (suc n) d x y D a b
 quotient_one (negsuc n) d x y D a b = nearest_one true (suc n) d x y D a b
 
 -- ---- the answers
-same_day_lem : (a b : Decimal) → decimal_slip a ≡ decimal_slip b → a ≡ b
-same_day_lem = same_made (value_slip plus_zero) (same_reply plus_zero) reply_decimal make back
-  where
-    make : Reply Float → Decimal
-    make (some x) = D.Day x
-    make (no f) = D.Refused f
-
-    back : (a : Decimal) → make (reply_decimal a) ≡ a
-    back (D.Day x) = refl
-    back (D.Refused f) = refl
-
 pub allowed_one : (o : Outcome ℤ) (v w : Valued Float) → Allowed o v → Allowed o w → v ≡ w
 allowed_one (refused n) v w a b =
     let p = a.0 ∙ sym b.0 in
@@ -112,5 +101,5 @@ allowed_one (answer z) v w a b =
     let q = quotient_one z day_micros v.value w.value (lit< tt) a.1 b.1 in
     λ i. record { number = p i; value = q i }
 
-pub wrote_one : (h : Handed) (a b : Decimal) → WroteDay h a → WroteDay h b → a ≡ b
-wrote_one h a b p q = same_day_lem a b (allowed_one (outcome (writing h)) (decimal_slip a) (decimal_slip b) p q)
+pub wrote_one : (h : Handed) (a b : Result Float Refusal) → WroteDay h a → WroteDay h b → a ≡ b
+wrote_one h a b p q = same_reply plus_zero a b (allowed_one (outcome (writing h)) (decimal_slip a) (decimal_slip b) p q)

@@ -1,6 +1,7 @@
 -- Wrong programs for decimal days, each shut out by an input at which its answer is not the meaning's. Assumes nothing.
 use mathlib.Core.Path.{◌≡◌, refl}
 use mathlib.Core.Bool.{Bool, true, false, cond}
+use Rattle.std.specs.Prelude.{Result, Ok, Err}
 use Prim.Native.Nat.{ℕ, ◌+◌, ◌*◌, ◌/◌}
 use native.Mathlib.Omega.{arith}
 use lib.Dec.{lit<, lit≤}
@@ -16,13 +17,13 @@ use Rattle.scales.specs.declared.Refusal.TheVariants as R
 use Rattle.scales.specs.declared.Mark.{Mark}
 use Rattle.scales.specs.declared.Mark.TheVariants as M
 use Rattle.double.specs.Meaning.{Exact, exact_of, over, under, signed_over, signed, finite, nearest, plus_zero}
+use Rattle.scales.specs.declared.Refusal.{Refusal}
+use Rattle.scales.specs.declared.Time.{Time}
 use Rattle.handed.specs.declared.Handed.{Handed}
 use Rattle.handed.specs.declared.Handed.TheVariants as H
 use Rattle.decimal.specs.Meaning.{read_of, decimal_slip, WroteDay}
-use Rattle.decimal.specs.declared.Decimal.{Decimal}
-use Rattle.decimal.specs.declared.Decimal.TheVariants as D
-use Rattle.handed.specs.declared.Taken.{Taken}
-use Rattle.handed.specs.declared.Taken.TheVariants as K
+use Rattle.handed.specs.declared.Untaken.{Untaken}
+use Rattle.handed.specs.declared.Untaken.TheVariants as K
 use Rattle.handed.specs.Meaning.{spans, micros_of, scale_of, mark_of, is_finite, day_of, micro_of, taken_of, Took}
 use Rattle.decimal_laws.proofs.Unique.{wrote_one}
 use Rattle.ground_laws.proofs.Desks.{answered, empty, mark_number, by_number, by_micro}
@@ -83,43 +84,43 @@ unfolding read_of
 read_seven = (refl, refl, by_number (λ e. omega arith))
 
 -- ---- take: its contract is a relation, which allows a; the wrong program answers b, which it does not
-abbrev ShutTake : Handed → Taken → Taken → Taken → Type 0
+abbrev ShutTake : Handed → Result Time Untaken → Result Time Untaken → Result Time Untaken → Type 0
 ShutTake h a wrong b = Took h a × (wrong ≡ b) × (Took h b → ⊥)
 
-abbrev kind_of : Taken → ℕ
-kind_of (K.NotFinite s) = 0
-kind_of (K.Outside s) = 1
-kind_of (K.At t) = 2 + time_count t
+abbrev kind_of : Result Time Untaken → ℕ
+kind_of (Err (K.NotFinite s)) = 0
+kind_of (Err (K.Outside s)) = 1
+kind_of (Ok t) = 2 + time_count t
 
 -- what is not finite taken as outside its span
-abbrev merged : Handed → Taken
-merged h = cond (is_finite h) (taken_of h) (K.Outside (scale_of h))
+abbrev merged : Handed → Result Time Untaken
+merged h = cond (is_finite h) (taken_of h) (Err (K.Outside (scale_of h)))
 
-pub take_merged : ShutTake (H.Decimal nan S.Utc) (K.NotFinite S.Utc) (merged (H.Decimal nan S.Utc)) (K.Outside S.Utc)
+pub take_merged : ShutTake (H.Decimal nan S.Utc) (Err (K.NotFinite S.Utc)) (merged (H.Decimal nan S.Utc)) (Err (K.Outside S.Utc))
 unfolding taken_of
 take_merged = (record { is = refl; kept = lit≤ tt }, refl, λ w. differ kind_of (λ e. omega arith) w.is)
 
 -- UTC counted with 86,400 s a day
-abbrev even_days : Handed → Taken
-even_days h = K.At (time_at (scale_of h) (place_of_day (day_of h) * day_micros + micro_of h))
+abbrev even_days : Handed → Result Time Untaken
+even_days h = Ok (time_at (scale_of h) (place_of_day (day_of h) * day_micros + micro_of h))
 
 pub take_even_days :
-    ShutTake (H.Record (record_of S.Utc (pos 0) 0)) (K.At (time_at S.Utc 3456040000000000)) (even_days (H.Record (record_of S.Utc (pos 0) 0))) (K.At (time_at S.Utc 3456000000000000))
+    ShutTake (H.Record (record_of S.Utc (pos 0) 0)) (Ok (time_at S.Utc 3456040000000000)) (even_days (H.Record (record_of S.Utc (pos 0) 0))) (Ok (time_at S.Utc 3456000000000000))
 unfolding taken_of
 take_even_days = (record { is = refl; kept = refl }, refl, λ w. differ kind_of (λ e. omega arith) w.is)
 
 -- ---- write: in the same way; it allows one answer alone (`wrote_one`)
-abbrev ShutWrite : Handed → Decimal → Decimal → Decimal → Type 0
+abbrev ShutWrite : Handed → Result Float Refusal → Result Float Refusal → Result Float Refusal → Type 0
 ShutWrite h a wrong b = WroteDay h a × (wrong ≡ b) × (WroteDay h b → ⊥)
 
-forbidden : (h : Handed) (a b : Decimal) → WroteDay h a → (a ≡ b → ⊥) → WroteDay h b → ⊥
+forbidden : (h : Handed) (a b : Result Float Refusal) → WroteDay h a → (a ≡ b → ⊥) → WroteDay h b → ⊥
 forbidden h a b p d w = d (wrote_one h a b p w)
 
-by_day_number : {x y : Decimal} → ((decimal_slip x).number ≡ (decimal_slip y).number → ⊥) → x ≡ y → ⊥
-by_day_number d e = differ (λ (t : Decimal). (decimal_slip t).number) d e
+by_day_number : {x y : Result Float Refusal} → ((decimal_slip x).number ≡ (decimal_slip y).number → ⊥) → x ≡ y → ⊥
+by_day_number d e = differ (λ (t : Result Float Refusal). (decimal_slip t).number) d e
 
-by_significand : {x y : Decimal} → ((exact_of (decimal_slip x).value).significand ≡ (exact_of (decimal_slip y).value).significand → ⊥) → x ≡ y → ⊥
-by_significand d e = differ (λ (t : Decimal). (exact_of (decimal_slip t).value).significand) d e
+by_significand : {x y : Result Float Refusal} → ((exact_of (decimal_slip x).value).significand ≡ (exact_of (decimal_slip y).value).significand → ⊥) → x ≡ y → ⊥
+by_significand d e = differ (λ (t : Result Float Refusal). (exact_of (decimal_slip t).value).significand) d e
 
 abbrev micros5 : Handed
 micros5 = H.Record (record_of S.Tai (pos 0) 5)
@@ -127,7 +128,7 @@ micros5 = H.Record (record_of S.Tai (pos 0) 5)
 abbrev days5 : Float
 days5 = fin false 8955006071219475 (negsuc 86)
 
-days5_written : WroteDay micros5 (D.Day days5)
+days5_written : WroteDay micros5 (Ok days5)
 unfolding fits
 days5_written = (
   refl,
@@ -148,50 +149,50 @@ abbrev over64 : Handed → ℕ → Float
 over64 h d = div binary64 (of_int binary64 (since (day_of h) (micro_of h))) (of_int binary64 (pos d))
 
 -- another divisor
-abbrev utc_days : Handed → Decimal
-utc_days h = D.Day (over64 h 86401000000)
+abbrev utc_days : Handed → Result Float Refusal
+utc_days h = Ok (over64 h 86401000000)
 
-pub write_other_divisor : ShutWrite micros5 (D.Day days5) (utc_days micros5) (D.Day (fin false 8954902426515465 (negsuc 86)))
+pub write_other_divisor : ShutWrite micros5 (Ok days5) (utc_days micros5) (Ok (fin false 8954902426515465 (negsuc 86)))
 unfolding div of_int
 write_other_divisor =
-    (days5_written, refl, forbidden micros5 (D.Day days5) (D.Day (fin false 8954902426515465 (negsuc 86))) days5_written (by_significand (λ e. omega arith)))
+    (days5_written, refl, forbidden micros5 (Ok days5) (Ok (fin false 8954902426515465 (negsuc 86))) days5_written (by_significand (λ e. omega arith)))
 
 -- a quotient rounded twice: to seconds, then to days
-abbrev twice : Handed → Decimal
-twice h = D.Day (div binary64 (over64 h 1000000) (of_int binary64 (pos 86400)))
+abbrev twice : Handed → Result Float Refusal
+twice h = Ok (div binary64 (over64 h 1000000) (of_int binary64 (pos 86400)))
 
-pub write_rounded_twice : ShutWrite micros5 (D.Day days5) (twice micros5) (D.Day (fin false 2238751517804869 (negsuc 84)))
+pub write_rounded_twice : ShutWrite micros5 (Ok days5) (twice micros5) (Ok (fin false 2238751517804869 (negsuc 84)))
 unfolding div of_int
 write_rounded_twice =
-    (days5_written, refl, forbidden micros5 (D.Day days5) (D.Day (fin false 2238751517804869 (negsuc 84))) days5_written (by_significand (λ e. omega arith)))
+    (days5_written, refl, forbidden micros5 (Ok days5) (Ok (fin false 2238751517804869 (negsuc 84))) days5_written (by_significand (λ e. omega arith)))
 
 -- zero with a minus sign: the count before day 0 is negated
-abbrev negated : Handed → Decimal
-negated h = D.Day (div binary64 (neg (of_int binary64 (neg_ℤ (since (day_of h) (micro_of h))))) (of_int binary64 (pos day_micros)))
+abbrev negated : Handed → Result Float Refusal
+negated h = Ok (div binary64 (neg (of_int binary64 (neg_ℤ (since (day_of h) (micro_of h))))) (of_int binary64 (pos day_micros)))
 
 abbrev zero : Handed
 zero = H.Record (record_of S.Tai (pos 0) 0)
 
-pub write_minus_zero : ShutWrite zero (D.Day plus_zero) (negated zero) (D.Day (fin true 0 (pos 0)))
+pub write_minus_zero : ShutWrite zero (Ok plus_zero) (negated zero) (Ok (fin true 0 (pos 0)))
 unfolding div of_int neg
 write_minus_zero = (
   (refl, refl),
   refl,
-  forbidden zero (D.Day plus_zero) (D.Day (fin true 0 (pos 0))) (refl, refl)
-      (differ (λ (t : Decimal). cond (exact_of (decimal_slip t).value).minus 1 0) (λ e. omega arith)),
+  forbidden zero (Ok plus_zero) (Ok (fin true 0 (pos 0))) (refl, refl)
+      (differ (λ (t : Result Float Refusal). cond (exact_of (decimal_slip t).value).minus 1 0) (λ e. omega arith)),
 )
 
 -- second 60 written as the next day's first
-abbrev carried : Handed → Decimal
-carried h = D.Day (over64 h day_micros)
+abbrev carried : Handed → Result Float Refusal
+carried h = Ok (over64 h day_micros)
 
 abbrev sixty : Handed
 sixty = H.Record (record_of S.Utc (pos 6209) 86400000000)
 
-pub write_carried : ShutWrite sixty (D.Refused R.NoImage) (carried sixty) (D.Day (fin false 3105 (pos 1)))
+pub write_carried : ShutWrite sixty (Err R.NoImage) (carried sixty) (Ok (fin false 3105 (pos 1)))
 unfolding div of_int
 write_carried =
-    ((refl, refl), refl, forbidden sixty (D.Refused R.NoImage) (D.Day (fin false 3105 (pos 1))) (refl, refl) (by_day_number (λ e. omega arith)))
+    ((refl, refl), refl, forbidden sixty (Err R.NoImage) (Ok (fin false 3105 (pos 1))) (refl, refl) (by_day_number (λ e. omega arith)))
 
 -- ---- Handed::mark
 -- every handed time plain

@@ -1,5 +1,5 @@
 -- The tests of acceptance, on the places, and what they tell together. Assumes nothing.
-use Rattle.std.specs.Prelude.{◌≡◌, true, false, ◌&&◌, List, ℕ, ◌+◌, ◌*◌, ◌≤◌, ◌<◌, leb, ltb, ℤ, pos, ◌+ℤ◌, ◌*ℤ◌}
+use Rattle.std.specs.Prelude.{◌≡◌, true, false, ◌&&◌, List, ℕ, ◌+◌, ◌*◌, ◌≤◌, ◌<◌, leb, ltb, ℤ, pos, ◌+ℤ◌, ◌*ℤ◌, Some, None}
 use Rattle.std.proofs.Common.{sym, ap, ap₂, ◌∙◌, arith, lit<, lit≤}
 use Rattle.std.specs.Int.Signed.{le_z, lt_z}
 use borrow.Author.Tests.{leb-true, ltb-true, le-leb, lt-leb, lt-ltb, le-ltb}
@@ -13,7 +13,6 @@ use Rattle.scales.specs.declared.Scale.TheVariants as S
 use Rattle.leap.specs.Meaning.{offset_on}
 use Rattle.clock.specs.Places.{Based}
 use Rattle.clock.specs.Window.{Runs}
-use Rattle.clock.specs.declared.inner.Place.TheVariants as P
 use Rattle.goce.specs.Meaning.{day_counts, in_limits, is_offset, reference, is_in_utc, accepted, day_on, clock_of}
 use Rattle.goce.specs.Places.{spot, place_of, shifted}
 use Rattle.goce.specs.declared.Correlation.{Correlation}
@@ -60,7 +59,7 @@ window_left c a b f g =
     rw (lt-ltb c.obt0 281474976710656 a, lt-ltb c.utc0 281474976710656 b, le-leb 999000000 c.gradient f, le-leb c.gradient 1001000000 g)
 
 module _ (c : Correlation) where
-  pub not_limited : in_limits c ≡ false → P.Outside ≡ place_of c
+  pub not_limited : in_limits c ≡ false → None ≡ place_of c
   unfolding accepted
   not_limited e = rw e
 
@@ -68,15 +67,15 @@ module _ (c : Correlation) where
     pub utc_few : c.utc0 < 281474976710656
     utc_few = ltb-true c.utc0 281474976710656 (and_both (ltb c.utc0 281474976710656) _ (and_both (ltb c.obt0 281474976710656) _ l).1).0
 
-    not_offset : is_offset c.offset ≡ false → P.Outside ≡ place_of c
+    not_offset : is_offset c.offset ≡ false → None ≡ place_of c
     unfolding accepted
     not_offset e = rw (l, e)
 
-    pub too_early : place_of_counts c.offset < 226486753689600 → P.Outside ≡ place_of c
+    pub too_early : place_of_counts c.offset < 226486753689600 → None ≡ place_of c
     too_early h = not_offset (offset_is c.offset ∙ rw (lt-leb 226486753689600 (place_of_counts c.offset) h))
 
     module _ (f : 226486753689600 ≤ place_of_counts c.offset) where
-      pub too_late : 226498078310400 < place_of_counts c.offset → P.Outside ≡ place_of c
+      pub too_late : 226498078310400 < place_of_counts c.offset → None ≡ place_of c
       too_late h =
           not_offset (offset_is c.offset
           ∙ rw (lt-leb (place_of_counts c.offset) 226498078310400 h) (and_false (leb 226486753689600 (place_of_counts c.offset))))
@@ -90,11 +89,11 @@ module _ (c : Correlation) where
         span_at : is_in_utc (reference c) ≡ ltb (spot c) 433308303360000
         span_at = span_is c (record { from = f; to = t })
 
-        pub past_span : 433308303360000 ≤ spot c → P.Outside ≡ place_of c
+        pub past_span : 433308303360000 ≤ spot c → None ≡ place_of c
         unfolding accepted
         past_span h = rw (l, is_offset_lem, span_at, le-ltb (spot c) 433308303360000 h)
 
-        pub reference_is : spot c < 433308303360000 → P.At (spot c) ≡ place_of c
+        pub reference_is : spot c < 433308303360000 → Some (spot c) ≡ place_of c
         unfolding accepted
         reference_is h = rw (l, is_offset_lem, span_at, lt-ltb (spot c) 433308303360000 h)
 

@@ -1,5 +1,5 @@
 -- What the code finds, and the meanings by it: one law for each way out of `date` and of `count_of`. Assumes nothing.
-use Rattle.std.specs.Prelude.{◌≡◌, Bool, true, false, cond, List, ℕ, ◌+◌, ◌*◌, ◌/◌, ◌≤◌, ◌<◌, ℤ}
+use Rattle.std.specs.Prelude.{◌≡◌, Bool, true, false, cond, List, ℕ, ◌+◌, ◌*◌, ◌/◌, ◌≤◌, ◌<◌, ℤ, Some, None}
 use Rattle.std.proofs.Math.Path.{refl, ap}
 use Rattle.std.proofs.Common.{sym, ◌∙◌, arith, mul-le-mul, lit<, lit≤, lt-ltb, le-ltb}
 use Rattle.axis.specs.Meaning.{day_at, micros_at, floor_z, Moment}
@@ -13,10 +13,9 @@ use Rattle.leap.specs.Meaning.{offset_on}
 use Rattle.leap.specs.Whole.{offset_small}
 use Rattle.clock.specs.Meaning as K
 use Rattle.clock.specs.Places as C
+use Rattle.clock.specs.Places.{base_as}
 use Rattle.clock.specs.Stage.{covering, unaccepted_by, based_at, based_none}
 use Rattle.clock.specs.Turning as T
-use Rattle.clock.specs.declared.inner.Base.TheVariants as B
-use Rattle.clock.specs.declared.inner.Place.TheVariants as P
 use Rattle.goce.specs.Meaning.{day_counts, day_on, accepted, clock_of, date_of, obt_of}
 use Rattle.goce.specs.Places.{spot, place_of, shifted, base_of, base_at, Few, ends_at, last_at, obt_from, Windowed, Near}
 use Rattle.goce.specs.Accepted.{Sound, sound, reference_place, based}
@@ -32,7 +31,7 @@ module _ (c : Correlation) where
   pub place_few : Few (place_of c)
   place_few = go (accepted c) refl
     where
-      go : (b : Bool) → accepted c ≡ b → Few (cond b (P.At (spot c)) P.Outside)
+      go : (b : Bool) → accepted c ≡ b → Few (cond b (Some (spot c)) None)
       go true p = (sound c p).late
       go false p = lit≤ tt
 
@@ -40,8 +39,8 @@ module _ (c : Correlation) where
   base_is ds os e = go (accepted c) refl
     where
       go : (b : Bool) → accepted c ≡ b →
-          base_at (cond b (P.At (spot c)) P.Outside) ds os e ≡ cond b (B.At (shifted c ds os) (K.is_current S.Utc e (day_on c))) B.Outside
-      go true p = ap (λ (d : ℤ). B.At (spot c + offset_on ds os d * 65536) (K.is_current S.Utc e d)) (day_at_lem c (sound c p))
+          base_at (cond b (Some (spot c)) None) ds os e ≡ cond b (Some (base_as (shifted c ds os) (K.is_current S.Utc e (day_on c)))) None
+      go true p = ap (λ (d : ℤ). Some (base_as (spot c + offset_on ds os d * 65536) (K.is_current S.Utc e d))) (day_at_lem c (sound c p))
       go false p = refl
 
 -- ---- a count too wide, and a list that is not accepted
@@ -70,7 +69,7 @@ count_listless c ds os e q h = ap (valued 0) (T.turn_listless (accepted c) (cloc
 
 module _ (c : Correlation) (ds : List ℤ) (os : List ℕ) (e : ℤ) (l : Leap.accepted ds os e ≡ true) where
   -- ---- not accepted
-  module _ (q : base_of c ds os e ≡ B.Outside) where
+  module _ (q : base_of c ds os e ≡ None) where
     not_accepted : accepted c ≡ false
     not_accepted = based_none (accepted c) (shifted c ds os) (K.is_current S.Utc e (day_on c)) q
 
@@ -83,7 +82,7 @@ module _ (c : Correlation) (ds : List ℤ) (os : List ℕ) (e : ℤ) (l : Leap.a
     count_unaccepted h = ap (valued 0) (T.turn_unaccepted (accepted c) (clock_of c ds os) h ds os e l not_accepted)
 
   -- ---- accepted, with its reference at s; n says whether its day is not expired
-  module _ (s : ℕ) (n : Bool) (q : base_of c ds os e ≡ B.At s n) where
+  module _ (s : ℕ) (n : Bool) (q : base_of c ds os e ≡ Some (base_as s n)) where
     known : (accepted c ≡ true) × ((shifted c ds os ≡ s) × (K.is_current S.Utc e (day_on c) ≡ n))
     known = based_at (accepted c) (shifted c ds os) s (K.is_current S.Utc e (day_on c)) n q
 

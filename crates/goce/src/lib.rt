@@ -3,14 +3,18 @@
 #![tactic(auto)]
 
 ghost use Rattle.std.specs.Prelude.{◌≡◌, true, ◌<◌};
-ghost use Rattle.scales.specs.Meaning.{slip, count_slip};
-ghost use Rattle.leap.specs.Meaning as Leap;
+ghost use Rattle.scales.specs.Meaning.{slip, slip_utc, count_slip};
 ghost use Rattle.goce.specs.Meaning.{in_limits, date_of, obt_of};
-ghost use Rattle.goce.specs.Places.{place_of, base_at, Few, reckoned_at, time_at, ends_at, count_from, last_at, obt_from, Based, Windowed, Near};
+ghost use Rattle.goce.specs.Places.{unmarked_of, place_of, base_at, Few, reckoned_at, time_at, ends_at, count_from, last_at, obt_from, Based, Windowed, Near};
 
-use clock::inner::{Base, Ends, Place, Placed, Reckoned};
+use clock::Receipt;
+use clock::inner::{Base, Ends, Reckoned};
 use handed::Handed;
-use scales::{Counted, Dated, Mark, Refusal, Scale};
+use leap::{Accepted, List};
+use scales::{Mark, Record, Refusal, Refused, Scale, Utc};
+
+// The counter has 48 bits.
+const COUNTS: u64 = 281_474_976_710_656;
 
 // UTC = Gradient x (OBT - OBT0) + Offset + UTC0, in counts of 1/65536 s and billionths, and the window: counts back and counts ahead.
 #[derive(Clone, Copy)]
@@ -27,58 +31,46 @@ pub struct Correlation {
 fn in_limits(c: Correlation) -> bool
     ensures { result ≡ in_limits c }
 {
-    if 281_474_976_710_656 <= c.obt0 {
-        return false;
-    }
-    if 281_474_976_710_656 <= c.utc0 {
-        return false;
-    }
-    if c.gradient < 999_000_000 {
-        return false;
-    }
-    if 1_001_000_000 < c.gradient {
-        return false;
-    }
-    if 140_737_488_355_328 < c.back {
-        return false;
-    }
-    c.ahead < 140_737_488_355_328
+    c.obt0 < COUNTS
+        && c.utc0 < COUNTS
+        && 999_000_000 <= c.gradient
+        && c.gradient <= 1_001_000_000
+        && c.back <= 140_737_488_355_328
+        && c.ahead < 140_737_488_355_328
 }
 
 // The place of the reference in UTC, in counts, where the correlation is accepted.
-fn reference_of(c: Correlation) -> Place
+fn reference_of(c: Correlation) -> Option<u64>
     ensures { result ≡ place_of c }
 {
     if !in_limits(c) {
-        return Place::Outside;
+        return None;
     }
     let offset = axis::place_of_counts(c.offset);
-    if offset < 226_486_753_689_600 {
-        return Place::Outside;
-    }
-    if 226_498_078_310_400 < offset {
-        return Place::Outside;
+    if offset < 226_486_753_689_600 || 226_498_078_310_400 < offset {
+        return None;
     }
     let s = c.utc0 + offset;
     if 433_308_303_360_000 <= s {
-        return Place::Outside;
+        return None;
     }
-    Place::At(s)
+    Some(s)
 }
 
 // The reference in TAI, where there is one: a second is 65,536 counts, and a day 5,662,310,400.
-fn base_at(reference: Place, days: &[i64], offsets: &[u64], last: i64) -> Base
-    requires last_value { Leap.accepted days.now offsets.now last ≡ true }
-    requires few { Few reference }
-    ensures { result ≡ base_at reference days.now offsets.now last }
+fn base_at(reference: Option<u64>, list: &Accepted) -> Option<Base>
+    requires { Few reference }
+    ensures { result ≡ base_at reference list.now.days list.now.offsets list.now.last }
 {
-    let Place::At(p) = reference else {
-        return Base::Outside;
-    };
+    let p = reference?;
+    let list = list.list();
     let day = p / 5_662_310_400;
-    let offset = leap::inner::offset_on(days, offsets, day);
-    let current = clock::inner::is_current(day, last);
-    Base::At(p + offset * 65_536, current)
+    let offset = leap::inner::offset_on(list, day);
+    let current = clock::inner::is_current(day, list.last());
+    Some(Base {
+        at: p + offset * 65_536,
+        current,
+    })
 }
 
 // Time(k), by way of nanoseconds: counts are split into seconds and fractions of 1/65536, so that no product needs more than 64 bits.
@@ -109,7 +101,7 @@ fn count(obt: u64, reference: u64) -> u64
     requires { (obt < 281474976710656) × (reference < 281474976710656) }
     ensures { result ≡ count_from obt reference }
 {
-    (obt + 422_212_465_065_984 - reference) % 281_474_976_710_656
+    (obt + 422_212_465_065_984 - reference) % COUNTS
 }
 
 // What is reckoned of a count, for the reference at s.
@@ -125,32 +117,27 @@ fn reckon(c: Correlation, obt: u64, s: u64) -> Reckoned
     Reckoned { inside, ends, at }
 }
 
-// The date of a count, received on a UTC day at a microsecond.
-pub fn date(
-    c: Correlation,
-    obt: u64,
-    receipt_day: i64,
-    receipt_micro: u64,
-    days: &[i64],
-    offsets: &[u64],
-    last: i64,
-) -> Dated
-    ensures { slip result ≡ date_of c obt receipt_day receipt_micro days.now offsets.now last }
+// The date of a count before it is marked.
+fn dated(c: Correlation, obt: u64, receipt: Receipt, list: &List) -> Result<Utc, Refusal>
+    ensures { slip_utc result ≡ unmarked_of c obt receipt.day receipt.micro list.now.days list.now.offsets list.now.last }
 {
-    if 281_474_976_710_656 <= obt {
-        return Dated::Refused(Refusal::FieldOver, Scale::Utc);
+    if COUNTS <= obt {
+        return Err(Refusal::FieldOver);
     }
     // Reckoned before the list's test, so that less is kept over it.
     let place = reference_of(c);
-    if !leap::is_accepted(days, offsets, last) {
-        return Dated::Refused(Refusal::ListNotAccepted, Scale::Utc);
-    }
-    let Base::At(s, current) = base_at(place, days, offsets, last) else {
-        return Dated::Refused(Refusal::CorrelationNotAccepted, Scale::Utc);
-    };
-    let k = reckon(c, obt, s);
-    let d = clock::inner::date_by_list(k, current, receipt_day, receipt_micro, days, offsets, last);
-    d.with_mark(Mark::Correlated(c.obt0))
+    let list = list.accepted()?;
+    let base = base_at(place, &list).ok_or(Refusal::CorrelationNotAccepted)?;
+    let k = reckon(c, obt, base.at);
+    clock::inner::date_by_list(k, base.current, receipt, &list)
+}
+
+// The date of a count, received on a UTC day at a microsecond, marked with the reference count.
+pub fn date(c: Correlation, obt: u64, receipt: Receipt, list: &List) -> Result<Record, Refused>
+    ensures { slip result ≡ date_of c obt receipt.day receipt.micro list.now.days list.now.offsets list.now.last }
+{
+    let t = dated(c, obt, receipt, list).map_err(|f| f.of(Scale::Utc))?;
+    Ok(t.to_record().with_mark(Mark::Correlated(c.obt0)))
 }
 
 // ---- the count of a time
@@ -172,22 +159,20 @@ fn obt_from(reference: u64, k: u64) -> u64
     requires { (reference < 281474976710656) × (k < 281474976710656) }
     ensures { result ≡ obt_from reference k }
 {
-    (reference + k + 140_737_488_355_328) % 281_474_976_710_656
+    (reference + k + 140_737_488_355_328) % COUNTS
 }
 
 // The count of a handed time: the last of the window whose time is not later.
-pub fn count_of(c: Correlation, h: Handed, days: &[i64], offsets: &[u64], last: i64) -> Counted
-    ensures { count_slip result ≡ obt_of c h days.now offsets.now last }
+pub fn count_of(c: Correlation, h: Handed, list: &List) -> Result<u64, Refusal>
+    ensures { count_slip result ≡ obt_of c h list.now.days list.now.offsets list.now.last }
 {
-    if !leap::is_accepted(days, offsets, last) {
-        return Counted::Refused(clock::inner::unaccepted(h, Refusal::ListNotAccepted));
-    }
-    let Base::At(s, current) = base_at(reference_of(c), days, offsets, last) else {
-        return Counted::Refused(clock::inner::unaccepted(h, Refusal::CorrelationNotAccepted));
+    let Ok(list) = list.accepted() else {
+        return Err(clock::inner::unaccepted(h, Refusal::ListNotAccepted));
     };
-    let v = ends_of(s, c.gradient, c.back, c.ahead);
-    match clock::inner::turn_by_list(current, v, h, days, offsets, last) {
-        Placed::At(w) => Counted::Count(obt_from(c.obt0, last_at(s, c.gradient, w))),
-        Placed::Refused(f) => Counted::Refused(f),
-    }
+    let Some(base) = base_at(reference_of(c), &list) else {
+        return Err(clock::inner::unaccepted(h, Refusal::CorrelationNotAccepted));
+    };
+    let v = ends_of(base.at, c.gradient, c.back, c.ahead);
+    let w = clock::inner::turn_by_list(base.current, v, h, &list)?;
+    Ok(obt_from(c.obt0, last_at(base.at, c.gradient, w)))
 }

@@ -2,6 +2,7 @@
 -- Assumes nothing.
 use mathlib.Core.Path.{◌≡◌, sym, ap, ◌∙◌, subst}
 use mathlib.Core.Bool.{Bool, true, false, cond}
+use Rattle.std.specs.Prelude.{Ok, Err}
 use Prim.Native.Nat.{ℕ, ◌+◌, ◌-◌, ◌*◌, ◌/◌, ◌^◌, ◌≤◌, ◌<◌}
 use native.Mathlib.Nat.{mul-le-mul_right, mul-lt-mul_of_pos_right, lt_of_mul-lt-mul_right, le_of_mul-le-mul_right, div-mul-le_self, lt-div-mul-add, div-eq_of_lt-le, div-div-eq-div-mul, add-div_right}
 use native.Mathlib.Omega.{arith}
@@ -9,16 +10,16 @@ use lib.Dec.{T, ltb, leb, ltb→lt, lt→ltb, leb→le, le→leb}
 use lib.Ieee.Nearest.{div_same}
 use lib.Pow.{pow_pos, pow-add}
 use Rattle.axis.specs.Meaning.{day_micros}
-use Rattle.handed.specs.declared.Reading.TheVariants.{At, Outside}
+use Rattle.handed.specs.declared.Unread.TheVariants.{Outside}
 use Rattle.handed.specs.Signs.{double_pos}
 use Rattle.handed.proofs.Product.{same_test}
 use Rattle.handed.specs.Parts.{half_up, half_down, micros_in, inside, place_in, value_of}
 
 -- ---- the two ways out
-pub value_in : (back : ℕ) (s : Bool) (a c : ℕ) → inside back s a c ≡ true → value_of back s a c ≡ At (place_in s (micros_in s a c))
+pub value_in : (back : ℕ) (s : Bool) (a c : ℕ) → inside back s a c ≡ true → value_of back s a c ≡ Ok (place_in s (micros_in s a c))
 value_in back s a c e = rw e
 
-pub value_out : (back : ℕ) (s : Bool) (a c : ℕ) → inside back s a c ≡ false → value_of back s a c ≡ Outside
+pub value_out : (back : ℕ) (s : Bool) (a c : ℕ) → inside back s a c ≡ false → value_of back s a c ≡ Err Outside
 value_out back s a c e = rw e
 
 -- ---- `half_down` by the two ends of the interval
@@ -83,8 +84,8 @@ module _ (v d a c : ℕ) (D : 0 < d) (C : 0 < c) (e : v * c ≡ a * d) where
 
   pub same_value : (back : ℕ) (s : Bool) → value_of back s v d ≡ value_of back s a c
   same_value back s =
-      ap (λ (t : Bool). cond t (At (place_in s (micros_in s v d))) Outside) (same_span back s)
-      ∙ ap (λ (n : ℕ). cond (inside back s a c) (At (place_in s n)) Outside) (same_micros s)
+      ap (λ (t : Bool). cond t (Ok (place_in s (micros_in s v d))) (Err Outside)) (same_span back s)
+      ∙ ap (λ (n : ℕ). cond (inside back s a c) (Ok (place_in s n)) (Err Outside)) (same_micros s)
 
 -- ---- the code's product: q * 86400000000 is q * 10546875 * 2 ^ 13, and c is W * 2 ^ 14
 halved : (X W : ℕ) → 0 < W → (X / W + 1) / 2 ≡ (X + W) / (W * 2)
@@ -129,9 +130,9 @@ module _ (back q sh : ℕ) (H : 37 ≤ sh) where
       let g : 23 + (sh - 37) + 14 ≡ sh = omega arith in
       ap (λ (z : ℕ). 2 ^ z) (sym g) ∙ pow-add 2 (23 + (sh - 37)) 14
 
-  pub after_is : (n : ℕ) → inside back false q (2 ^ sh) ≡ true → n ≡ ((q * 10546875 + 0) / W + 1) / 2 → At (place_in false n) ≡ value_of back false q (2 ^ sh)
+  pub after_is : (n : ℕ) → inside back false q (2 ^ sh) ≡ true → n ≡ ((q * 10546875 + 0) / W + 1) / 2 → Ok (place_in false n) ≡ value_of back false q (2 ^ sh)
   after_is n t e =
-      ap (λ (k : ℕ). At (place_in false k)) (e ∙ product_up q W (2 ^ sh) (pow_pos (23 + (sh - 37))) parts)
+      ap (λ (k : ℕ). Ok (place_in false k)) (e ∙ product_up q W (2 ^ sh) (pow_pos (23 + (sh - 37))) parts)
       ∙ sym (value_in back false q (2 ^ sh) t)
 
   module _ (Q : 0 < q) where
@@ -148,5 +149,5 @@ module _ (back q sh : ℕ) (H : 37 ≤ sh) where
     pub micros_before : (n : ℕ) → n ≡ (((q - 1) * 10546875 + 10546874) / W + 1) / 2 → n ≡ micros_in true q (2 ^ sh)
     micros_before n e = e ∙ product_down q W (2 ^ sh) (pow_pos (23 + (sh - 37))) parts Q
 
-    pub before_is : (n : ℕ) → inside back true q (2 ^ sh) ≡ true → n ≡ (((q - 1) * 10546875 + 10546874) / W + 1) / 2 → At (place_in true n) ≡ value_of back true q (2 ^ sh)
-    before_is n t e = ap (λ (k : ℕ). At (place_in true k)) (micros_before n e) ∙ sym (value_in back true q (2 ^ sh) t)
+    pub before_is : (n : ℕ) → inside back true q (2 ^ sh) ≡ true → n ≡ (((q - 1) * 10546875 + 10546874) / W + 1) / 2 → Ok (place_in true n) ≡ value_of back true q (2 ^ sh)
+    before_is n t e = ap (λ (k : ℕ). Ok (place_in true k)) (micros_before n e) ∙ sym (value_in back true q (2 ^ sh) t)

@@ -2,6 +2,7 @@
 -- span is, rounded to a day and a microsecond, in its span too; a number with more digits than an f64 need not be. Assumes nothing.
 use mathlib.Core.Path.{◌≡◌, refl, sym, ap, subst, ◌∙◌}
 use mathlib.Core.Bool.{Bool, true, false, cond, false≢true}
+use Rattle.std.specs.Prelude.{Result, Ok, Err}
 use Prim.Native.Nat.{ℕ, suc, ◌+◌, ◌-◌, ◌*◌, ◌/◌, ◌%◌, ◌^◌, ◌≤◌, ◌<◌}
 use native.Mathlib.Nat.{div-lt_iff_lt-mul}
 use native.Mathlib.Omega.{arith}
@@ -12,14 +13,13 @@ use lib.Ieee.{Float, nan, inf, fin, binary64, fits}
 use borrow.Author.Tests.{leb-true, leb-false, ltb-true}
 use Rattle.axis.specs.Meaning.{day_at, day_micros, Moment}
 use Rattle.axis.specs.Axis.{place_day}
-use Rattle.scales.specs.Meaning.{bound, in_span, spanned, slip_timed, time_at, record_of}
+use Rattle.scales.specs.Meaning.{bound, in_span, spanned, slip_timed, time_at, record_of, refused_of}
 use Rattle.scales.specs.Place.{apart, in_span_lem, count_of}
 use Rattle.scales.specs.Counts.{timed_at, timed_no}
 use Rattle.scales.specs.declared.Scale.{Scale}
 use Rattle.scales.specs.declared.Refusal.{Refusal}
 use Rattle.scales.specs.declared.Record.{Record}
 use Rattle.scales.specs.declared.Time.{Time}
-use Rattle.scales.specs.declared.Timed.TheVariants as TD
 use Rattle.handed.specs.declared.Handed.{Handed}
 use Rattle.handed.specs.declared.Handed.TheVariants as H
 use Rattle.handed.specs.Signs.{double_pos, spans_is, place_to, moment_place, day_at_lem}
@@ -27,40 +27,39 @@ use Rattle.handed.specs.Told.{count_in, loose, kept_is, Told}
 use Rattle.handed.specs.Laid.{Lays, lays_at}
 use Rattle.double.proofs.Exact.{digits}
 use Rattle.double.specs.Meaning.{up, down, finite, exact_of}
-use Rattle.handed.specs.declared.Reading.{Reading}
-use Rattle.handed.specs.declared.Reading.TheVariants as R
-use Rattle.handed.specs.declared.Taken.TheVariants as K
-use Rattle.handed.specs.declared.inner.Laid.TheVariants as L
+use Rattle.handed.specs.declared.Unread.{Unread}
+use Rattle.handed.specs.declared.Unread.TheVariants as R
+use Rattle.handed.specs.declared.Untaken.TheVariants as K
 use Rattle.handed.specs.Meaning.{spans, nearest_moment, scale_of, is_finite, is_in_span, day_of, micro_of, taken_of, Took}
 use Rattle.handed.specs.Parts.{first_of, micros_in, inside, place_of, found, time_of, taken_as, place_read}
 
 -- ---- from what is told back to the contract
 module _ (h : Handed) where
-  took_nothing : is_finite h ≡ false → Took h (K.NotFinite (scale_of h))
+  took_nothing : is_finite h ≡ false → Took h (Err (K.NotFinite (scale_of h)))
   unfolding taken_of
   took_nothing p = record { is = rw p; kept = lit≤ tt }
 
-  took_outside : is_finite h ≡ true → is_in_span h ≡ false → Took h (K.Outside (scale_of h))
+  took_outside : is_finite h ≡ true → is_in_span h ≡ false → Took h (Err (K.Outside (scale_of h)))
   unfolding taken_of
   took_outside p q = record { is = rw (p, q); kept = lit≤ tt }
 
-  took_here : is_finite h ≡ true → is_in_span h ≡ true → in_span (scale_of h) (day_of h) (micro_of h) ≡ true → Took h (K.At (time_at (scale_of h) (count_in h)))
+  took_here : is_finite h ≡ true → is_in_span h ≡ true → in_span (scale_of h) (day_of h) (micro_of h) ≡ true → Took h (Ok (time_at (scale_of h) (count_in h)))
   unfolding taken_of
   took_here p q k = record { is = rw (p, q); kept = kept_is (scale_of h) (day_of h) (micro_of h) (loose h p q) ∙ k }
 
-  took_at : (t : Time) → Told h t → Took h (K.At t)
-  took_at t w = subst (λ (x : Time). Took h (K.At x)) (sym w.is) (took_here w.finite w.inside w.kept)
+  took_at : (t : Time) → Told h t → Took h (Ok t)
+  took_at t w = subst (λ (x : Time). Took h (Ok x)) (sym w.is) (took_here w.finite w.inside w.kept)
 
 -- ---- a record
-pub record_at_lem : (r : Record) (t : Time) → slip_timed (TD.At t) ≡ spanned r.scale r.day r.micro → Took (H.Record r) (K.At t)
+pub record_at_lem : (r : Record) (t : Time) → slip_timed (Ok t) ≡ spanned r.scale r.day r.micro → Took (H.Record r) (Ok t)
 record_at_lem r t e =
     let w = timed_at r.scale r.day r.micro t e in
     took_at (H.Record r) t (record { finite = refl; inside = w.0; is = w.1; kept = w.0 })
 
-pub record_out : (r : Record) (f : Refusal) (s : Scale) → slip_timed (TD.Refused f s) ≡ spanned r.scale r.day r.micro → Took (H.Record r) (K.Outside s)
+pub record_out : (r : Record) (f : Refusal) (s : Scale) → slip_timed (Err (refused_of s f)) ≡ spanned r.scale r.day r.micro → Took (H.Record r) (Err (K.Outside s))
 record_out r f s e =
     let w = timed_no r.scale r.day r.micro f s e in
-    subst (λ (x : Scale). Took (H.Record r) (K.Outside x)) (sym w.1.1) (took_outside (H.Record r) refl w.0)
+    subst (λ (x : Scale). Took (H.Record r) (Err (K.Outside x))) (sym w.1.1) (took_outside (H.Record r) refl w.0)
 
 -- ---- the last day is not left by rounding: an f64 has at most 53 digits
 -- fewer than 36,525 days are, rounded, fewer microseconds
@@ -116,10 +115,10 @@ pub record At (x : Float) (s : Scale) (n : ℕ) : Type 0 where
   pub small : n ≤ 76525 * day_micros
   pub moment : nearest_moment x ≡ record { day = day_at (n / day_micros); micro = n % day_micros }
 
-abbrev pub Found : Float → Scale → Reading → Type 0
-Found x s R.NotFinite = finite x ≡ false
-Found x s R.Outside = (finite x ≡ true) × (spans s (exact_of x) ≡ false)
-Found x s (R.At n) = At x s n
+abbrev pub Found : Float → Scale → Result ℕ Unread → Type 0
+Found x s (Err R.NotFinite) = finite x ≡ false
+Found x s (Err R.Outside) = (finite x ≡ true) × (spans s (exact_of x) ≡ false)
+Found x s (Ok n) = At x s n
 
 found_is : (x : Float) (s : Scale) → Found x s (found (first_of s) x)
 unfolding found
@@ -127,7 +126,7 @@ found_is nan s = refl
 found_is (inf t) s = refl
 found_is (fin t m e) s = go (inside (first_of s) t (m * up e) (down e)) refl
   where
-    go : (b : Bool) → inside (first_of s) t (m * up e) (down e) ≡ b → Found (fin t m e) s (cond b (R.At (place_of (exact_of (fin t m e)))) R.Outside)
+    go : (b : Bool) → inside (first_of s) t (m * up e) (down e) ≡ b → Found (fin t m e) s (cond b (Ok (place_of (exact_of (fin t m e)))) (Err R.Outside))
     go false p = (refl, spans_is s (exact_of (fin t m e)) ∙ p)
     go true p =
         let v = exact_of (fin t m e) in
@@ -136,13 +135,13 @@ found_is (fin t m e) s = go (inside (first_of s) t (m * up e) (down e)) refl
 
 module _ (x : Float) (s : Scale) where
   -- what `read_days` answers tells, where it was asked with the scale's first day
-  pub read_tells : {n : ℕ} {r : Reading} → n ≡ first_of s → r ≡ found n x → Found x s r
+  pub read_tells : {n : ℕ} {r : Result ℕ Unread} → n ≡ first_of s → r ≡ found n x → Found x s r
   read_tells e f = subst (Found x s) (sym (f ∙ ap (λ (k : ℕ). found k x) e)) (found_is x s)
 
-  pub read_small : (r : Reading) → Found x s r → place_read r < 2 ^ 62
-  read_small R.NotFinite k = lit< tt
-  read_small R.Outside k = lit< tt
-  read_small (R.At n) k = omega (arith, k.small)
+  pub read_small : (r : Result ℕ Unread) → Found x s r → place_read r < 2 ^ 62
+  read_small (Err R.NotFinite) k = lit< tt
+  read_small (Err R.Outside) k = lit< tt
+  read_small (Ok n) k = omega (arith, k.small)
 
   -- the time at place n is the one at the count of its moment
   read_time : (n : ℕ) → At x s n → time_of s n ≡ time_at s (count_in (H.Decimal x s))
@@ -152,14 +151,14 @@ module _ (x : Float) (s : Scale) where
       ∙ ap (λ (m : Moment). time_at s (count_of s m.day m.micro)) (sym k.moment)
 
   module _ (d : T (fits binary64 x)) where
-    pub read_took : (r : Reading) → Found x s r → Took (H.Decimal x s) (taken_as s r)
-    read_took R.NotFinite k = took_nothing (H.Decimal x s) k
-    read_took R.Outside k = took_outside (H.Decimal x s) k.0 k.1
-    read_took (R.At n) k =
+    pub read_took : (r : Result ℕ Unread) → Found x s r → Took (H.Decimal x s) (taken_as s r)
+    read_took (Err R.NotFinite) k = took_nothing (H.Decimal x s) k
+    read_took (Err R.Outside) k = took_outside (H.Decimal x s) k.0 k.1
+    read_took (Ok n) k =
         took_at (H.Decimal x s) (time_of s n)
         (record { finite = k.ends; inside = k.inside; is = read_time n k; kept = kept_decimal x s d k.ends k.inside })
 
-    pub read_lays : (n : ℕ) → At x s n → Lays (H.Decimal x s) (L.At (record_of s (day_at (n / day_micros)) (n % day_micros)))
+    pub read_lays : (n : ℕ) → At x s n → Lays (H.Decimal x s) (Ok (record_of s (day_at (n / day_micros)) (n % day_micros)))
     read_lays n k =
-        subst (λ (m : Moment). Lays (H.Decimal x s) (L.At (record_of s m.day m.micro))) k.moment
+        subst (λ (m : Moment). Lays (H.Decimal x s) (Ok (record_of s m.day m.micro))) k.moment
         (lays_at x s k.ends k.inside (kept_decimal x s d k.ends k.inside))

@@ -1,15 +1,15 @@
 -- What the private functions answer: sign and size apart, and places of the axis, which the code reckons with. Assumes nothing.
-use Rattle.std.specs.Prelude.{Bool, true, false, cond, ℕ, ◌+◌, ◌-◌, ◌*◌, ◌/◌, ◌%◌, ℤ, leb, ltb, Float}
+use Rattle.std.specs.Prelude.{Bool, true, false, cond, ℕ, ◌+◌, ◌-◌, ◌*◌, ◌/◌, ◌%◌, ℤ, leb, ltb, Float, Result, Ok, Err}
 use Rattle.std.specs.Float.{nan, inf, fin}
 use Rattle.axis.specs.Meaning.{place_of_day, day_micros}
 use Rattle.scales.specs.Meaning.{first, bound, time_at}
 use Rattle.scales.specs.declared.Scale.{Scale}
 use Rattle.scales.specs.declared.Time.{Time}
 use Rattle.double.specs.Meaning.{Exact, up, down, over, under}
-use Rattle.handed.specs.declared.Reading.{Reading}
-use Rattle.handed.specs.declared.Reading.TheVariants.{NotFinite, Outside, At}
-use Rattle.handed.specs.declared.Taken.{Taken}
-use Rattle.handed.specs.declared.Taken.TheVariants as K
+use Rattle.handed.specs.declared.Unread.{Unread}
+use Rattle.handed.specs.declared.Unread.TheVariants.{NotFinite, Outside}
+use Rattle.handed.specs.declared.Untaken.{Untaken}
+use Rattle.handed.specs.declared.Untaken.TheVariants as K
 
 -- the days from a day on or before day 0 to day 0
 abbrev pub back_to : ℤ → ℕ
@@ -43,12 +43,12 @@ place_in true n = 3456000000000000 - n
 abbrev pub place_of : Exact → ℕ
 place_of v = place_in v.minus (micros_in v.minus (over v) (under v))
 
-abbrev pub value_of : ℕ → Bool → ℕ → ℕ → Reading
-value_of back s a c = cond (inside back s a c) (At (place_in s (micros_in s a c))) Outside
+abbrev pub value_of : ℕ → Bool → ℕ → ℕ → Result ℕ Unread
+value_of back s a c = cond (inside back s a c) (Ok (place_in s (micros_in s a c))) (Err Outside)
 
-unfoldable pub found : ℕ → Float → Reading
-found back nan = NotFinite
-found back (inf s) = NotFinite
+unfoldable pub found : ℕ → Float → Result ℕ Unread
+found back nan = Err NotFinite
+found back (inf s) = Err NotFinite
 found back (fin s m e) = value_of back s (m * up e) (down e)
 
 -- the time of a scale at place n of the axis of microseconds
@@ -56,12 +56,12 @@ abbrev pub time_of : Scale → ℕ → Time
 time_of s n = time_at s (n / day_micros * bound s + n % day_micros)
 
 -- what a reading is taken for; and its place, 0 where it has none
-abbrev pub taken_as : Scale → Reading → Taken
-taken_as s NotFinite = K.NotFinite s
-taken_as s Outside = K.Outside s
-taken_as s (At n) = K.At (time_of s n)
+abbrev pub taken_as : Scale → Result ℕ Unread → Result Time Untaken
+taken_as s (Err NotFinite) = Err (K.NotFinite s)
+taken_as s (Err Outside) = Err (K.Outside s)
+taken_as s (Ok n) = Ok (time_of s n)
 
-abbrev pub place_read : Reading → ℕ
-place_read NotFinite = 0
-place_read Outside = 0
-place_read (At n) = n
+abbrev pub place_read : Result ℕ Unread → ℕ
+place_read (Err NotFinite) = 0
+place_read (Err Outside) = 0
+place_read (Ok n) = n

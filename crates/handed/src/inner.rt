@@ -4,16 +4,21 @@ ghost use Rattle.axis.specs.Meaning.{day_at, day_micros};
 ghost use Rattle.scales.specs.Meaning.{record_of};
 ghost use Rattle.handed.specs.Meaning.{Took};
 ghost use Rattle.handed.specs.Parts.{place_read, taken_as};
-ghost use Rattle.handed.specs.Laid.{outside_of, Lays};
+ghost use Rattle.handed.specs.Laid.{outside_of, Lays, not_laid};
 
-use super::{Handed, Reading, Taken, first_of, read_days, time_of};
-use scales::{Record, Scale};
+use super::{Handed, Unread, Untaken, first_of, read_days, time_of};
+use scales::{Record, Refusal, Scale, Time};
 
-// A record that nothing has judged yet; a decimal day outside its span becomes a record outside it.
+// Why a handed time is no record: a decimal day, with its scale, that is not finite.
 #[derive(Clone, Copy)]
-pub enum Laid {
-    NotFinite(Scale),
-    At(Record),
+pub struct NotFinite(pub Scale);
+
+impl From<NotFinite> for Refusal {
+    ghost from_gives = { λ e f. f ≡ not_laid e };
+
+    fn from(_e: NotFinite) -> Refusal {
+        Refusal::DecimalNotFinite
+    }
 }
 
 // ---- as a record
@@ -34,21 +39,22 @@ fn record_of(scale: Scale, n: u64) -> Record
 }
 
 // The day is read here and not by way of a count, which would be made only to be divided again.
-fn lay_decimal(day: f64, scale: Scale) -> Laid
+fn lay_decimal(day: f64, scale: Scale) -> Result<Record, NotFinite>
     ensures { Lays (Handed.Decimal day scale) result }
 {
     match read_days(first_of(scale), day) {
-        Reading::NotFinite => Laid::NotFinite(scale),
-        Reading::Outside => Laid::At(outside(scale)),
-        Reading::At(n) => Laid::At(record_of(scale, n)),
+        Ok(n) => Ok(record_of(scale, n)),
+        Err(Unread::Outside) => Ok(outside(scale)),
+        Err(Unread::NotFinite) => Err(NotFinite(scale)),
     }
 }
 
-pub fn lay(h: Handed) -> Laid
+// A record that nothing has judged yet; a decimal day outside its span becomes a record outside it.
+pub fn lay(h: Handed) -> Result<Record, NotFinite>
     ensures { Lays h result }
 {
     match h {
-        Handed::Record(r) => Laid::At(r),
+        Handed::Record(r) => Ok(r),
         Handed::Decimal(day, scale) => lay_decimal(day, scale),
     }
 }
@@ -56,20 +62,20 @@ pub fn lay(h: Handed) -> Laid
 // ---- a decimal day by itself
 
 // What a decimal day is taken for, by what was read of it.
-fn take_reading(scale: Scale, r: Reading) -> Taken
+fn take_reading(scale: Scale, r: Result<u64, Unread>) -> Result<Time, Untaken>
     requires { place_read r < 2 ^ 62 }
     ensures { result ≡ taken_as scale r }
 {
     match r {
-        Reading::NotFinite => Taken::NotFinite(scale),
-        Reading::Outside => Taken::Outside(scale),
-        Reading::At(n) => Taken::At(time_of(scale, n)),
+        Ok(n) => Ok(time_of(scale, n)),
+        Err(Unread::NotFinite) => Err(Untaken::NotFinite(scale)),
+        Err(Unread::Outside) => Err(Untaken::Outside(scale)),
     }
 }
 
 // A decimal day, taken apart. Each scale reads by a call of its own, with its first day a constant: a record that is handed in
 // does not pay for the reading then.
-pub fn take_decimal(day: f64, scale: Scale) -> Taken
+pub fn take_decimal(day: f64, scale: Scale) -> Result<Time, Untaken>
     ensures { Took (Handed.Decimal day scale) result }
 {
     match scale {

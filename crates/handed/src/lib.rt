@@ -5,10 +5,10 @@ ghost use Rattle.std.specs.Prelude.{◌≡◌, ◌+◌, ◌*◌, ◌/◌, ◌^�
 ghost use Rattle.std.specs.Float.{binary64};
 ghost use Rattle.std.specs.Float.Ieee.{of_bits};
 ghost use Rattle.axis.specs.Meaning.{place_of_day};
-ghost use Rattle.handed.specs.Meaning.{Took, mark_of};
+ghost use Rattle.handed.specs.Meaning.{Took, mark_of, refused_by, refusal_by};
 ghost use Rattle.handed.specs.Parts.{back_to, first_of, value_of, found, time_of};
 
-use scales::{Gps, Mark, Record, Scale, Tai, Time, Timed, Utc};
+use scales::{Gps, Mark, Record, Refusal, Refused, Scale, Tai, Time, Utc};
 
 pub mod inner;
 
@@ -31,21 +31,42 @@ impl Handed {
     }
 }
 
-// What a handed time is taken for. One that is not finite is told apart from one outside its span, for
-// other refusals stand between the two.
+// Why a handed time is not taken, and the scale of its empty record. One that is not finite is told apart from one outside its
+// span, for other refusals stand between the two.
 #[derive(Clone, Copy)]
-pub enum Taken {
+pub enum Untaken {
     NotFinite(Scale),
     Outside(Scale),
-    At(Time),
 }
 
-// What an f64 is read as: microseconds from day -40000 on, every day having 86,400 s.
+// Where no other refusal stands between: 4, or 7.
+impl From<Untaken> for Refused {
+    ghost from_gives = { λ e f. f ≡ refused_by e };
+
+    fn from(e: Untaken) -> Refused {
+        match e {
+            Untaken::NotFinite(scale) => Refusal::DecimalNotFinite.of(scale),
+            Untaken::Outside(scale) => Refusal::OutsideSpan.of(scale),
+        }
+    }
+}
+
+impl From<Untaken> for Refusal {
+    ghost from_gives = { λ e f. f ≡ refusal_by e };
+
+    fn from(e: Untaken) -> Refusal {
+        match e {
+            Untaken::NotFinite(_) => Refusal::DecimalNotFinite,
+            Untaken::Outside(_) => Refusal::OutsideSpan,
+        }
+    }
+}
+
+// Why an f64 has no place on the axis.
 #[derive(Clone, Copy)]
-enum Reading {
+enum Unread {
     NotFinite,
     Outside,
-    At(u64),
 }
 
 // ---- a decimal day, from its bits
@@ -73,25 +94,25 @@ fn below(q: u64, sh: u64, limit: u64) -> bool
 
 // q / 2^sh days after day 0, or before it. A half goes to the later: before day 0 that is towards day 0,
 // so a little less than q is taken.
-fn read_number(first: u64, neg: bool, q: u64, sh: u64) -> Reading
+fn read_number(first: u64, neg: bool, q: u64, sh: u64) -> Result<u64, Unread>
     requires { (0 < first) × (first ≤ 36525) × (0 < q) × (q < 2 ^ 53) × (37 ≤ sh) × (sh ≤ 90) }
     ensures { result ≡ value_of first neg q (2 ^ sh) }
 {
     if neg {
         if below(q - 1, sh, first) {
-            return Reading::At(3_456_000_000_000_000 - scaled(q - 1, 10_546_874, sh - 37));
+            return Ok(3_456_000_000_000_000 - scaled(q - 1, 10_546_874, sh - 37));
         }
-        return Reading::Outside;
+        return Err(Unread::Outside);
     }
     if below(q, sh, 36525) {
-        return Reading::At(3_456_000_000_000_000 + scaled(q, 0, sh - 37));
+        return Ok(3_456_000_000_000_000 + scaled(q, 0, sh - 37));
     }
-    Reading::Outside
+    Err(Unread::Outside)
 }
 
-// What a bit pattern stands for. The exponent's field tells the ranges apart: infinite, 2^16 days or
+// What a bit pattern stands for: microseconds from day -40000 on, every day having 86,400 s. The exponent's field tells the ranges apart: infinite, 2^16 days or
 // more, less than half a microsecond, and the rest.
-fn read_bits(first: u64, bits: u64) -> Reading
+fn read_bits(first: u64, bits: u64) -> Result<u64, Unread>
     requires { (0 < first) × (first ≤ 36525) }
     ensures { result ≡ found first (of_bits binary64 bits) }
 {
@@ -100,23 +121,23 @@ fn read_bits(first: u64, bits: u64) -> Reading
     let field = parts.exponent;
     let digits = parts.digits;
     if field == 2047 {
-        return Reading::NotFinite;
+        return Err(Unread::NotFinite);
     }
     if 1038 < field {
-        return Reading::Outside;
+        return Err(Unread::Outside);
     }
     if field < 985 {
-        return Reading::At(3_456_000_000_000_000);
+        return Ok(3_456_000_000_000_000);
     }
     read_number(first, neg, 0x10_0000_0000_0000 + digits, 1075 - field)
 }
 
-fn read_days(first: u64, day: f64) -> Reading
+fn read_days(first: u64, day: f64) -> Result<u64, Unread>
     requires { (0 < first) × (first ≤ 36525) }
     ensures { result ≡ found first day }
 {
     if day != day {
-        return Reading::NotFinite;
+        return Err(Unread::NotFinite);
     }
     read_bits(first, f64::to_bits(day))
 }
@@ -153,17 +174,14 @@ fn time_of(scale: Scale, n: u64) -> Time
     }
 }
 
-fn take_record(r: Record) -> Taken
+fn take_record(r: Record) -> Result<Time, Untaken>
     ensures { Took (Handed.Record r) result }
 {
-    match r.to_time() {
-        Timed::At(t) => Taken::At(t),
-        Timed::Refused(_, s) => Taken::Outside(s),
-    }
+    r.to_time().map_err(|e| Untaken::Outside(e.scale))
 }
 
 // A handed time, taken apart.
-pub fn take(h: Handed) -> Taken
+pub fn take(h: Handed) -> Result<Time, Untaken>
     ensures { Took h result }
 {
     match h {

@@ -8,6 +8,12 @@ use Rattle.scales.specs.declared.Scale.TheVariants as S
 use Rattle.scales.specs.declared.Utc.{Utc}
 use Rattle.calendar.specs.Meaning.{all_firsts}
 
+-- a list as it is lent
+pub record LeapList : Type 0 where
+  pub days : List ℤ
+  pub offsets : List ℕ
+  pub last : ℤ
+
 abbrev pub seconds : ℕ → ℤ
 seconds n = pos (n * 1000000)
 

@@ -6,6 +6,7 @@ ghost use Rattle.leap.specs.Meaning.{offset_on, is_step, utc_of, utc_moment};
 ghost use Rattle.leap.specs.Places.{plain_at, sixty_at};
 ghost use Rattle.leap.specs.Steps.{Usable};
 
+use crate::List;
 use scales::{Scale, Tai, Utc};
 
 const SECOND: u64 = 1_000_000;
@@ -19,33 +20,28 @@ pub fn step_day(days: &[i64], i: usize) -> u64
 }
 
 // TAI minus UTC on the day at a place.
-pub fn offset_on(days: &[i64], offsets: &[u64], place: u64) -> u64
-    requires { Usable days.now offsets.now × (place < 100000) }
-    ensures { result ≡ offset_on days.now offsets.now (day_at place) }
+pub fn offset_on(list: &List, place: u64) -> u64
+    requires { Usable list.now.days list.now.offsets × (place < 100000) }
+    ensures { result ≡ offset_on list.now.days list.now.offsets (day_at place) }
 {
-    let mut i = days.len();
-    while 0 < i {
-        let k = i - 1;
-        if step_day(days, k) <= place {
-            return offsets[k];
+    let offsets = list.offsets;
+    for i in (0..list.days.len()).rev() {
+        if step_day(list.days, i) <= place {
+            return offsets[i];
         }
-        i = k;
     }
     0
 }
 
 // Is the day at a place a step?
-pub fn is_step(days: &[i64], place: u64) -> bool
+pub fn is_step(list: &List, place: u64) -> bool
     requires { (0 < place) × (place < 100000) }
-    ensures { result ≡ is_step days.now (day_at place) }
+    ensures { result ≡ is_step list.now.days (day_at place) }
 {
-    let mut i = days.len();
-    while 0 < i {
-        let k = i - 1;
-        if step_day(days, k) == place {
+    for i in (0..list.days.len()).rev() {
+        if step_day(list.days, i) == place {
             return true;
         }
-        i = k;
     }
     false
 }
@@ -61,8 +57,8 @@ fn plain_at(p: u64, t: u64) -> Utc
 
 // In second 60 of the day before step s, p - 1 still in force.
 fn sixty_at(s: u64, p: u64, t: u64) -> Utc
-    requires s_nonzero { (0 < s) × (s ≤ 100000) × (1 ≤ p) × (p ≤ 100) }
-    requires p_bound { (s * 86400000000 + (p - 1) * 1000000 ≤ t) × (t < s * 86400000000 + p * 1000000) }
+    requires step { (0 < s) × (s ≤ 100000) × (1 ≤ p) × (p ≤ 100) }
+    requires within_second { (s * 86400000000 + (p - 1) * 1000000 ≤ t) × (t < s * 86400000000 + p * 1000000) }
     ensures { moment_at Scale.Utc result.0 ≡ sixty_at s p t }
 {
     let u = t - (p - 1) * SECOND;
@@ -70,17 +66,16 @@ fn sixty_at(s: u64, p: u64, t: u64) -> Utc
 }
 
 // The UTC time of a TAI time.
-pub fn utc_at(days: &[i64], offsets: &[u64], t: Tai) -> Utc
-    requires usable { Usable days.now offsets.now }
-    requires le_t { (10000000 ≤ t.0) × (t.0 < 8640000000000000) }
-    ensures { utc_moment result ≡ utc_of days.now offsets.now (micros_at t.0) }
+pub fn utc_at(list: &List, t: Tai) -> Utc
+    requires usable { Usable list.now.days list.now.offsets }
+    requires in_axis { (10000000 ≤ t.0) × (t.0 < 8640000000000000) }
+    ensures { utc_moment result ≡ utc_of list.now.days list.now.offsets (micros_at t.0) }
 {
     let c = t.0;
-    let mut i = days.len();
-    while 0 < i {
-        let k = i - 1;
-        let s = step_day(days, k);
-        let p = offsets[k];
+    let offsets = list.offsets;
+    for i in (0..list.days.len()).rev() {
+        let s = step_day(list.days, i);
+        let p = offsets[i];
         let start = s * Tai::BOUND + p * SECOND;
         if start <= c {
             return plain_at(p, c);
@@ -88,7 +83,6 @@ pub fn utc_at(days: &[i64], offsets: &[u64], t: Tai) -> Utc
         if start <= c + SECOND {
             return sixty_at(s, p, c);
         }
-        i = k;
     }
     plain_at(10, c)
 }

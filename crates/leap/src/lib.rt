@@ -2,13 +2,51 @@
 // from each day on, with its last day E.
 #![tactic(auto)]
 
-ghost use Rattle.std.specs.Prelude.{◌≡◌, pos, get_or, drop};
-ghost use Rattle.leap.specs.Meaning.{accepted, published_days, published_offsets};
+ghost use Rattle.std.specs.Prelude.{◌≡◌, ◌↔◌, true, false, pos, get_or, drop, IfOk, IsErrOf};
+ghost use Rattle.leap.specs.Meaning.{LeapList, accepted, published_days, published_offsets};
 ghost use Rattle.leap.specs.Follow.{Tested, rest};
 
-use scales::Utc;
+use scales::{Refusal, Utc};
+use std::marker::Model;
 
 pub mod inner;
+
+// A list as it is lent: nothing is known of it.
+#[derive(Drop)]
+pub struct List<'a> {
+    days: &'a [i64],
+    offsets: &'a [u64],
+    last: i64,
+}
+
+impl<'a> Model for List<'a> {
+    ghost Value = { LeapList };
+
+    ghost view = { λ l. record { days = l.days.now; offsets = l.offsets.now; last = l.last } };
+}
+
+// A list that is accepted.
+#[derive(Drop)]
+pub struct Accepted<'a> {
+    list: List<'a>,
+}
+
+impl<'a> Model for Accepted<'a> {
+    ghost Value = { LeapList };
+
+    ghost view = { λ a. a.list };
+
+    ghost invariant = { λ a. accepted a.list.days a.list.offsets a.list.last ≡ true };
+}
+
+impl<'a> Accepted<'a> {
+    pub fn list(&self) -> &List<'a>
+        ensures same { result.now ≡ self.now }
+        ensures accepted { accepted self.now.days self.now.offsets self.now.last ≡ true }
+    {
+        &self.list
+    }
+}
 
 // The places of days -10227 and 36524.
 const FIRST: u64 = 29773;
@@ -22,17 +60,15 @@ fn steps_follow(days: &[i64], offsets: &[u64], end: i64) -> bool
     requires { Tested days.now offsets.now end }
     ensures { result ≡ rest end (get_or days.now 0 (pos 0)) 10 (drop 1 days.now) (drop 1 offsets.now) }
 {
-    let mut o = days.len() + 9;
-    if end < days[o - 10] {
+    if end < days[days.len() - 1] {
         return false;
     }
-    while 10 < o {
-        if offsets[o - 10] != o as u64 {
+    for i in (1..days.len()).rev() {
+        if offsets[i] != i as u64 + 10 {
             return false;
         }
-        let d = days[o - 10];
-        o = o - 1;
-        if d <= days[o - 10] {
+        let d = days[i];
+        if d <= days[i - 1] {
             return false;
         }
         if d <= Utc::FIRST_DAY {
@@ -45,37 +81,77 @@ fn steps_follow(days: &[i64], offsets: &[u64], end: i64) -> bool
     true
 }
 
-// Is the list accepted?
-pub fn is_accepted(days: &[i64], offsets: &[u64], last: i64) -> bool
-    ensures { result ≡ accepted days.now offsets.now last }
-{
-    let n = days.len();
-    if n < 1 {
-        return false;
+impl<'a> List<'a> {
+    pub fn new(days: &'a [i64], offsets: &'a [u64], last: i64) -> List<'a>
+        ensures { result ≡ record { days = days.now; offsets = offsets.now; last = last } }
+    {
+        List {
+            days,
+            offsets,
+            last,
+        }
     }
-    if 64 < n {
-        return false;
+
+    // The last day E.
+    pub fn last(&self) -> i64
+        ensures { result ≡ self.now.last }
+    {
+        self.last
     }
-    if offsets.len() != n {
-        return false;
+
+    // Is the list accepted?
+    pub fn is_accepted(&self) -> bool
+        ensures { result ≡ accepted self.now.days self.now.offsets self.now.last }
+    {
+        let n = self.days.len();
+        if n < 1 {
+            return false;
+        }
+        if 64 < n {
+            return false;
+        }
+        if self.offsets.len() != n {
+            return false;
+        }
+        let e = axis::place_of_day(self.last);
+        if e < FIRST {
+            return false;
+        }
+        if LAST < e {
+            return false;
+        }
+        // Both are read before either is tested: so the compiler has registers left for the steps' loop where a tick is dated.
+        let offset = self.offsets[0];
+        let first = inner::step_day(self.days, 0);
+        if first != FIRST {
+            return false;
+        }
+        if offset != 10 {
+            return false;
+        }
+        steps_follow(self.days, self.offsets, axis::day_at((e + 1) as u32))
     }
-    let e = axis::place_of_day(last);
-    if e < FIRST {
-        return false;
+
+    // The list, where it is accepted, or 5.
+    pub fn accepted(&self) -> Result<Accepted<'a>, Refusal>
+        ensures ok { IfOk result (λ a. a ≡ self.now) }
+        ensures err { IsErrOf result Refusal.ListNotAccepted ↔ (accepted self.now.days self.now.offsets self.now.last ≡ false) }
+    {
+        if !self.is_accepted() {
+            return Err(Refusal::ListNotAccepted);
+        }
+        Ok(self.known())
     }
-    if LAST < e {
-        return false;
+
+    // A list that is known to be accepted: it is not tested.
+    pub fn known(&self) -> Accepted<'a>
+        requires { accepted self.now.days self.now.offsets self.now.last ≡ true }
+        ensures { result ≡ self.now }
+    {
+        Accepted {
+            list: List::new(self.days, self.offsets, self.last),
+        }
     }
-    // Both are read before either is tested: so the compiler has registers left for the steps' loop where a tick is dated.
-    let offset = offsets[0];
-    let first = inner::step_day(days, 0);
-    if first != FIRST {
-        return false;
-    }
-    if offset != 10 {
-        return false;
-    }
-    steps_follow(days, offsets, axis::day_at((e + 1) as u32))
 }
 
 // The last day of the published list: 31 December 2024.

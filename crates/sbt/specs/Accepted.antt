@@ -1,5 +1,5 @@
 -- The tests of acceptance, one after the other, and what they tell together. Assumes nothing.
-use Rattle.std.specs.Prelude.{◌≡◌, true, List, ℕ, ◌*◌, ◌≤◌, ◌<◌, leb, ltb, ℤ, pos, ◌*ℤ◌}
+use Rattle.std.specs.Prelude.{◌≡◌, true, List, ℕ, ◌*◌, ◌≤◌, ◌<◌, leb, ltb, ℤ, pos, ◌*ℤ◌, None}
 use Rattle.std.proofs.Common.{ap, ◌∙◌, arith, lit<}
 use borrow.Author.Tests.{leb-true, ltb-true, le-leb, lt-leb}
 use Rattle.axis.specs.Meaning.{day_micros}
@@ -12,26 +12,25 @@ use Rattle.clock.specs.Stage.{place_in, Held, held, instant_place}
 use Rattle.clock.specs.Window.{Runs}
 use Rattle.sbt.specs.Places.{place_of, shifted}
 use Rattle.sbt.specs.declared.Correlation.{Correlation}
-use Rattle.clock.specs.declared.inner.Place.TheVariants as P
 
 -- ---- the tests of acceptance, one after the other
 module _ (c : Correlation) where
-  pub not_fast : c.period < 3906000000 → P.Outside ≡ place_of c
+  pub not_fast : c.period < 3906000000 → None ≡ place_of c
   unfolding accepted
   not_fast h = rw (lt-leb 3906000000 c.period h)
 
   module _ (f : 3906000000 ≤ c.period) where
-    pub not_slow : 3906500000 < c.period → P.Outside ≡ place_of c
+    pub not_slow : 3906500000 < c.period → None ≡ place_of c
     unfolding accepted
     not_slow h = rw (le-leb 3906000000 c.period f, lt-leb c.period 3906500000 h)
 
     module _ (s : c.period ≤ 3906500000) where
-      pub not_back : 2147483648 < c.back → P.Outside ≡ place_of c
+      pub not_back : 2147483648 < c.back → None ≡ place_of c
       unfolding accepted
       not_back h = rw (le-leb 3906000000 c.period f, le-leb c.period 3906500000 s, lt-leb c.back 2147483648 h)
 
       module _ (b : c.back ≤ 2147483648) where
-        pub not_ahead : 2147483647 < c.ahead → P.Outside ≡ place_of c
+        pub not_ahead : 2147483647 < c.ahead → None ≡ place_of c
         unfolding accepted
         not_ahead h =
             rw (le-leb 3906000000 c.period f, le-leb c.period 3906500000 s, le-leb c.back 2147483648 b, lt-leb c.ahead 2147483647 h)

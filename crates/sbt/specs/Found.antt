@@ -1,5 +1,5 @@
 -- What the code finds, and the meanings by it: one law for each way out of the dates and of the ways back. Assumes nothing.
-use Rattle.std.specs.Prelude.{◌≡◌, Bool, true, false, List, ℕ, ◌+◌, ◌*◌, ◌/◌, ◌≤◌, ◌<◌, ℤ}
+use Rattle.std.specs.Prelude.{◌≡◌, Bool, true, false, List, ℕ, ◌+◌, ◌*◌, ◌/◌, ◌≤◌, ◌<◌, ℤ, Result, Ok, Err, Some, None}
 use Rattle.std.proofs.Common.{sym, ap₂, ◌∙◌, mul-le-mul}
 use Rattle.std.proofs.Math.Path.{ap}
 use native.Mathlib.Omega.{arith}
@@ -16,17 +16,14 @@ use Rattle.leap.specs.Whole.{offset_small}
 use Rattle.via_tai.specs.Meaning.{is_utc}
 use Rattle.clock.specs.Meaning.{list_serves, is_current}
 use Rattle.clock.specs.Places as C
+use Rattle.clock.specs.Places.{base_as}
 use Rattle.clock.specs.Stage.{spot, seconds_in, covering, unaccepted_by, landed, found, none, based_at, based_none, serves_own, utc_is}
 use Rattle.clock.specs.Turning as T
-use Rattle.clock.specs.declared.inner.Base.TheVariants as B
-use Rattle.clock.specs.declared.inner.Place.TheVariants as P
-use Rattle.clock.specs.declared.inner.Placed.{Placed}
-use Rattle.clock.specs.declared.inner.Placed.TheVariants as L
 use Rattle.sbt.specs.Meaning.{accepted, clock_of, tick_of}
 use Rattle.sbt.specs.Places.{unmarked_of, place_of, shifted, base_of, ends_at, covered_by, last_in, ticked_as, Windowed, Reached, Few}
 use Rattle.sbt.specs.Accepted.{sound, based}
 use Rattle.sbt.specs.declared.Correlation.{Correlation}
-use Rattle.sbt.specs.declared.inner.Covered.TheVariants as CV
+use Rattle.scales.specs.declared.Refusal.{Refusal}
 
 -- ---- an accepted correlation with its reference at r of the clock's axis, and a list that serves
 pub record Standing (c : Correlation) (ds : List ℤ) (os : List ℕ) (e : ℤ) (r : ℕ) : Type 0 where
@@ -36,7 +33,7 @@ pub record Standing (c : Correlation) (ds : List ℤ) (os : List ℕ) (e : ℤ) 
   pub windowed : Windowed r c.period c.back c.ahead
 
 -- the last count of a handed time, or its refusal
-abbrev pub Lasts : Correlation → Handed → List ℤ → List ℕ → ℤ → Placed → Type 0
+abbrev pub Lasts : Correlation → Handed → List ℤ → List ℕ → ℤ → Result ℕ Refusal → Type 0
 Lasts c h ds os e k = (Few k) × (ticked_as c.tick.0 k ≡ tick_of c h ds os e)
 
 -- the reference's place, and up to 73 s later in TAI
@@ -57,14 +54,14 @@ windowed_at c a r l m =
 
 -- the cover of a correlation by its reference's place
 module _ (c : Correlation) where
-  pub cover_windowed : (r : ℕ) → place_of c ≡ P.At r → Windowed r c.period c.back c.ahead
+  pub cover_windowed : (r : ℕ) → place_of c ≡ Some r → Windowed r c.period c.back c.ahead
   cover_windowed r q =
       let k = found (accepted c) (spot c.day c.micro) r q in windowed_at c k.0 r (omega (arith, k.1)) (omega (arith, k.1))
 
-  pub cover_at_lem : (r : ℕ) → place_of c ≡ P.At r → CV.At (ends_at r c.period c.back c.ahead) ≡ covered_by c
+  pub cover_at_lem : (r : ℕ) → place_of c ≡ Some r → Some (ends_at r c.period c.back c.ahead) ≡ covered_by c
   cover_at_lem r q = let k = found (accepted c) (spot c.day c.micro) r q in rw (k.0, ← k.1)
 
-  pub cover_none : place_of c ≡ P.Outside → CV.Outside ≡ covered_by c
+  pub cover_none : place_of c ≡ None → None ≡ covered_by c
   cover_none q = rw (none (accepted c) (spot c.day c.micro) q)
 
 module _ (c : Correlation) (ds : List ℤ) (os : List ℕ) (e : ℤ) where
@@ -80,24 +77,24 @@ module _ (c : Correlation) (ds : List ℤ) (os : List ℕ) (e : ℤ) where
 
   -- the way back, from what was found in the cover
   module _ (r : ℕ) (s : Standing c ds os e r) (h : Handed) where
-    abbrev Lands : Placed → Type 0
+    abbrev Lands : Result ℕ Refusal → Type 0
     Lands p = landed p ≡ outcome (covering c.scale (is_current c.scale e c.day) (C.cover_of (ends_at r c.period c.back c.ahead)) h ds os e)
 
-    pub reached : (p : Placed) → Lands p → Reached r c.period p
-    reached (L.At w) f =
+    pub reached : (p : Result ℕ Refusal) → Lands p → Reached r c.period p
+    reached (Ok w) f =
         let m = T.near (accepted c) s.accepts (clock_of c ds os) ds os e s.serves (r * 1000000) s.based h w f in
         let p : c.ahead * c.period ≤ 8389144870912000000 =
         mul-le-mul {n₂ = 2147483648} {m₂ = 3906500000} (omega (arith, s.windowed.ahead_to)) s.windowed.based.slow in
         record { based = s.windowed.based; low = m.low; high = omega (arith, m.high, p) }
-    reached (L.Refused g) f = omega arith
+    reached (Err g) f = omega arith
 
-    pub lasts : (p : Placed) → Lands p → Lasts c h ds os e (last_in r c.period p)
+    pub lasts : (p : Result ℕ Refusal) → Lands p → Lasts c h ds os e (last_in r c.period p)
     unfolding tick_of
-    lasts (L.At w) f = (
+    lasts (Ok w) f = (
       T.few (accepted c) s.accepts (clock_of c ds os) ds os e s.serves (r * 1000000) s.based h w f,
       ap (valued 0) (T.turn_is (accepted c) s.accepts (clock_of c ds os) ds os e s.serves (r * 1000000) s.based h w f),
     )
-    lasts (L.Refused g) f =
+    lasts (Err g) f =
         (omega arith, ap (valued 0) (T.turn_not (accepted c) s.accepts (clock_of c ds os) ds os e s.serves (r * 1000000) s.based h (number_of g) f))
 
   -- ---- not accepted, and a list that serves
@@ -115,10 +112,10 @@ module _ (c : Correlation) (ds : List ℤ) (os : List ℕ) (e : ℤ) where
     pub serves_it : list_serves c.scale ds os e ≡ true
     serves_it = serves_own c.scale i ds os e
 
-    pub own_none : place_of c ≡ P.Outside → accepted c ≡ false
+    pub own_none : place_of c ≡ None → accepted c ≡ false
     own_none q = none (accepted c) (spot c.day c.micro) q
 
-    pub own_stands : (r : ℕ) → place_of c ≡ P.At r → Standing c ds os e r
+    pub own_stands : (r : ℕ) → place_of c ≡ Some r → Standing c ds os e r
     own_stands r q =
         let k = found (accepted c) (spot c.day c.micro) r q in
         let z : seconds_in c.scale c.day ds os ≡ 0 = rw i in
@@ -146,10 +143,10 @@ module _ (c : Correlation) (ds : List ℤ) (os : List ℕ) (e : ℤ) where
       tick_listless h = ap (valued 0) (T.turn_listless (accepted c) (clock_of c ds os) h ds os e not_serves)
 
     -- the reference in TAI, from its place in UTC
-    pub base_none : place_of c ≡ P.Outside → B.Outside ≡ base_of c ds os e
+    pub base_none : place_of c ≡ None → None ≡ base_of c ds os e
     base_none q = rw (none (accepted c) (spot c.day c.micro) q)
 
-    module _ (p : ℕ) (q : place_of c ≡ P.At p) where
+    module _ (p : ℕ) (q : place_of c ≡ Some p) where
       known : (accepted c ≡ true) × (spot c.day c.micro ≡ p)
       known = found (accepted c) (spot c.day c.micro) p q
 
@@ -164,11 +161,11 @@ module _ (c : Correlation) (ds : List ℤ) (os : List ℕ) (e : ℤ) where
           ∙ day_place c.day (omega (arith, s.day.from)) (omega (arith, s.day.to))
 
       pub base_is : (j : ℕ) → j ≡ offset_on ds os (day_at (p / 86400000000)) → (n : Bool) → n ≡ is_current S.Utc e (day_at (p / 86400000000)) →
-          B.At (p + j * 1000000) n ≡ base_of c ds os e
+          Some (base_as (p + j * 1000000) n) ≡ base_of c ds os e
       base_is j f n g =
-          ap₂ (λ (x : ℕ) (y : Bool). B.At (p + x * 1000000) y)
+          ap₂ (λ (x : ℕ) (y : Bool). Some (base_as (p + x * 1000000) y))
           (f ∙ ap (offset_on ds os) day_is ∙ sym (seconds_is c.day)) (g ∙ ap (is_current S.Utc e) day_is ∙ utc_scale (λ (z : Scale). is_current z e c.day))
-          ∙ ap (λ (x : ℕ). B.At (x + seconds_in c.scale c.day ds os * 1000000) (is_current c.scale e c.day)) (sym known.1)
+          ∙ ap (λ (x : ℕ). Some (base_as (x + seconds_in c.scale c.day ds os * 1000000) (is_current c.scale e c.day))) (sym known.1)
           ∙ rw known.0
 
     -- accepted, with its reference at r in TAI; n says whether its day is not expired
@@ -176,10 +173,10 @@ module _ (c : Correlation) (ds : List ℤ) (os : List ℕ) (e : ℤ) where
       pub serves_utc : list_serves c.scale ds os e ≡ true
       serves_utc = rw (i, l)
 
-      pub utc_none : base_of c ds os e ≡ B.Outside → accepted c ≡ false
+      pub utc_none : base_of c ds os e ≡ None → accepted c ≡ false
       utc_none q = based_none (accepted c) (shifted c ds os) (is_current c.scale e c.day) q
 
-      module _ (r : ℕ) (n : Bool) (q : base_of c ds os e ≡ B.At r n) where
+      module _ (r : ℕ) (n : Bool) (q : base_of c ds os e ≡ Some (base_as r n)) where
         told : (accepted c ≡ true) × ((shifted c ds os ≡ r) × (is_current c.scale e c.day ≡ n))
         told = based_at (accepted c) (shifted c ds os) r (is_current c.scale e c.day) n q
 

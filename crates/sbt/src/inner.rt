@@ -3,20 +3,12 @@ ghost use Rattle.std.specs.Prelude.{◌≡◌};
 ghost use Rattle.sbt.specs.Places.{covered_by};
 
 use crate::Correlation;
-use clock::inner::{Ends, Place};
-
-#[derive(Clone, Copy)]
-pub enum Covered {
-    At(Ends),
-    Outside,
-}
+use clock::inner::Ends;
 
 // The cover of a correlation that is accepted, in its own scale: time(-b) and time(a).
-pub fn cover(c: Correlation) -> Covered
+pub fn cover(c: Correlation) -> Option<Ends>
     ensures { result ≡ covered_by c }
 {
-    match crate::reference_of(c) {
-        Place::At(r) => Covered::At(crate::ends_of(r, c.period, c.back, c.ahead)),
-        Place::Outside => Covered::Outside,
-    }
+    let r = crate::reference_of(c)?;
+    Some(crate::ends_of(r, c.period, c.back, c.ahead))
 }

@@ -4,18 +4,19 @@
 #![tactic(auto)]
 
 ghost use Rattle.std.specs.Prelude.{◌≡◌, true, ◌<◌};
-ghost use Rattle.scales.specs.Meaning.{slip, tick_slip};
-ghost use Rattle.leap.specs.Meaning as Leap;
+ghost use Rattle.scales.specs.Meaning.{slip, slip_utc, tick_slip};
 ghost use Rattle.via_tai.specs.Meaning.{is_utc};
 ghost use Rattle.sbt.specs.Meaning.{date_of, tick_of};
-ghost use Rattle.sbt.specs.Places.{unmarked_of, place_of, base_of, reckoned_at, time_at, ends_at, count_from, last_at, tick_from, last_in, Based, Windowed, Near, Reached};
+ghost use Rattle.sbt.specs.Places.{unmarked_of, place_of, base_of, reckoned_at, time_at, ends_at, count_from, last_at, tick_from, Based, Windowed, Near};
 ghost use Rattle.sbt.specs.Found.{Lasts};
 
 pub mod inner;
 
-use clock::inner::{Base, Ends, Place, Placed, Reckoned};
+use clock::Receipt;
+use clock::inner::{Base, Ends, Reckoned};
 use handed::Handed;
-use scales::{Dated, Mark, Refusal, Scale, Tick, Ticked};
+use leap::{Accepted, List};
+use scales::{Mark, Record, Refusal, Refused, Scale, Tick, Utc};
 
 // A reference tick and its time, the period in picoseconds, and the window: ticks back and ticks ahead.
 #[derive(Clone, Copy)]
@@ -30,38 +31,33 @@ pub struct Correlation {
 }
 
 // The place of the reference in its own scale, where the correlation is accepted.
-fn reference_of(c: Correlation) -> Place
+fn reference_of(c: Correlation) -> Option<u64>
     ensures { result ≡ place_of c }
 {
-    if c.period < 3_906_000_000 {
-        return Place::Outside;
+    if c.period < 3_906_000_000 || 3_906_500_000 < c.period {
+        return None;
     }
-    if 3_906_500_000 < c.period {
-        return Place::Outside;
-    }
-    if 2_147_483_648 < c.back {
-        return Place::Outside;
-    }
-    if 2_147_483_647 < c.ahead {
-        return Place::Outside;
+    if 2_147_483_648 < c.back || 2_147_483_647 < c.ahead {
+        return None;
     }
     let scale = c.scale;
     clock::inner::place_in(scale, c.day, c.micro)
 }
 
 // The reference of a UTC correlation in TAI, where it is accepted.
-fn base_of(c: Correlation, days: &[i64], offsets: &[u64], last: i64) -> Base
-    requires scale_value { is_utc c.scale ≡ true }
-    requires last_value { Leap.accepted days.now offsets.now last ≡ true }
-    ensures { result ≡ base_of c days.now offsets.now last }
+fn base_of(c: Correlation, list: &Accepted) -> Option<Base>
+    requires { is_utc c.scale ≡ true }
+    ensures { result ≡ base_of c list.now.days list.now.offsets list.now.last }
 {
-    let Place::At(p) = reference_of(c) else {
-        return Base::Outside;
-    };
+    let p = reference_of(c)?;
+    let list = list.list();
     let day = p / 86_400_000_000;
-    let offset = leap::inner::offset_on(days, offsets, day);
-    let current = clock::inner::is_current(day, last);
-    Base::At(p + offset * 1_000_000, current)
+    let offset = leap::inner::offset_on(list, day);
+    let current = clock::inner::is_current(day, list.last());
+    Some(Base {
+        at: p + offset * 1_000_000,
+        current,
+    })
 }
 
 // Time(k). A time before the reference at r is rounded away from it, towards the past.
@@ -109,65 +105,35 @@ fn reckon(c: Correlation, tick: u32, r: u64) -> Reckoned
 }
 
 // The date of a tick under a UTC correlation, by the list.
-fn date_by_list(
-    c: Correlation,
-    tick: Tick,
-    receipt_day: i64,
-    receipt_micro: u64,
-    days: &[i64],
-    offsets: &[u64],
-    last: i64,
-) -> Dated
+fn date_by_list(c: Correlation, tick: Tick, receipt: Receipt, list: &List) -> Result<Utc, Refusal>
     requires { is_utc c.scale ≡ true }
-    ensures { slip result ≡ unmarked_of c tick.0 receipt_day receipt_micro days.now offsets.now last }
+    ensures { slip_utc result ≡ unmarked_of c tick.0 receipt.day receipt.micro list.now.days list.now.offsets list.now.last }
 {
-    if !leap::is_accepted(days, offsets, last) {
-        return Dated::Refused(Refusal::ListNotAccepted, Scale::Utc);
-    }
-    let Base::At(r, current) = base_of(c, days, offsets, last) else {
-        return Dated::Refused(Refusal::CorrelationNotAccepted, Scale::Utc);
-    };
-    let k = reckon(c, tick.0, r);
-    clock::inner::date_by_list(k, current, receipt_day, receipt_micro, days, offsets, last)
+    let list = list.accepted()?;
+    let base = base_of(c, &list).ok_or(Refusal::CorrelationNotAccepted)?;
+    let k = reckon(c, tick.0, base.at);
+    clock::inner::date_by_list(k, base.current, receipt, &list)
 }
 
 // The date of a tick before it is marked. A list is used under a UTC correlation alone.
-fn unmarked(
-    c: Correlation,
-    tick: Tick,
-    receipt_day: i64,
-    receipt_micro: u64,
-    days: &[i64],
-    offsets: &[u64],
-    last: i64,
-) -> Dated
-    ensures { slip result ≡ unmarked_of c tick.0 receipt_day receipt_micro days.now offsets.now last }
+fn unmarked(c: Correlation, tick: Tick, receipt: Receipt, list: &List) -> Result<Record, Refused>
+    ensures { slip result ≡ unmarked_of c tick.0 receipt.day receipt.micro list.now.days list.now.offsets list.now.last }
 {
     let scale = c.scale;
-    if changes::inner::is_utc(scale) {
-        return date_by_list(c, tick, receipt_day, receipt_micro, days, offsets, last);
+    if scale == Scale::Utc {
+        let t = date_by_list(c, tick, receipt, list).map_err(|f| f.of(scale))?;
+        return Ok(t.to_record());
     }
-    let Place::At(r) = reference_of(c) else {
-        return Dated::Refused(Refusal::CorrelationNotAccepted, scale);
-    };
-    let k = reckon(c, tick.0, r);
-    clock::inner::date(scale, k, receipt_day, receipt_micro)
+    let r = reference_of(c).ok_or(Refusal::CorrelationNotAccepted.of(scale))?;
+    clock::inner::date(scale, reckon(c, tick.0, r), receipt)
 }
 
 // The date of a tick, received on a day at a microsecond of the correlation's scale, marked with the reference tick.
-pub fn date(
-    c: Correlation,
-    tick: Tick,
-    receipt_day: i64,
-    receipt_micro: u64,
-    days: &[i64],
-    offsets: &[u64],
-    last: i64,
-) -> Dated
-    ensures { slip result ≡ date_of c tick.0 receipt_day receipt_micro days.now offsets.now last }
+pub fn date(c: Correlation, tick: Tick, receipt: Receipt, list: &List) -> Result<Record, Refused>
+    ensures { slip result ≡ date_of c tick.0 receipt.day receipt.micro list.now.days list.now.offsets list.now.last }
 {
-    let d = unmarked(c, tick, receipt_day, receipt_micro, days, offsets, last);
-    d.with_mark(Mark::Correlated(c.tick.0 as u64))
+    let r = unmarked(c, tick, receipt, list)?;
+    Ok(r.with_mark(Mark::Correlated(c.tick.0 as u64)))
 }
 
 // ---- the tick of a time
@@ -190,57 +156,42 @@ fn tick_from(reference: u32, k: u64) -> u32
     (((reference as u64) + k + 2_147_483_648) % 4_294_967_296) as u32
 }
 
-// The last count whose time is not later than a place in the cover, for the reference at r, or the refusal that was found instead.
-fn last_in(r: u64, p: u64, w: Placed) -> Placed
-    requires { Reached r p w }
-    ensures { result ≡ last_in r p w }
-{
-    match w {
-        Placed::At(w) => Placed::At(last_at(r, p, w)),
-        Placed::Refused(f) => Placed::Refused(f),
-    }
-}
-
 // The last count of a handed time under a UTC correlation, by the list.
-fn last_by_list(c: Correlation, h: Handed, days: &[i64], offsets: &[u64], last: i64) -> Placed
+fn last_by_list(c: Correlation, h: Handed, list: &List) -> Result<u64, Refusal>
     requires { is_utc c.scale ≡ true }
-    ensures { Lasts c h days.now offsets.now last result }
+    ensures { Lasts c h list.now.days list.now.offsets list.now.last result }
 {
-    if !leap::is_accepted(days, offsets, last) {
-        return Placed::Refused(clock::inner::unaccepted(h, Refusal::ListNotAccepted));
-    }
-    let Base::At(r, current) = base_of(c, days, offsets, last) else {
-        return Placed::Refused(clock::inner::unaccepted(h, Refusal::CorrelationNotAccepted));
+    let Ok(list) = list.accepted() else {
+        return Err(clock::inner::unaccepted(h, Refusal::ListNotAccepted));
     };
-    let v = ends_of(r, c.period, c.back, c.ahead);
-    last_in(
-        r,
-        c.period,
-        clock::inner::turn_by_list(current, v, h, days, offsets, last),
-    )
+    let Some(base) = base_of(c, &list) else {
+        return Err(clock::inner::unaccepted(h, Refusal::CorrelationNotAccepted));
+    };
+    let v = ends_of(base.at, c.period, c.back, c.ahead);
+    let w = clock::inner::turn_by_list(base.current, v, h, &list)?;
+    Ok(last_at(base.at, c.period, w))
 }
 
 // The last count of a handed time. A list is used under a UTC correlation alone.
-fn last_of(c: Correlation, h: Handed, days: &[i64], offsets: &[u64], last: i64) -> Placed
-    ensures { Lasts c h days.now offsets.now last result }
+fn last_of(c: Correlation, h: Handed, list: &List) -> Result<u64, Refusal>
+    ensures { Lasts c h list.now.days list.now.offsets list.now.last result }
 {
     let scale = c.scale;
-    if changes::inner::is_utc(scale) {
-        return last_by_list(c, h, days, offsets, last);
+    if scale == Scale::Utc {
+        return last_by_list(c, h, list);
     }
-    let Place::At(r) = reference_of(c) else {
-        return Placed::Refused(clock::inner::unaccepted(h, Refusal::CorrelationNotAccepted));
+    let Some(r) = reference_of(c) else {
+        return Err(clock::inner::unaccepted(h, Refusal::CorrelationNotAccepted));
     };
     let v = ends_of(r, c.period, c.back, c.ahead);
-    last_in(r, c.period, clock::inner::turn(scale, v, h))
+    let w = clock::inner::turn(scale, v, h)?;
+    Ok(last_at(r, c.period, w))
 }
 
 // The tick of a handed time: the last of the window whose time is not later.
-pub fn tick_of(c: Correlation, h: Handed, days: &[i64], offsets: &[u64], last: i64) -> Ticked
-    ensures { tick_slip result ≡ tick_of c h days.now offsets.now last }
+pub fn tick_of(c: Correlation, h: Handed, list: &List) -> Result<Tick, Refusal>
+    ensures { tick_slip result ≡ tick_of c h list.now.days list.now.offsets list.now.last }
 {
-    match last_of(c, h, days, offsets, last) {
-        Placed::At(k) => Ticked::Tick(Tick(tick_from(c.tick.0, k))),
-        Placed::Refused(f) => Ticked::Refused(f),
-    }
+    let k = last_of(c, h, list)?;
+    Ok(Tick(tick_from(c.tick.0, k)))
 }

@@ -154,6 +154,17 @@ impl Time {
         }
     }
 
+    // The count of a time in its own scale.
+    pub fn count(self) -> u64
+        ensures { result ≡ time_count self }
+    {
+        match self {
+            Time::Tai(t) => t.0,
+            Time::Utc(t) => t.0,
+            Time::Gps(t) => t.0,
+        }
+    }
+
     pub fn to_record(self) -> Record
         ensures { result ≡ record_at (time_scale self) (time_count self) }
     {

@@ -1,5 +1,5 @@
 -- The ways out of the two halves: the TAI count on the way, and a law for each refusal and each answer. Assumes nothing.
-use Rattle.std.specs.Prelude.{◌≡◌, Bool, true, false, List, ℕ, ◌+◌, ◌-◌, ◌*◌, ◌/◌, ◌%◌, ◌<◌, ◌≤◌, leb, ltb, ℤ, pos, ◌+ℤ◌}
+use Rattle.std.specs.Prelude.{◌≡◌, Bool, true, false, List, ℕ, ◌+◌, ◌-◌, ◌*◌, ◌/◌, ◌%◌, ◌<◌, ◌≤◌, leb, ltb, ℤ, pos, ◌+ℤ◌, Result, Ok, Err}
 use Rattle.std.proofs.Common.{sym, ap, subst, ◌∙◌, arith, leb-false, lt-ltb, le-ltb}
 use Rattle.std.specs.Int.Signed.{le_z}
 use Rattle.axis.specs.Meaning.{place_of_day, day_at, micros_at, Moment, day_micros, since, moment_of}
@@ -14,8 +14,6 @@ use Rattle.scales.specs.declared.Scale.TheVariants as S
 use Rattle.scales.specs.declared.Refusal.{Refusal}
 use Rattle.scales.specs.declared.Refusal.TheVariants as R
 use Rattle.scales.specs.declared.Tai.{Tai}
-use Rattle.scales.specs.declared.DatedTai.{DatedTai}
-use Rattle.scales.specs.declared.DatedTai.TheVariants as DT
 use Rattle.leap.specs.Meaning.{seconds, accepted, offset_on, tai_of, is_step, has_micro, is_expired_day, is_expired_tai, utc_of}
 use Rattle.leap.specs.Places.{tai_at_lem}
 use Rattle.leap.specs.Steps.{steps}
@@ -32,62 +30,62 @@ pub record OnTheWay (c : ℕ) : Type 0 where
 pub far_on : {c : ℕ} → OnTheWay c → 10000000 ≤ c
 far_on w = omega (arith, w.from)
 
-abbrev pub counted : DatedTai → Outcome ℤ
-counted (DT.At t) = answer (micros_at t.0)
-counted (DT.Refused f) = refused (number_of f)
+abbrev pub counted : Result Tai Refusal → Outcome ℤ
+counted (Ok t) = answer (micros_at t.0)
+counted (Err f) = refused (number_of f)
 
-abbrev Held : DatedTai → Type 0
-Held (DT.At t) = OnTheWay t.0
-Held (DT.Refused f) = 0 ≤ 0
+abbrev Held : Result Tai Refusal → Type 0
+Held (Ok t) = OnTheWay t.0
+Held (Err f) = 0 ≤ 0
 
-pub record Left (j : Judged ℤ) (r : DatedTai) : Type 0 where
+pub record Left (j : Judged ℤ) (r : Result Tai Refusal) : Type 0 where
   pub is : counted r ≡ outcome j
   pub held : Held r
 
 -- a chain leaves one answer
-counted_one : (a b : DatedTai) → counted a ≡ counted b → a ≡ b
-counted_one (DT.At x) (DT.At y) e =
+counted_one : (a b : Result Tai Refusal) → counted a ≡ counted b → a ≡ b
+counted_one (Ok x) (Ok y) e =
     let z : micros_at x.0 ≡ micros_at y.0 = cc in
     let q : x.0 ≡ y.0 = sub_inj_same 3456000000000000 x.0 y.0 z in
-    λ i. DT.At (record { 0 = q i })
-counted_one (DT.At x) (DT.Refused g) e = absurd (no_answer (sym e))
-counted_one (DT.Refused f) (DT.At y) e = absurd (no_answer e)
-counted_one (DT.Refused f) (DT.Refused g) e = let q : number_of f ≡ number_of g = cc in ap DT.Refused (refusals f g q)
+    λ i. Ok (record { 0 = q i })
+counted_one (Ok x) (Err g) e = absurd (no_answer (sym e))
+counted_one (Err f) (Ok y) e = absurd (no_answer e)
+counted_one (Err f) (Err g) e = let q : number_of f ≡ number_of g = cc in ap Err (refusals f g q)
 
-pub left_one : (j : Judged ℤ) (a b : DatedTai) → Left j a → Left j b → a ≡ b
+pub left_one : (j : Judged ℤ) (a b : Result Tai Refusal) → Left j a → Left j b → a ≡ b
 left_one j a b p q = counted_one a b (p.is ∙ sym q.is)
 
 -- ---- what is left of a change when its time was taken to a TAI count, or was refused
-module _ {j : Judged ℤ} {r : DatedTai} (w : Left j r) where
-  pub way_held : {t : Tai} → r ≡ DT.At t → OnTheWay t.0
+module _ {j : Judged ℤ} {r : Result Tai Refusal} (w : Left j r) where
+  pub way_held : {t : Tai} → r ≡ Ok t → OnTheWay t.0
   way_held g = subst Held g w.held
 
   module _ (to : Scale) (next : ℤ → Judged Moment) where
-    passes : (d : DatedTai) → r ≡ d → dated to (onward next (counted d)) ≡ dated to (outcome (and_then j next))
+    passes : (d : Result Tai Refusal) → r ≡ d → dated to (onward next (counted d)) ≡ dated to (outcome (and_then j next))
     passes d g = ap (dated to) (sym (then_is j next ∙ ap (onward next) (sym w.is ∙ ap counted g)))
 
-    pub way_on : {t : Tai} {x : Slip} → r ≡ DT.At t → x ≡ dated to (outcome (next (micros_at t.0))) → x ≡ dated to (outcome (and_then j next))
-    way_on {t} g h = h ∙ passes (DT.At t) g
+    pub way_on : {t : Tai} {x : Slip} → r ≡ Ok t → x ≡ dated to (outcome (next (micros_at t.0))) → x ≡ dated to (outcome (and_then j next))
+    way_on {t} g h = h ∙ passes (Ok t) g
 
-    pub way_out : {f : Refusal} → r ≡ DT.Refused f → dated to (refused (number_of f)) ≡ dated to (outcome (and_then j next))
-    way_out {f} g = passes (DT.Refused f) g
+    pub way_out : {f : Refusal} → r ≡ Err f → dated to (refused (number_of f)) ≡ dated to (outcome (and_then j next))
+    way_out {f} g = passes (Err f) g
 
 -- ---- to the TAI count: 7 of each scale
 module _ (s : Scale) (n : ℕ) (f : Bool → Moment → Judged ℤ) (seven : refused 7 ≡ outcome (f false (moment_at s n))) where
-  left_out : in_span s (moment_at s n).day (moment_at s n).micro ≡ false → Left (of_count s n f) (DT.Refused R.OutsideSpan)
+  left_out : in_span s (moment_at s n).day (moment_at s n).micro ≡ false → Left (of_count s n f) (Err R.OutsideSpan)
   left_out e = record { is = seven ∙ ap (λ (b : Bool). outcome (f b (moment_at s n))) (sym e); held = omega arith }
 
-  pub left_early : n / bound s < first_at s → Left (of_count s n f) (DT.Refused R.OutsideSpan)
+  pub left_early : n / bound s < first_at s → Left (of_count s n f) (Err R.OutsideSpan)
   left_early h = left_out (span_early s (n / bound s) (n % bound s) h)
 
-  pub left_late : 76524 < n / bound s → Left (of_count s n f) (DT.Refused R.OutsideSpan)
+  pub left_late : 76524 < n / bound s → Left (of_count s n f) (Err R.OutsideSpan)
   left_late h = left_out (span_late s (n / bound s) (n % bound s) h)
 
 module _ (n : ℕ) where
   pub count_is : since (day_at (n / day_micros)) (n % day_micros) ≡ micros_at n
   count_is = let e : n / day_micros * day_micros + n % day_micros ≡ n = omega arith in since_at (n / day_micros) (n % day_micros) ∙ ap micros_at e
 
-  pub left_tai : 29773 ≤ n / day_micros → n / day_micros ≤ 76524 → (t : Tai) → t.0 ≡ n → Left (of_count S.Tai n from_tai) (DT.At t)
+  pub left_tai : 29773 ≤ n / day_micros → n / day_micros ≤ 76524 → (t : Tai) → t.0 ≡ n → Left (of_count S.Tai n from_tai) (Ok t)
   left_tai h k t q =
       record {
         is =
@@ -96,7 +94,7 @@ module _ (n : ℕ) where
         held = record { from = omega arith; to = omega arith };
       }
 
-  pub left_gps : 32700 ≤ n / day_micros → n / day_micros ≤ 76524 → (t : Tai) → t.0 ≡ n + 19000000 → Left (of_count S.Gps n from_gps) (DT.At t)
+  pub left_gps : 32700 ≤ n / day_micros → n / day_micros ≤ 76524 → (t : Tai) → t.0 ≡ n + 19000000 → Left (of_count S.Gps n from_gps) (Ok t)
   left_gps h k t q =
       record {
         is =
@@ -122,14 +120,14 @@ module _ (ds : List ℤ) (os : List ℕ) (e : ℤ) (w : accepted ds os e ≡ tru
     inside : in_span S.Utc (day_at day) micro ≡ true
     inside = span_in S.Utc day micro h k (omega arith)
 
-    pub left_expired : place_of_day e < day → Left (of_count S.Utc n (from_utc ds os e)) (DT.Refused R.ListExpired)
+    pub left_expired : place_of_day e < day → Left (of_count S.Utc n (from_utc ds os e)) (Err R.ListExpired)
     left_expired l = record { is = sym (rw (inside, after, lt-ltb (place_of_day e) day l)); held = omega arith }
 
-    pub left_second : day ≤ place_of_day e → has_micro ds (day_at day) micro ≡ false → Left (of_count S.Utc n (from_utc ds os e)) (DT.Refused R.SecondLacking)
+    pub left_second : day ≤ place_of_day e → has_micro ds (day_at day) micro ≡ false → Left (of_count S.Utc n (from_utc ds os e)) (Err R.SecondLacking)
     left_second l m = record { is = sym (rw (inside, after, le-ltb (place_of_day e) day l, m)); held = omega arith }
 
     pub left_utc : day ≤ place_of_day e → has_micro ds (day_at day) micro ≡ true → (t : Tai) → t.0 ≡ day * day_micros + micro + offset_on ds os (day_at day) * 1000000
-        → Left (of_count S.Utc n (from_utc ds os e)) (DT.At t)
+        → Left (of_count S.Utc n (from_utc ds os e)) (Ok t)
     left_utc l m t q =
         let b = offset_small ds os e w day in
         record {
