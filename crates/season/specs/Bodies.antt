@@ -1,5 +1,5 @@
 -- What the reader's private functions answer, and that it is the meaning. Assumes nothing.
-use Rattle.std.specs.Prelude.{◌≡◌, Bool, true, false, ◌&&◌, List, ◌∷◌, ◌++◌, ℕ, ◌+◌, ◌*◌, ◌/◌, ◌%◌, ◌≤◌, ◌<◌, leb, eqb, ℤ, pos, negsuc, length, drop}
+use Rattle.std.specs.Prelude.{◌≡◌, Bool, true, false, ◌&&◌, List, ◌∷◌, ◌++◌, ℕ, ◌+◌, ◌*◌, ◌/◌, ◌%◌, ◌≤◌, ◌<◌, leb, eqb, ℤ, pos, negsuc, length, drop, Option, Some, None, Result, Ok, Err}
 use Rattle.std.proofs.Math.Path.{refl, ap, ap₂}
 use Rattle.std.proofs.Common.{sym, ◌∙◌, arith, le-leb, eq-eqb, ne_eqb}
 use Rattle.std.proofs.Math.Bool.{and_assoc}
@@ -15,19 +15,17 @@ use Rattle.octets.specs.Field.{Bytes}
 use Rattle.octets.specs.Parts.{part_lt}
 use Rattle.scales.specs.Meaning.{number_of}
 use Rattle.scales.specs.Place.{and_both}
-use Rattle.scales.specs.declared.Counted.{Counted}
-use Rattle.scales.specs.declared.Counted.TheVariants as N
+use Rattle.scales.specs.declared.Refusal.{Refusal}
 use Rattle.scales.specs.declared.Scale.TheVariants as S
 use Rattle.sbt.specs.Meaning.{accepted}
 use Rattle.sbt.specs.Places.{covered_by}
 use Rattle.sbt.specs.Accepted.{sound}
 use Rattle.sbt.specs.declared.Correlation.{Correlation}
-use Rattle.sbt.specs.declared.inner.Covered.{Covered}
-use Rattle.sbt.specs.declared.inner.Covered.TheVariants as CV
+use Rattle.clock.specs.declared.inner.Ends.{Ends}
 use Rattle.season.specs.Meaning.{all, each, count_of, entry_at, cover_in, position_in, body_at, correlation_from, correlation_in, cover_of, same_z, same_cover, is_sized, entry_kept, contents_kept, body_kept, is_season, words_of, entry_words, Entered}
 use Rattle.season.specs.Places.{entry_of}
 use Rattle.season.specs.Kept.{Fit}
-use Rattle.season.specs.Each.{all_both}
+use Rattle.season.specs.Each.{all_at, all_both}
 use Rattle.season.specs.Covers.{ends_of, cover_tai}
 use Rattle.season.specs.declared.Entry.{Entry}
 
@@ -49,9 +47,9 @@ body_of s at =
     body_from (part s at 4) (place_of_micros (signed_of (part s (at + 4) 8))) (part s (at + 12) 8) (part s (at + 20) 4) (part s (at + 24) 4)
 
 -- the entry's cover is the correlation's: a place of the axis of microseconds stands 2^63 - 3456000000000000 further on
-abbrev pub same_as : Entry → Covered → Bool
-same_as e (CV.At v) = eqb e.from (v.from + 9219916036854775808) && eqb e.to (v.to + 9219916036854775808)
-same_as e CV.Outside = false
+abbrev pub same_as : Entry → Option Ends → Bool
+same_as e (Some v) = eqb e.from (v.from + 9219916036854775808) && eqb e.to (v.to + 9219916036854775808)
+same_as e None = false
 
 abbrev pub stands_by : Entry → Correlation → Bool
 stands_by e c = same_as e (covered_by c)
@@ -74,9 +72,9 @@ abbrev pub filled : List ℕ → ℕ → List ℤ → List ℤ
 filled s n out = each (entry_words s) n ++ drop (9 * n) out
 
 -- ---- what is handed back
-abbrev pub entered_by : Counted → List ℤ → Entered
-entered_by (N.Count n) out = record { number = 0; count = n; lent = out }
-entered_by (N.Refused f) out = record { number = number_of f; count = 0; lent = out }
+abbrev pub entered_by : Result ℕ Refusal → List ℤ → Entered
+entered_by (Ok n) out = record { number = 0; count = n; lent = out }
+entered_by (Err f) out = record { number = number_of f; count = 0; lent = out }
 
 -- ---- what the code compares is what the meaning does
 both_le : (a b : ℕ) → (leb a b && leb b a) ≡ eqb a b
@@ -178,6 +176,24 @@ module _ (s : List ℕ) (k : ℕ) (b : Bytes s) (l : entry_at k + 20 ≤ length 
         (turned_back (part s (entry_at k) 8) (part_lt s (entry_at k) 8 (omega arith) b))
         (turned_back (part s (entry_at k + 8) 8) (part_lt s (entry_at k + 8) 8 (omega arith) b))
         ∙ ap (λ (c : Correlation). (cover_in s k).from ∷ (cover_in s k).to ∷ words_of c) same_body
+
+-- ---- entry k of n and its body as the code reads them, in a file that has the length for n
+module _ (s : List ℕ) (n k : ℕ) (b : Bytes s) (f : Fit s n) (h : k < n) (e : Entry) (c : Correlation) (p : e ≡ entry_of s k) (q : c ≡ body_of s (body_at n k)) where
+  body_read : c ≡ body_of s (body_at (count_of s) k)
+  body_read = q ∙ ap (λ (m : ℕ). body_of s (body_at m k)) f.count
+
+  pub stands_at : stands_by e c ≡ body_kept s k
+  stands_at = ap₂ stands_by p body_read ∙ keeps_body s k b (omega (arith, f.length_is))
+
+  module _ (a : all_stand s n ≡ true) where
+    kept_body : body_kept s k ≡ true
+    kept_body = (and_both (entry_kept s k) (body_kept s k) (all_at (λ j. entry_kept s j && body_kept s j) n k a h)).1
+
+    pub accepted_at : accepted c ≡ true
+    accepted_at = ap accepted body_read ∙ body_accepted s k b (omega (arith, f.length_is)) kept_body
+
+    pub words_at : words_by e c ≡ entry_words s k
+    words_at = ap₂ words_by p body_read ∙ words_are s k b (omega (arith, f.length_is)) kept_body
 
 -- ---- all of them
 pub season_is : (s : List ℕ) → is_season s ≡ (is_sized s && all_stand s (count_of s))

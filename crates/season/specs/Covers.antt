@@ -1,5 +1,5 @@
 -- The cover of an accepted TAI correlation, on the places of the axis: its ends, and that they lie well on the axis. Assumes nothing.
-use Rattle.std.specs.Prelude.{◌≡◌, refl, Bool, true, false, cond, [], ℕ, zero, suc, ◌+◌, ◌-◌, ◌*◌, ◌≤◌, ◌<◌, pos, neg_ℤ}
+use Rattle.std.specs.Prelude.{◌≡◌, refl, Bool, true, false, cond, [], ℕ, zero, suc, ◌+◌, ◌-◌, ◌*◌, ◌≤◌, ◌<◌, pos, neg_ℤ, Some, None}
 use Rattle.std.proofs.Common.{ap, subst, ◌∙◌, mul-le-mul, mul-le-mul_right, add-mul, div-lt_iff_lt-mul, arith, lit<, le-leb}
 use Rattle.std.specs.Int.Signed.{le_z}
 use Rattle.scales.specs.declared.Scale.TheVariants as S
@@ -11,7 +11,6 @@ use Rattle.sbt.specs.Meaning.{accepted, clock_of}
 use Rattle.sbt.specs.Places.{shifted, covered_by, ends_at}
 use Rattle.sbt.specs.Accepted.{sound, runs, based}
 use Rattle.sbt.specs.declared.Correlation.{Correlation}
-use Rattle.sbt.specs.declared.inner.Covered.TheVariants as CV
 use Rattle.season.specs.Meaning.{cover_of}
 
 abbrev pub ends_of : Correlation → Ends
@@ -47,15 +46,15 @@ module _ (c : Correlation) (a : accepted c ≡ true) where
       (div-lt_iff_lt-mul (lit< tt)).1 (omega (arith, spot_few, l, add-mul 2147483648 c.ahead c.period))
 
 -- ---- a cover that is found where a test holds
-pub covered_at : (t : Bool) (x v : Ends) → cond t (CV.At x) CV.Outside ≡ CV.At v → (t ≡ true) × (x ≡ v)
+pub covered_at : (t : Bool) (x v : Ends) → cond t (Some x) None ≡ Some v → (t ≡ true) × (x ≡ v)
 covered_at true x v e = (refl, cc)
 covered_at false x v e = absurd (let z : ◌≡◌ {A = ℕ} 0 1 = cc in omega arith)
 
-pub covered_none : (t : Bool) (x : Ends) → cond t (CV.At x) CV.Outside ≡ CV.Outside → t ≡ false
+pub covered_none : (t : Bool) (x : Ends) → cond t (Some x) None ≡ None → t ≡ false
 covered_none true x e = absurd (let z : ◌≡◌ {A = ℕ} 0 1 = cc in omega arith)
 covered_none false x e = refl
 
-pub few : (c : Correlation) (v : Ends) → covered_by c ≡ CV.At v → (v.from < 8640000000000000) × (v.to < 8640000000000000)
+pub few : (c : Correlation) (v : Ends) → covered_by c ≡ Some v → (v.from < 8640000000000000) × (v.to < 8640000000000000)
 few c v e =
     let w = covered_at (accepted c) (ends_of c) v e in (
       omega (arith, from_few c w.0, ap (λ (x : Ends). x.from) w.1),

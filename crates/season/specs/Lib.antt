@@ -5,6 +5,7 @@ pub mod Places
 pub mod Kept
 pub mod Asked
 pub mod Bodies
+pub mod Read
 pub mod Filling
 pub mod Taking
 pub mod Writing

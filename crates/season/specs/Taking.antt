@@ -1,7 +1,7 @@
 -- The writer takes correlations off their numbers' bits, and their covers on the places of the axis: what its functions answer of one, and
 -- what is taken is the meaning's. Assumes nothing.
-use Rattle.std.specs.Prelude.{◌≡◌, refl, Bool, true, false, cond, ◌&&◌, ◌||◌, List, ℕ, ◌+◌, ◌*◌, ◌%◌, ◌≤◌, ◌<◌, min, ltb, eqb, ℤ, pos, negsuc, nat_abs}
-use Rattle.std.proofs.Common.{sym, ap, ◌∙◌, mod-eq_of_lt, arith, of_z, to_z, to_z-of_z, le-leb, lt-ltb, le-ltb, ltb-true, eq-eqb, ne_eqb}
+use Rattle.std.specs.Prelude.{◌≡◌, refl, Bool, true, false, cond, ◌&&◌, ◌||◌, List, ℕ, ◌+◌, ◌*◌, ◌%◌, ◌≤◌, ◌<◌, min, ltb, eqb, ℤ, pos, negsuc, nat_abs, Option, Some, None}
+use Rattle.std.proofs.Common.{sym, ap, ◌∙◌, mod-eq_of_lt, arith, of_z, to_z, to_z-of_z, le-leb, lt-ltb, ltb-true}
 use Rattle.std.proofs.lemmas.Bool.{false≢true}
 use Rattle.std.specs.Int.Signed.{mag, le_z, lt_z}
 use Rattle.std.specs.Int.{w64}
@@ -16,8 +16,6 @@ use Rattle.sbt.specs.Meaning.{accepted}
 use Rattle.sbt.specs.Places.{covered_by}
 use Rattle.sbt.specs.Accepted.{sound}
 use Rattle.sbt.specs.declared.Correlation.{Correlation}
-use Rattle.sbt.specs.declared.inner.Covered.{Covered}
-use Rattle.sbt.specs.declared.inner.Covered.TheVariants as CV
 use Rattle.season.specs.Meaning.{word_in, field_in, correlation_at, words_kept}
 use Rattle.season.specs.Covers.{ends_of, covered_at, covered_none}
 
@@ -48,15 +46,15 @@ pub record Taken (ws : List ℤ) (k : ℕ) (c : Correlation) : Type 0 where
 abbrev pub is_accepted : List ℤ → ℕ → Bool
 is_accepted ws k = words_kept ws k && accepted (correlation_at ws k)
 
-abbrev pub cover_at : List ℤ → ℕ → Covered
-cover_at ws k = cond (is_accepted ws k) (CV.At (ends_of (correlation_at ws k))) CV.Outside
+abbrev pub cover_at : List ℤ → ℕ → Option Ends
+cover_at ws k = cond (is_accepted ws k) (Some (ends_of (correlation_at ws k))) None
 
 -- one that begins after the place where the cover before it ends
 abbrev pub may_come : List ℤ → ℕ → ℕ → Bool
 may_come ws k before = is_accepted ws k && (eqb k 0 || ltb before (ends_of (correlation_at ws k)).from)
 
-abbrev pub next_at : List ℤ → ℕ → ℕ → Covered
-next_at ws k before = cond (may_come ws k before) (CV.At (ends_of (correlation_at ws k))) CV.Outside
+abbrev pub next_at : List ℤ → ℕ → ℕ → Option Ends
+next_at ws k before = cond (may_come ws k before) (Some (ends_of (correlation_at ws k))) None
 
 -- ---- a number of 64 bits as the code reads it
 pub word_read : (z : ℤ) → mag z < 9223372036854775808 → to_z w64 (of_z w64 z) ≡ z
@@ -129,24 +127,7 @@ module _ (ws : List ℤ) (k : ℕ) where
         bits_plain (word_in ws (7 * k + 6)) h.ahead,
       )
 
-  -- ---- the ways out of a cover: a tick too wide, another scale, and the cover of what was taken
-  pub not_tick : 4294967295 < bits_in ws (7 * k) → CV.Outside ≡ cover_at ws k
-  not_tick l = go (is_accepted ws k) refl
-    where
-      go : (t : Bool) → is_accepted ws k ≡ t → CV.Outside ≡ cond t (CV.At (ends_of (correlation_at ws k))) CV.Outside
-      go true e =
-          absurd (omega (arith, field_bits 4294967296 (word_in ws (7 * k)) (kept (and_both (words_kept ws k) (accepted (correlation_at ws k)) e).0).tick))
-      go false e = refl
-
-  pub not_tai : (bits_in ws (7 * k + 1) ≡ 0 → ⊥) → CV.Outside ≡ cover_at ws k
-  not_tai l = go (is_accepted ws k) refl
-    where
-      go : (t : Bool) → is_accepted ws k ≡ t → CV.Outside ≡ cond t (CV.At (ends_of (correlation_at ws k))) CV.Outside
-      go true e =
-          let z = field_bits 1 (word_in ws (7 * k + 1)) (kept (and_both (words_kept ws k) (accepted (correlation_at ws k)) e).0).code in
-          absurd (l (omega arith))
-      go false e = refl
-
+  -- ---- the cover of what was taken
   module _ (c : Correlation) (h : Taken ws k c) (m : mag (word_in ws (7 * k)) < 9223372036854775808) (n : mag (word_in ws (7 * k + 1)) < 9223372036854775808)
       (l : bits_in ws (7 * k) ≤ 4294967295) (i : bits_in ws (7 * k + 1) ≡ 0) where
     -- what is accepted has small numbers, so none is negative
@@ -180,29 +161,8 @@ module _ (ws : List ℤ) (k : ℕ) where
 
 -- ---- the cover after the one before it
 module _ (ws : List ℤ) (k before : ℕ) where
-  pub next_none : cover_at ws k ≡ CV.Outside → CV.Outside ≡ next_at ws k before
-  next_none e = rw (covered_none (is_accepted ws k) (ends_of (correlation_at ws k)) e)
-
-  pub may_next : (v : Ends) → next_at ws k before ≡ CV.At v → (may_come ws k before ≡ true) × (ends_of (correlation_at ws k) ≡ v)
+  pub may_next : (v : Ends) → next_at ws k before ≡ Some v → (may_come ws k before ≡ true) × (ends_of (correlation_at ws k) ≡ v)
   may_next v e = covered_at (may_come ws k before) (ends_of (correlation_at ws k)) v e
 
-  pub may_not : next_at ws k before ≡ CV.Outside → may_come ws k before ≡ false
+  pub may_not : next_at ws k before ≡ None → may_come ws k before ≡ false
   may_not e = covered_none (may_come ws k before) (ends_of (correlation_at ws k)) e
-
-  module _ (v : Ends) (e : cover_at ws k ≡ CV.At v) where
-    pub next_first : k ≡ 0 → CV.At v ≡ next_at ws k before
-    next_first z =
-        let f = covered_at (is_accepted ws k) (ends_of (correlation_at ws k)) v e in rw (f.0, eq-eqb k 0 z) (ap CV.At (sym f.1))
-
-    module _ (z : k ≡ 0 → ⊥) where
-      pub next_early : v.from ≤ before → CV.Outside ≡ next_at ws k before
-      next_early h =
-          let f = covered_at (is_accepted ws k) (ends_of (correlation_at ws k)) v e in
-          let l : ltb before (ends_of (correlation_at ws k)).from ≡ false = ap (λ (x : Ends). ltb before x.from) f.1 ∙ le-ltb before v.from h in
-          rw (f.0, ne_eqb k 0 z, l)
-
-      pub next_later : before < v.from → CV.At v ≡ next_at ws k before
-      next_later h =
-          let f = covered_at (is_accepted ws k) (ends_of (correlation_at ws k)) v e in
-          let l : ltb before (ends_of (correlation_at ws k)).from ≡ true = ap (λ (x : Ends). ltb before x.from) f.1 ∙ lt-ltb before v.from h in
-          rw (f.0, ne_eqb k 0 z, l) (ap CV.At (sym f.1))

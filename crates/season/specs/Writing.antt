@@ -1,5 +1,5 @@
 -- What the writer judges and what it writes, from places to the meaning: covers that rise, an entry, a body. Assumes nothing.
-use Rattle.std.specs.Prelude.{◌≡◌, refl, Bool, true, false, ◌&&◌, ◌||◌, List, [], ◌++◌, ℕ, zero, suc, ◌+◌, ◌*◌, ◌<◌, min, ltb, eqb, ℤ, length, take, drop}
+use Rattle.std.specs.Prelude.{◌≡◌, refl, Bool, true, false, ◌&&◌, ◌||◌, List, [], ◌++◌, ℕ, zero, suc, ◌+◌, ◌*◌, ◌<◌, min, ltb, eqb, ℤ, length, take, drop, Some}
 use Rattle.std.proofs.Common.{sym, ap, ap₂, ◌∙◌, arith, length-append, lt-ltb, le-ltb}
 use Rattle.std.proofs.Math.Bool.{and-true}
 use Rattle.std.proofs.Math.Dec.{eqb-suc-zero}
@@ -15,7 +15,6 @@ use Rattle.clock.specs.declared.inner.Ends.{Ends}
 use Rattle.sbt.specs.Meaning.{accepted}
 use Rattle.sbt.specs.Accepted.{sound}
 use Rattle.sbt.specs.declared.Correlation.{Correlation}
-use Rattle.sbt.specs.declared.inner.Covered.TheVariants as CV
 use Rattle.season.specs.Meaning.{all, cover_of, correlation_at, words_kept, is_written, rises, body_at, entry_bytes, body_bytes}
 use Rattle.season.specs.Covers.{EndsAt, ends_of, cover_tai, cover_runs, spot_few, from_few, to_few}
 use Rattle.season.specs.Filling.{lent_part, with_part, fill_none, fill_all, fill_field}
@@ -69,15 +68,9 @@ held_is m h = let q : min m 8640000000000000 ≡ m = omega arith in ap micros_at
 
 module _ (ws : List ℤ) (k : ℕ) (w : Writes ws k) where
   -- ---- an entry: its cover was found, and is that of the meaning
-  pub found_is : (v : Ends) → CV.At v ≡ cover_at ws k → v ≡ ends_of (correlation_at ws k)
+  pub found_is : (v : Ends) → Some v ≡ cover_at ws k → v ≡ ends_of (correlation_at ws k)
   found_is v q =
-      let r : CV.At v ≡ CV.At (ends_of (correlation_at ws k)) = q ∙ rw (keeps ws k w.kept, w.accepts) in cc
-
-  pub found_none : CV.Outside ≡ cover_at ws k → ⊥
-  found_none q =
-      let r : CV.Outside ≡ CV.At (ends_of (correlation_at ws k)) = q ∙ rw (keeps ws k w.kept, w.accepts) in
-      let z : ◌≡◌ {A = ℕ} 0 1 = cc in
-      omega arith
+      let r : Some v ≡ Some (ends_of (correlation_at ws k)) = q ∙ rw (keeps ws k w.kept, w.accepts) in cc
 
   pub from_is : held_micros_at (ends_of (correlation_at ws k)).from ≡ (cover_of (correlation_at ws k)).from
   from_is =
@@ -90,7 +83,7 @@ module _ (ws : List ℤ) (k : ℕ) (w : Writes ws k) where
       held_is (ends_of c).to (to_few c w.accepts) ∙ sym (ap (λ (v : Cover). v.to) (cover_tai c w.accepts refl))
 
   -- three fields, laid one after the other
-  pub entry_laid : (n x y : ℕ) (v : Ends) (out p q r : List ℕ) → length out ≡ 20 → cover_at ws k ≡ CV.At v
+  pub entry_laid : (n x y : ℕ) (v : Ends) (out p q r : List ℕ) → length out ≡ 20 → cover_at ws k ≡ Some v
       → x ≡ bits_of (held_micros_at v.from) → y ≡ bits_of (held_micros_at v.to)
       → p ≡ field (length (take 8 out)) x
       → q ≡ field (length (lent_part 8 16 (p ++ drop 8 out))) y
@@ -108,9 +101,6 @@ module _ (ws : List ℤ) (k : ℕ) (w : Writes ws k) where
   -- ---- a body: what was taken is the meaning's correlation
   pub taken_same : (c : Correlation) → Taken ws k c → c ≡ correlation_at ws k
   taken_same c t = t.is ∙ taken_is ws k w.kept
-
-  pub taken_under : (c : Correlation) → Taken ws k c → c.micro < 86400000000
-  taken_under c t = rw (taken_same c t) (sound (correlation_at ws k) w.accepts).under
 
   -- its reference's microsecond, by its place
   since_is : held_micros_at (spot (correlation_at ws k).day (correlation_at ws k).micro) ≡ since (correlation_at ws k).day (correlation_at ws k).micro

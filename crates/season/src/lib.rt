@@ -15,33 +15,18 @@ pub mod writer;
 fn turn(bits: u64) -> u64
     ensures { result ≡ turned bits }
 {
-    if bits < 9_223_372_036_854_775_808 {
-        return bits + 9_223_372_036_854_775_808;
-    }
-    bits - 9_223_372_036_854_775_808
+    bits.wrapping_add(1 << 63)
 }
 
 // The count of a file that has the length for it.
-#[derive(Clone, Copy)]
-enum Sized {
-    Count(usize),
-    Not,
-}
-
-fn size(bytes: &[u8]) -> Sized
+fn size(bytes: &[u8]) -> Option<usize>
     ensures { result ≡ count_in bytes.now }
 {
     if bytes.len() < 2 {
-        return Sized::Not;
+        return None;
     }
     let n = octets::inner::part(bytes, 0, 2) as usize;
-    if 512 < n {
-        return Sized::Not;
-    }
-    if bytes.len() != 2 + 48 * n {
-        return Sized::Not;
-    }
-    Sized::Count(n)
+    (n <= 512 && bytes.len() == 2 + 48 * n).then_some(n)
 }
 
 // An entry of the contents: the places of its cover's ends, and where its body stands.
@@ -70,14 +55,5 @@ fn follows(e: Entry, n: usize, k: usize, before: u64) -> bool
     requires { (n ≤ 512) × (k < n) }
     ensures { result ≡ may_follow e n k before }
 {
-    if e.position != (2 + 20 * n + 28 * k) as u64 {
-        return false;
-    }
-    if e.to < e.from {
-        return false;
-    }
-    if k == 0 {
-        return true;
-    }
-    before < e.from
+    e.position == (2 + 20 * n + 28 * k) as u64 && e.from <= e.to && (k == 0 || before < e.from)
 }

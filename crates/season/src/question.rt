@@ -2,104 +2,68 @@
 ghost use Rattle.std.specs.Prelude.{◌≡◌};
 ghost use Rattle.season.specs.Meaning.{covering};
 ghost use Rattle.season.specs.Kept.{Fit};
-ghost use Rattle.season.specs.Places.{cover_slip, pass_of, scanned, answered};
+ghost use Rattle.season.specs.Places.{cover_slip, told_of, covers_at, scanned};
 
-use crate::{Entry, Sized};
-use clock::inner::Place;
+use crate::Entry;
+use clock::Receipt;
 use scales::{Refusal, Scale};
 
-// The first and last covered microsecond since day 0, or a refusal: then 0 and 0.
+// The first and last covered microsecond since day 0.
 #[derive(Clone, Copy)]
-pub enum Coverage {
-    Cover(i64, i64),
-    Refused(Refusal),
+pub struct Cover {
+    pub first: i64,
+    pub last: i64,
 }
 
-// Whether an entry covers the receipt, and the places of that cover's ends; else of microsecond 0.
-#[derive(Clone, Copy)]
-struct Seen {
-    found: bool,
-    from: u64,
-    to: u64,
-}
-
-// What is seen with one entry more.
-fn pass(s: Seen, e: Entry, receipt: u64) -> Seen
-    ensures { result ≡ pass_of s e receipt }
+fn cover_of(e: Entry) -> Cover
+    ensures { result ≡ told_of e }
 {
-    if receipt < e.from {
-        return s;
-    }
-    if e.to < receipt {
-        return s;
-    }
-    Seen {
-        found: true,
-        from: e.from,
-        to: e.to,
+    Cover {
+        first: axis::signed_of(crate::turn(e.from)),
+        last: axis::signed_of(crate::turn(e.to)),
     }
 }
 
-// What is seen in contents that are kept.
-#[derive(Clone, Copy)]
-enum Scan {
-    Kept(Seen),
-    Broken,
+// Does the entry's cover have the receipt?
+fn covers(e: Entry, receipt: u64) -> bool
+    ensures { result ≡ covers_at e receipt }
+{
+    e.from <= receipt && receipt <= e.to
 }
 
-fn look_over(bytes: &[u8], n: usize, receipt: u64) -> Scan
+// The entry whose cover has the receipt, in contents that are kept.
+fn look_over(bytes: &[u8], n: usize, receipt: u64) -> Result<Option<Entry>, Refusal>
     requires { Fit bytes.now n }
     ensures { result ≡ scanned bytes.now n receipt }
 {
-    let mut s = Seen {
-        found: false,
-        from: 9_223_372_036_854_775_808,
-        to: 9_223_372_036_854_775_808,
-    };
+    let mut seen = None;
     let mut before = 0;
-    let mut k = 0;
-    while k < n {
+    for k in 0..n {
         let e = crate::entry_at(bytes, k);
         if !crate::follows(e, n, k, before) {
-            return Scan::Broken;
+            return Err(Refusal::SeasonBroken);
         }
-        s = pass(s, e, receipt);
+        if covers(e, receipt) {
+            seen = Some(e);
+        }
         before = e.to;
-        k += 1;
     }
-    Scan::Kept(s)
-}
-
-// What is handed back of a scan for a receipt of the span.
-fn answer(s: Scan) -> Coverage
-    ensures { cover_slip result ≡ answered s }
-{
-    match s {
-        Scan::Kept(t) => {
-            if !t.found {
-                return Coverage::Refused(Refusal::NoEntry);
-            }
-            Coverage::Cover(
-                axis::signed_of(crate::turn(t.from)),
-                axis::signed_of(crate::turn(t.to)),
-            )
-        }
-        Scan::Broken => Coverage::Refused(Refusal::SeasonBroken),
-    }
+    Ok(seen)
 }
 
 // The one cover that has the receipt, a day and a microsecond of TAI. The bodies are not looked at.
-pub fn covering(bytes: &[u8], receipt_day: i64, receipt_micro: u64) -> Coverage
-    ensures { cover_slip result ≡ covering bytes.now receipt_day receipt_micro }
+pub fn covering(bytes: &[u8], receipt: Receipt) -> Result<Cover, Refusal>
+    ensures { cover_slip result ≡ covering bytes.now receipt.day receipt.micro }
 {
-    let Sized::Count(n) = crate::size(bytes) else {
-        return Coverage::Refused(Refusal::SeasonBroken);
-    };
-    match clock::inner::place_in(Scale::Tai, receipt_day, receipt_micro) {
-        Place::At(p) => answer(look_over(bytes, n, p + 9_219_916_036_854_775_808)),
-        Place::Outside => match look_over(bytes, n, 0) {
-            Scan::Kept(_) => Coverage::Refused(Refusal::OutsideSpan),
-            Scan::Broken => Coverage::Refused(Refusal::SeasonBroken),
-        },
+    let n = crate::size(bytes).ok_or(Refusal::SeasonBroken)?;
+    match clock::inner::place_in(Scale::Tai, receipt.day, receipt.micro) {
+        Some(p) => {
+            let seen = look_over(bytes, n, p + 9_219_916_036_854_775_808)?;
+            Ok(cover_of(seen.ok_or(Refusal::NoEntry)?))
+        }
+        None => {
+            look_over(bytes, n, 0)?;
+            Err(Refusal::OutsideSpan)
+        }
     }
 }

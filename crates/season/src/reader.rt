@@ -5,10 +5,9 @@ ghost use Rattle.season.specs.Meaning.{read};
 ghost use Rattle.season.specs.Kept.{Fit};
 ghost use Rattle.season.specs.Bodies.{body_of, stands_by, all_stand, words_by, Filling, filled, entered_by};
 
-use crate::{Entry, Sized};
+use crate::Entry;
 use sbt::Correlation;
-use sbt::inner::Covered;
-use scales::{Counted, Refusal, Scale, Tick};
+use scales::{Refusal, Scale, Tick};
 
 // The correlation whose body stands at a place. A reference beyond the axis stands at its end, outside the span.
 fn body(bytes: &[u8], at: usize) -> Correlation
@@ -32,13 +31,10 @@ fn stands(e: Entry, c: Correlation) -> bool
     ensures { result ≡ stands_by e c }
 {
     match sbt::inner::cover(c) {
-        Covered::At(v) => {
-            if e.from != v.from + 9_219_916_036_854_775_808 {
-                return false;
-            }
-            e.to == v.to + 9_219_916_036_854_775_808
+        Some(v) => {
+            e.from == v.from + 9_219_916_036_854_775_808 && e.to == v.to + 9_219_916_036_854_775_808
         }
-        Covered::Outside => false,
+        None => false,
     }
 }
 
@@ -48,17 +44,12 @@ fn all_stand(bytes: &[u8], n: usize) -> bool
     ensures { result ≡ all_stand bytes.now n }
 {
     let mut before = 0;
-    let mut k = 0;
-    while k < n {
+    for k in 0..n {
         let e = crate::entry_at(bytes, k);
-        if !crate::follows(e, n, k, before) {
-            return false;
-        }
-        if !stands(e, body(bytes, 2 + 20 * n + 28 * k)) {
+        if !crate::follows(e, n, k, before) || !stands(e, body(bytes, 2 + 20 * n + 28 * k)) {
             return false;
         }
         before = e.to;
-        k += 1;
     }
     true
 }
@@ -68,16 +59,17 @@ fn put(e: Entry, c: Correlation, words: &mut [i64])
     requires { (accepted c ≡ true) × (length words.old ≡ 9) }
     ensures { words.new ≡ words_by e c }
 {
-    let day = c.day;
-    words[0] = axis::signed_of(crate::turn(e.from));
-    words[1] = axis::signed_of(crate::turn(e.to));
-    words[2] = (c.tick.0) as i64;
-    words[3] = 0;
-    words[4] = day;
-    words[5] = c.micro as i64;
-    words[6] = c.period as i64;
-    words[7] = c.back as i64;
-    words[8] = c.ahead as i64;
+    words.copy_from_slice(&[
+        axis::signed_of(crate::turn(e.from)),
+        axis::signed_of(crate::turn(e.to)),
+        i64::from(c.tick.0),
+        0,
+        c.day,
+        c.micro as i64,
+        c.period as i64,
+        c.back as i64,
+        c.ahead as i64,
+    ]);
 }
 
 // The numbers of n entries whose bodies are kept.
@@ -85,30 +77,25 @@ fn fill(bytes: &[u8], n: usize, words: &mut [i64])
     requires { Filling bytes.now n (length words.old) }
     ensures { words.new ≡ filled bytes.now n words.old }
 {
-    let mut k = 0;
-    while k < n {
+    for k in 0..n {
         let e = crate::entry_at(bytes, k);
         let c = body(bytes, 2 + 20 * n + 28 * k);
         let at = 9 * k;
-        let end = at + 9;
-        put(e, c, &mut words[at..end]);
-        k += 1;
+        put(e, c, &mut words[at..at + 9]);
     }
 }
 
 // The entries of a file, nine numbers each: its cover's first and last microsecond and its correlation; how many.
-pub fn read(bytes: &[u8], words: &mut [i64]) -> Counted
+pub fn read(bytes: &[u8], words: &mut [i64]) -> Result<u64, Refusal>
     ensures { entered_by result words.new ≡ read bytes.now words.old }
 {
-    let Sized::Count(n) = crate::size(bytes) else {
-        return Counted::Refused(Refusal::SeasonBroken);
-    };
+    let n = crate::size(bytes).ok_or(Refusal::SeasonBroken)?;
     if !all_stand(bytes, n) {
-        return Counted::Refused(Refusal::SeasonBroken);
+        return Err(Refusal::SeasonBroken);
     }
     if words.len() < 9 * n {
-        return Counted::Refused(Refusal::OutputShorter);
+        return Err(Refusal::OutputShorter);
     }
     fill(bytes, n, words);
-    Counted::Count(n as u64)
+    Ok(n as u64)
 }

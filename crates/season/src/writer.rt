@@ -1,12 +1,12 @@
 // Correlations into the file: all are judged in one pass, and written in a second that refuses nothing. They come as numbers, seven each.
-ghost use Rattle.std.specs.Prelude.{◌≡◌, true, ◌+◌, ◌*◌, ◌≤◌, ◌<◌, length};
+ghost use Rattle.std.specs.Prelude.{◌≡◌, true, ◌+◌, ◌*◌, ◌++◌, ◌≤◌, ◌<◌, length};
 ghost use Rattle.scales.specs.Meaning.{wrote};
 ghost use Rattle.season.specs.Meaning.{all, each, is_written, entry_bytes, body_bytes, write};
 ghost use Rattle.season.specs.Taking.{Taken, cover_at, next_at};
 
+use clock::inner::Ends;
 use sbt::Correlation;
-use sbt::inner::Covered;
-use scales::{Refusal, Scale, Tick, Written};
+use scales::{Refusal, Scale, Tick};
 
 // Correlation k, of the bits of its numbers: a negative one has 2^63 or more, which is not accepted.
 fn correlation_at(words: &[i64], k: usize) -> Correlation
@@ -26,35 +26,23 @@ fn correlation_at(words: &[i64], k: usize) -> Correlation
 }
 
 // The cover of correlation k, where it is one of TAI and accepted.
-fn cover_at(words: &[i64], k: usize) -> Covered
+fn cover_at(words: &[i64], k: usize) -> Option<Ends>
     requires { 7 * k + 7 ≤ length words.now }
     ensures { result ≡ cover_at words.now k }
 {
     let at = 7 * k;
-    if 4_294_967_295 < axis::bits_of(words[at]) {
-        return Covered::Outside;
-    }
-    if axis::bits_of(words[at + 1]) != 0 {
-        return Covered::Outside;
+    if 4_294_967_295 < axis::bits_of(words[at]) || axis::bits_of(words[at + 1]) != 0 {
+        return None;
     }
     sbt::inner::cover(correlation_at(words, k))
 }
 
 // The same where it begins after a place, the end of the cover before it.
-fn next_cover(words: &[i64], k: usize, before: u64) -> Covered
+fn next_cover(words: &[i64], k: usize, before: u64) -> Option<Ends>
     requires { 7 * k + 7 ≤ length words.now }
     ensures { result ≡ next_at words.now k before }
 {
-    let Covered::At(v) = cover_at(words, k) else {
-        return Covered::Outside;
-    };
-    if k == 0 {
-        return Covered::At(v);
-    }
-    if v.from <= before {
-        return Covered::Outside;
-    }
-    Covered::At(v)
+    cover_at(words, k).filter(|v| k == 0 || before < v.from)
 }
 
 // Are all accepted, and do their covers rise?
@@ -63,13 +51,11 @@ fn all_rise(words: &[i64], n: usize) -> bool
     ensures { result ≡ all (is_written words.now) n }
 {
     let mut before = 0;
-    let mut k = 0;
-    while k < n {
-        let Covered::At(v) = next_cover(words, k, before) else {
+    for k in 0..n {
+        let Some(v) = next_cover(words, k, before) else {
             return false;
         };
         before = v.to;
-        k += 1;
     }
     true
 }
@@ -79,10 +65,8 @@ fn put_entry(words: &[i64], n: usize, k: usize, out: &mut [u8])
     requires { (is_written words.now k ≡ true) × (7 * k + 7 ≤ length words.now) × (n ≤ 512) × (k < n) × (length out.old ≡ 20) }
     ensures { out.new ≡ entry_bytes n words.now k }
 {
-    let Covered::At(v) = cover_at(words, k) else {
-        return;
-    };
-    octets::lay(axis::bits_of(axis::micros_at(v.from)), &mut out[0..8]);
+    let v = cover_at(words, k).unwrap();
+    octets::lay(axis::bits_of(axis::micros_at(v.from)), &mut out[..8]);
     octets::lay(axis::bits_of(axis::micros_at(v.to)), &mut out[8..16]);
     octets::lay((2 + 20 * n + 28 * k) as u64, &mut out[16..20]);
 }
@@ -94,60 +78,40 @@ fn put_body(words: &[i64], k: usize, out: &mut [u8])
 {
     let c = correlation_at(words, k);
     let place = axis::place_of_day(c.day) * 86_400_000_000 + c.micro;
-    octets::lay(c.tick.0 as u64, &mut out[0..4]);
+    octets::lay(u64::from(c.tick.0), &mut out[..4]);
     octets::lay(axis::bits_of(axis::micros_at(place)), &mut out[4..12]);
     octets::lay(c.period, &mut out[12..20]);
     octets::lay(c.back, &mut out[20..24]);
     octets::lay(c.ahead, &mut out[24..28]);
 }
 
-fn put_contents(words: &[i64], n: usize, out: &mut [u8])
-    requires { (all (is_written words.now) n ≡ true) × (7 * n ≤ length words.now) × (n ≤ 512) × (length out.old ≡ 20 * n) }
-    ensures { out.new ≡ each (entry_bytes n words.now) n }
+// The contents of n correlations, and behind them their bodies.
+fn put_all(words: &[i64], n: usize, out: &mut [u8])
+    requires { (all (is_written words.now) n ≡ true) × (7 * n ≤ length words.now) × (n ≤ 512) × (length out.old ≡ 48 * n) }
+    ensures { out.new ≡ each (entry_bytes n words.now) n ++ each (body_bytes words.now) n }
 {
-    let mut k = 0;
-    while k < n {
-        let at = 20 * k;
-        let end = at + 20;
-        put_entry(words, n, k, &mut out[at..end]);
-        k += 1;
-    }
-}
-
-fn put_bodies(words: &[i64], n: usize, out: &mut [u8])
-    requires { (all (is_written words.now) n ≡ true) × (7 * n ≤ length words.now) × (n ≤ 512) × (length out.old ≡ 28 * n) }
-    ensures { out.new ≡ each (body_bytes words.now) n }
-{
-    let mut k = 0;
-    while k < n {
-        let at = 28 * k;
-        let end = at + 28;
-        put_body(words, k, &mut out[at..end]);
-        k += 1;
+    let (contents, bodies) = out.split_at_mut(20 * n);
+    for k in 0..n {
+        let entry = 20 * k;
+        put_entry(words, n, k, &mut contents[entry..entry + 20]);
+        let body = 28 * k;
+        put_body(words, k, &mut bodies[body..body + 28]);
     }
 }
 
 // The file of correlations, onto the front of a lent slice: 14 where they are no season, 13 where the slice is shorter.
-pub fn write(words: &[i64], out: &mut [u8]) -> Written
+pub fn write(words: &[i64], out: &mut [u8]) -> Result<usize, Refusal>
     ensures { wrote result out.new ≡ write words.now out.old }
 {
-    if words.len() % 7 != 0 {
-        return Written::Refused(Refusal::SeasonBroken);
-    }
     let n = words.len() / 7;
-    if 512 < n {
-        return Written::Refused(Refusal::SeasonBroken);
+    if words.len() % 7 != 0 || 512 < n || !all_rise(words, n) {
+        return Err(Refusal::SeasonBroken);
     }
-    if !all_rise(words, n) {
-        return Written::Refused(Refusal::SeasonBroken);
-    }
-    let bodies = 2 + 20 * n;
-    let end = bodies + 28 * n;
+    let end = 2 + 48 * n;
     if out.len() < end {
-        return Written::Refused(Refusal::OutputShorter);
+        return Err(Refusal::OutputShorter);
     }
-    octets::lay(n as u64, &mut out[0..2]);
-    put_contents(words, n, &mut out[2..bodies]);
-    put_bodies(words, n, &mut out[bodies..end]);
-    Written::Bytes(end)
+    octets::lay(n as u64, &mut out[..2]);
+    put_all(words, n, &mut out[2..end]);
+    Ok(end)
 }

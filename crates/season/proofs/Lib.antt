@@ -1,2 +1,0 @@
-pub mod ReaderWords
-pub mod ReaderWays
