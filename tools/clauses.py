@@ -22,7 +22,7 @@ class Refused(Exception):
 @dataclass
 class Fact:
     relation: bool
-    head: str  # the definition at the head of the right side, or the relation
+    head: str  # the definition at the head of the right side, or the relation; '' where the right side is an argument itself
     arguments: list
     view: str  # '' where the result or a slice is stated as it is
     result: bool  # the result is stated
@@ -98,7 +98,7 @@ def _factors(term):
 def _applied(term, operators, what):
     """A definition's name and its arguments: names, numbers, fields of them and terms in brackets."""
     for part in term:
-        if isinstance(part, str) and (part in operators or not (part[0].isalnum() or part in ("[]", "_"))):
+        if isinstance(part, str) and (part in operators or not (part[0].isalnum() or part[0] == "_" or part == "[]")):
             raise Refused(f"{what} is no definition applied to arguments: '{part}' stands in it")
     if not term or not isinstance(term[0], str):
         raise Refused(f"{what} is no definition applied to arguments")
@@ -115,13 +115,23 @@ def _slice(part):
 
 def _stated(left):
     """The view of the left side, whether it states the result, and the slices at exit that it states."""
-    if left == [RESULT]:
+    if left in ([RESULT], [f"{RESULT}.{ENTRY['ref']}"]):
         return "", True, []
     if len(left) == 1 and _slice(left[0]):
         return "", False, [_slice(left[0])]
     if len(left) >= 2 and isinstance(left[0], str) and left[1] == RESULT and all(map(_slice, left[2:])):
         return left[0], True, [_slice(part) for part in left[2:]]
     raise Refused(f"the left side is none of {FORMS}")
+
+
+def _entry(term):
+    """Is a term the value behind a reference as the call begins, or a field, and no more?"""
+    return len(term) == 1 and isinstance(term[0], str) and "." in term[0]
+
+
+def _told(term):
+    """Does a fact speak of the arguments alone? So a type tells what it knows of its values."""
+    return RESULT not in map(named, words(term)) and not lent(term, EXIT)
 
 
 def _fact(term, operators):
@@ -131,7 +141,12 @@ def _fact(term, operators):
         return Fact(True, head, arguments, "", RESULT in map(named, words(arguments)), sorted(lent(arguments, EXIT)))
     if len(sides) != 2:
         raise Refused("an equation has more than one ≡")
+    if _told(term):
+        head, arguments = _applied(_unwrapped(sides[0]), operators, "the left side")
+        return Fact(False, head, arguments, "", False, [])
     view, states, exits = _stated(_unwrapped(sides[0]))
+    if _entry(right := _unwrapped(sides[1])):
+        return Fact(False, "", right, view, states, exits)
     head, arguments = _applied(_unwrapped(sides[1]), operators, "the right side")
     for word in words(arguments):
         if named(word) == RESULT or {EXIT, "exit"}.intersection(word.split(".")[1:]):

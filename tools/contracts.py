@@ -127,6 +127,13 @@ class Repository:
         return known, file
 
 
+def _argument(function, term):
+    """An argument, or a field of it, that the result is said to be: no definition, and in no file."""
+    if named(term) not in [param.name for param in function.params]:
+        raise Refused(f"{term} is no argument, and no definition of specs/")
+    return term, ""
+
+
 def _cited(repository, function, fact):
     """Looks the names of a fact up."""
     viewed, others = [], []
@@ -136,14 +143,14 @@ def _cited(repository, function, fact):
         raise Refused(f"≡ is not brought from {EQUAL}")
     else:
         viewed = [repository.listed(function, fact.view, "view")] if fact.view else []
-        meaning = repository.definition(function, fact.head)
+        meaning = repository.definition(function, fact.head) if fact.head else _argument(function, fact.arguments[0])
     for word in map(named, words(fact.arguments)):
         module = function.imports.get(word, ("",))[0]
         if module.startswith("Rattle.") and not _MADE.fullmatch(module):
             others.append(repository.definition(function, word))
     slices = ", ".join(f"`{name}` at exit" for name in fact.exits)
     stated = f"`{viewed[0][0]}`" if viewed else "the result" if fact.result else ""
-    stated = "a relation" if fact.relation else stated
+    stated = "a relation" if fact.relation else stated or ("" if slices else "known")
     return Cited(" with ".join(filter(None, [stated, slices])), viewed, meaning, others)
 
 
@@ -223,7 +230,7 @@ def required(function):
 
 def page(report):
     def cell(items):
-        return ", ".join(dict.fromkeys(f"`{item}`" for item in items))
+        return ", ".join(dict.fromkeys(f"`{item}`" for item in items if item))
 
     def table(inner):
         heads = ["Function", *(["Requires"] if inner else []), "View", "Meaning", "File of the meaning"]

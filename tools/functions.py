@@ -21,6 +21,7 @@ class Function:
     line: int
     modules: tuple
     owner: str  # the type of its impl, or ''
+    trait: str  # the trait of its impl, with its arguments, or ''
     name: str
     public: bool
     params: list
@@ -32,7 +33,8 @@ class Function:
 
     @property
     def title(self):
-        return "::".join([self.crate, *self.modules, *filter(None, [self.owner]), self.name])
+        owner = f"<{self.owner} as {self.trait}>" if self.trait else self.owner
+        return "::".join([self.crate, *self.modules, *filter(None, [owner]), self.name])
 
     @property
     def inner(self):
@@ -64,14 +66,34 @@ def _bring(tree, imports):
             raise Unreadable(f"{known} is brought from two modules")
 
 
+def _of_trait(function, trait, inside):
+    """A method of a trait: public in a conversion, whose contract stands in the ghost member of its name."""
+    function.trait = trait
+    function.public = function.public or bool(_CONVERSION.match(trait))
+    found = re.search(rf"\bghost\s+{function.name}_gives\s*=\s*\{{", inside)
+    if not function.public or not found:
+        return
+    text = inside[found.end() : closing(inside, found.end() - 1)].strip()
+    param = function.params[0].name
+    if over := _MEMBER.fullmatch(text):
+        named = {over[1]: param, over[2]: "result"}
+        text = re.sub(r"[^\s(){}.;,]+", lambda word: named.get(word[0], word[0]), over[3])
+    else:
+        text = f"{text} {param} result"
+    function.ensures.append(text)
+
+
 # What is said of a whole file or module, as #![tactic(auto)].
 _SAID = re.compile(r"\s*#!\[[^\]]*\]")
 _ITEM = re.compile(
     r"\s*(?P<marks>(?:#\[[^\]]*\]\s*)*)(?P<vis>pub\b\s*(?:\([^)]*\))?)?\s*"
-    r"(?P<kind>ghost\s+use|(?:const\s+)?(?:extern\s+)?fn|mod|impl|extern|struct|enum|const|static|type|use)\b\s*"
+    r"(?P<kind>ghost\s+use|ghost(?=\s+\w+\s*=)|(?:const\s+)?(?:extern\s+)?fn|mod|impl|extern|struct|enum|const|static|type|use)\b\s*"
 )
 # The name of a module, or the type of an impl, of a trait or not.
-_NAMED = re.compile(r"(?:<[^{}]*?>\s*)?(?:[^{};]*\bfor\s+)?(?:\w+::)*(\w+)")
+_NAMED = re.compile(r"(?:<[^{}]*?>\s*)?(?:(?P<trait>[^{};]*?)\s*\bfor\s+)?(?:\w+::)*(?P<name>\w+)")
+# The traits of a conversion, whose contract is a ghost member: from_gives of `from`, over its argument and its result.
+_CONVERSION = re.compile(r"(?:Try)?From<")
+_MEMBER = re.compile(r"\s*λ\s+(\S+)\s+(\S+?)\.\s(.*)", re.S)
 # A starred clause speaks of memory: its text begins with the star.
 _CLAUSE = re.compile(r"\s*(requires|ensures|ghost)\b(\*?)[^{};*]*(?=\{)")
 _BODY, _END, _OPEN = re.compile(r"[{;]"), re.compile(";"), re.compile(r"\(")
@@ -84,6 +106,7 @@ class Crate:
     def __init__(self, root, name):
         self.root, self.name = root, name
         self.functions, self.holders = [], set()
+        self._models = set()
         self._hidden, self._passed_on = [], set()
         source = f"crates/{name}/src/"
         program = os.path.isfile(os.path.join(root, source + "main.rt"))
@@ -92,6 +115,8 @@ class Crate:
         for function in self._hidden:
             names = {"*", "self", function.name, *function.modules}
             function.public = bool(names & self._passed_on)
+        # A clause sees the model of such a struct, and no reference.
+        self.holders -= self._models
 
     def _file(self, path, modules, seen):
         full = os.path.join(self.root, path)
@@ -123,7 +148,8 @@ class Crate:
                 if public and not function.public:
                     self._hidden.append(function)
             elif kind in ("mod", "impl"):
-                name = _NAMED.match(text, end)[1]
+                head = _NAMED.match(text, end)
+                name, trait = head["name"], (head["trait"] or "").strip()
                 at = seek(text, end, _BODY)
                 within = (modules, name, seen) if kind == "impl" else ((*modules, name), "", seen and public)
                 if text[at] == ";":
@@ -131,15 +157,20 @@ class Crate:
                     at += 1
                 else:
                     inside = text[at + 1 : closing(text, at)]
+                    known = len(self.functions)
                     self._items(inside, path, first + text.count("\n", 0, at), *within, imports)
                     at += len(inside) + 2
+                    if trait == "Model":
+                        self._models.add(name)
+                    for function in self.functions[known:] if trait else []:
+                        _of_trait(function, trait, inside)
             elif kind in ("struct", "enum", "extern"):
                 at = seek(text, end, _BODY)
                 self.holders |= set(re.findall(r"^(\w+)\s*<", text[end:at]))
                 at = (closing(text, at) if text[at] == "{" else at) + 1
             else:
                 at = seek(text, end, _END) + 1
-                if kind.startswith("ghost"):
+                if kind.endswith("use") and kind.startswith("ghost"):
                     _bring(text[end : at - 1], imports)
                 elif kind == "use" and public:
                     self._passed_on |= set(re.findall(r"(\w+|\*)\s*(?:as\s+\w+\s*)?(?=[,};])", text[end:at]))
@@ -170,6 +201,7 @@ class Crate:
             line=line,
             modules=modules,
             owner=owner,
+            trait="",
             name=name,
             public=False,
             params=params,

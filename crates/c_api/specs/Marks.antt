@@ -1,9 +1,7 @@
 -- A record's mark as C has it: a code, and the source that belongs to it. The header's words are quoted. Assumes nothing.
-use Rattle.std.specs.Prelude.{Bool, cond, not, ◌&&◌, ◌||◌, ℕ, eqb, leb}
+use Rattle.std.specs.Prelude.{Bool, cond, not, ◌&&◌, ◌||◌, ℕ, eqb, leb, Option, Some, None}
 use Rattle.scales.specs.declared.Mark.{Mark}
 use Rattle.scales.specs.declared.Mark.TheVariants as M
-use Rattle.c_api.specs.declared.marks.MarkNamed.{MarkNamed}
-use Rattle.c_api.specs.declared.marks.MarkNamed.TheVariants as N
 
 -- ---- handed in: 0 plain; 1 Proteus, "source is their H3, 0 or 1"; 2 correlated, "source is its reference"
 -- "A mark above VRK_CORRELATED, or VRK_PROTEUS with a source above 1, is unknown"
@@ -30,5 +28,5 @@ mark_source (M.Proteus h3) = bit_of h3
 mark_source (M.Correlated reference) = reference
 
 -- ---- the inner answer
-unfoldable pub marked_by : ℕ → ℕ → MarkNamed
-marked_by c x = cond (known_mark c x) (N.Mark (mark_at c x)) N.Unknown
+unfoldable pub marked_by : ℕ → ℕ → Option Mark
+marked_by c x = cond (known_mark c x) (Some (mark_at c x)) None

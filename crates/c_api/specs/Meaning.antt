@@ -1,12 +1,14 @@
 -- What the structs and codes of the C interface stand for. A code that stands for nothing is refused 3, before all else. The
 -- header's words are quoted. Assumes nothing.
-use Rattle.std.specs.Prelude.{Bool, cond, not, ◌&&◌, ◌||◌, List, ℕ, eqb, leb, ℤ, pos, Float}
+use Rattle.std.specs.Prelude.{Bool, cond, not, ◌&&◌, ◌||◌, List, ℕ, eqb, leb, ℤ, pos, Float, Option, Some, None, Result, Ok, Err}
 use Rattle.axis.specs.Meaning.{Moment}
 use Rattle.handed.specs.Meaning.{mark_of}
 use Rattle.handed.specs.declared.Handed.{Handed}
 use Rattle.handed.specs.declared.Handed.TheVariants as H
 use Rattle.scales.specs.Meaning.{code_of, scale_at, given, outcome, Slip, dated_as, dated, record_of, marked_record, Judged, Valued, valued}
 use Rattle.scales.specs.declared.Scale.{Scale}
+use Rattle.scales.specs.declared.Refusal.{Refusal}
+use Rattle.scales.specs.declared.Refusal.TheVariants as R
 use Rattle.decimal.specs.Meaning.{reading, writing, Allowed}
 use Rattle.sbt.specs.Meaning.{date_of, turning}
 use Rattle.sbt.specs.declared.Correlation.{Correlation}
@@ -18,10 +20,6 @@ use Rattle.c_api.specs.declared.VrkCount.{VrkCount}
 use Rattle.c_api.specs.declared.VrkTime.{VrkTime}
 use Rattle.c_api.specs.declared.VrkHanded.{VrkHanded}
 use Rattle.c_api.specs.declared.VrkDecimal.{VrkDecimal}
-use Rattle.c_api.specs.declared.Given.{Given}
-use Rattle.c_api.specs.declared.Given.TheVariants as G
-use Rattle.c_api.specs.declared.ScaleNamed.{ScaleNamed}
-use Rattle.c_api.specs.declared.ScaleNamed.TheVariants as N
 
 -- ---- scales by code: 0 TAI, 1 UTC, 2 GPS; one that is unknown stands for scale 0 in the empty record
 abbrev pub known_scale : ℕ → Bool
@@ -55,10 +53,6 @@ time_out s =
       mark = mark_code s.mark;
       source = mark_source s.mark;
     }
-
--- "With a refusal the other fields are empty", but for the code of the scale "that the answer would have had"
-abbrev pub empty_out : ℕ → ℕ → VrkTime
-empty_out n c = record { refusal = n; scale = c; day = pos 0; micro = 0; mark = 0; source = 0 }
 
 abbrev pub count_out : Valued ℕ → VrkCount
 count_out v = record { refusal = v.number; count = v.value }
@@ -105,12 +99,12 @@ unfoldable pub changed : VrkHanded → ℕ → List ℤ → List ℕ → ℤ →
 changed h c ds os e = time_out (dated_as (mark_of (handed_of h)) (scale_at c) (outcome (changing_of h c ds os e)))
 
 -- ---- the inner answers
-unfoldable pub named_by : ℕ → ScaleNamed
-named_by c = cond (known_scale c) (N.Scale (scale_at c)) N.Unknown
+unfoldable pub named_by : ℕ → Option Scale
+named_by c = cond (known_scale c) (Some (scale_at c)) None
 
 -- a record of a known scale
-unfoldable pub record_given : Scale → ℤ → ℕ → ℕ → ℕ → Given
-record_given s d u c x = cond (known_mark c x) (G.Handed (record_in s d u c x)) G.Unknown
+unfoldable pub record_given : Scale → ℤ → ℕ → ℕ → ℕ → Option Handed
+record_given s d u c x = cond (known_mark c x) (Some (record_in s d u c x)) None
 
-unfoldable pub given_of : VrkHanded → Given
-given_of h = cond (known h) (G.Handed (handed_of h)) G.Unknown
+unfoldable pub given_of : VrkHanded → Result Handed Refusal
+given_of h = cond (known h) (Ok (handed_of h)) (Err R.FieldOver)

@@ -2,9 +2,12 @@
 ghost use Rattle.std.specs.Prelude.{◌≡◌};
 ghost use Rattle.c_api.specs.Counts.{goce_of, goce_date, goce_count};
 
-use crate::bytes::count_out;
-use crate::{Given, VrkCount, VrkHanded, VrkTime, hand, time_out};
+use crate::{VrkCount, VrkHanded, VrkTime};
+use clock::Receipt;
 use goce::Correlation;
+use handed::Handed;
+use leap::List;
+use scales::Refusal;
 
 #[repr(C)]
 #[derive(Clone, Copy)]
@@ -17,21 +20,22 @@ pub struct VrkGoceCorrelation {
     pub ahead: u64,
 }
 
-fn correlate(c: VrkGoceCorrelation) -> Correlation
-    ensures { result ≡ goce_of c }
-{
-    Correlation {
-        obt0: c.obt0,
-        utc0: c.utc0,
-        offset: c.offset,
-        gradient: c.gradient,
-        back: c.back,
-        ahead: c.ahead,
+impl From<VrkGoceCorrelation> for Correlation {
+    ghost from_gives = { λ c r. r ≡ goce_of c };
+
+    fn from(c: VrkGoceCorrelation) -> Correlation {
+        Correlation {
+            obt0: c.obt0,
+            utc0: c.utc0,
+            offset: c.offset,
+            gradient: c.gradient,
+            back: c.back,
+            ahead: c.ahead,
+        }
     }
 }
 
-#[unsafe(no_mangle)]
-pub extern "C" fn vrk_goce_date(
+pub fn vrk_goce_date(
     obt: u64,
     correlation: VrkGoceCorrelation,
     receipt_day: i64,
@@ -42,19 +46,15 @@ pub extern "C" fn vrk_goce_date(
 ) -> VrkTime
     ensures { result ≡ goce_date obt correlation receipt_day receipt_micro days.now offsets.now last }
 {
-    time_out(goce::date(
-        correlate(correlation),
-        obt,
-        receipt_day,
-        receipt_micro,
-        days,
-        offsets,
-        last,
-    ))
+    let receipt = Receipt {
+        day: receipt_day,
+        micro: receipt_micro,
+    };
+    let list = List::new(days, offsets, last);
+    goce::date(correlation.into(), obt, receipt, &list).into()
 }
 
-#[unsafe(no_mangle)]
-pub extern "C" fn vrk_goce_count(
+pub fn vrk_goce_count(
     time: VrkHanded,
     correlation: VrkGoceCorrelation,
     days: &[i64],
@@ -63,13 +63,9 @@ pub extern "C" fn vrk_goce_count(
 ) -> VrkCount
     ensures { result ≡ goce_count time correlation days.now offsets.now last }
 {
-    match hand(time) {
-        Given::Handed(h) => {
-            count_out(goce::count_of(correlate(correlation), h, days, offsets, last))
-        }
-        Given::Unknown => VrkCount {
-            refusal: 3,
-            count: 0,
-        },
+    let list = List::new(days, offsets, last);
+    match Handed::try_from(time) {
+        Ok(h) => goce::count_of(correlation.into(), h, &list).into(),
+        Err(f) => VrkCount::from(Err::<u64, Refusal>(f)),
     }
 }

@@ -3,14 +3,15 @@
 #![tactic(auto)]
 
 ghost use Rattle.std.specs.Prelude.{◌≡◌};
-ghost use Rattle.scales.specs.Meaning.{slip, tick_slip};
+ghost use Rattle.scales.specs.Meaning.{slip, count_slip, tick_slip};
 ghost use Rattle.decimal.specs.Meaning.{decimal_slip};
-ghost use Rattle.c_api.specs.Meaning.{named_by, record_given, given_of, empty_out, time_out, decimal_out, count_out, correlation_of, decimal_read, DecimalWrote, sbt_date, sbt_tick, list_accepted, changed};
+ghost use Rattle.c_api.specs.Meaning.{named_by, record_given, given_of, time_out, decimal_out, count_out, correlation_of, decimal_read, DecimalWrote, sbt_date, sbt_tick, list_accepted, changed};
 
-use decimal::Decimal;
+use clock::Receipt;
 use handed::Handed;
+use leap::List;
 use sbt::Correlation;
-use scales::{Dated, Record, Scale, Tick, Ticked};
+use scales::{Record, Refusal, Refused, Scale, Tick};
 
 pub mod bytes;
 pub mod counts;
@@ -20,7 +21,7 @@ pub mod run;
 pub mod seasons;
 pub mod texts;
 
-use marks::{MarkNamed, mark_code, mark_named, mark_source};
+use marks::{mark_code, mark_named, mark_source};
 
 #[repr(C)]
 #[derive(Clone, Copy)]
@@ -71,172 +72,150 @@ pub struct VrkCount {
     pub count: u64,
 }
 
-#[derive(Clone, Copy)]
-enum ScaleNamed {
-    Scale(Scale),
-    Unknown,
-}
-
-#[derive(Clone, Copy)]
-enum Given {
-    Handed(Handed),
-    Unknown,
-}
-
-fn scale_named(code: u32) -> ScaleNamed
+// The scale of a code.
+fn scale_named(code: u32) -> Option<Scale>
     ensures { result ≡ named_by code }
 {
-    if code == 0 {
-        return ScaleNamed::Scale(Scale::Tai);
+    match code {
+        0 => Some(Scale::Tai),
+        1 => Some(Scale::Utc),
+        2 => Some(Scale::Gps),
+        _ => None,
     }
-    if code == 1 {
-        return ScaleNamed::Scale(Scale::Utc);
-    }
-    if code == 2 {
-        return ScaleNamed::Scale(Scale::Gps);
-    }
-    ScaleNamed::Unknown
 }
 
 // A record that a caller in C hands in: of a known scale, its mark by code and source.
-fn hand_record(scale: Scale, day: i64, micro: u64, code: u32, source: u64) -> Given
+fn hand_record(scale: Scale, day: i64, micro: u64, code: u32, source: u64) -> Option<Handed>
     ensures { result ≡ record_given scale day micro code source }
 {
-    match mark_named(code, source) {
-        MarkNamed::Mark(mark) => {
-            Given::Handed(Handed::Record(Record::new(scale, day, micro).with_mark(mark)))
+    let mark = mark_named(code, source)?;
+    Some(Handed::Record(Record::new(scale, day, micro).with_mark(mark)))
+}
+
+// What a caller in C hands in; a number that stands for nothing is refused 3.
+impl TryFrom<VrkHanded> for Handed {
+    type Error = Refusal;
+
+    ghost try_from_gives = { λ h r. r ≡ given_of h };
+
+    fn try_from(h: VrkHanded) -> Result<Handed, Refusal> {
+        let scale = scale_named(h.scale).ok_or(Refusal::FieldOver)?;
+        match h.kind {
+            0 => hand_record(scale, h.day, h.micro, h.mark, h.source).ok_or(Refusal::FieldOver),
+            1 => Ok(Handed::Decimal(h.decimal, scale)),
+            _ => Err(Refusal::FieldOver),
         }
-        MarkNamed::Unknown => Given::Unknown,
     }
 }
 
-// What a caller in C hands in.
-fn hand(h: VrkHanded) -> Given
-    ensures { result ≡ given_of h }
-{
-    let ScaleNamed::Scale(scale) = scale_named(h.scale) else {
-        return Given::Unknown;
-    };
-    let kind = h.kind;
-    match kind {
-        0 => hand_record(scale, h.day, h.micro, h.mark, h.source),
-        1 => Given::Handed(Handed::Decimal(h.decimal, scale)),
-        _ => Given::Unknown,
-    }
-}
+// ---- what is handed out: the number and the value, or the number of a refusal and what is empty
 
-// The empty time of a refusal, by its number and the code of its scale.
-fn empty_out(refusal: u32, scale: u32) -> VrkTime
-    ensures { result ≡ empty_out refusal scale }
-{
-    VrkTime {
-        refusal,
-        scale,
-        day: 0,
-        micro: 0,
-        mark: 0,
-        source: 0,
-    }
-}
+impl From<Result<Record, Refused>> for VrkTime {
+    ghost from_gives = { λ d r. r ≡ time_out (slip d) };
 
-fn time_out(d: Dated) -> VrkTime
-    ensures { result ≡ time_out (slip d) }
-{
-    match d {
-        Dated::At(r) => {
-            let scale = r.scale;
-            let mark = r.mark;
-            VrkTime {
-                refusal: 0,
-                scale: scale.code(),
-                day: r.day,
-                micro: r.micro,
-                mark: mark_code(mark),
-                source: mark_source(mark),
+    fn from(d: Result<Record, Refused>) -> VrkTime {
+        match d {
+            Ok(r) => {
+                let mark = r.mark;
+                VrkTime {
+                    refusal: 0,
+                    scale: r.scale.code(),
+                    day: r.day,
+                    micro: r.micro,
+                    mark: mark_code(mark),
+                    source: mark_source(mark),
+                }
             }
+            Err(e) => VrkTime {
+                refusal: e.refusal.number(),
+                scale: e.scale.code(),
+                day: 0,
+                micro: 0,
+                mark: 0,
+                source: 0,
+            },
         }
-        Dated::Refused(f, scale) => empty_out(f.number(), scale.code()),
     }
 }
 
-fn decimal_out(d: Decimal) -> VrkDecimal
-    ensures { result ≡ decimal_out (decimal_slip d) }
-{
-    match d {
-        Decimal::Day(day) => VrkDecimal { refusal: 0, day },
-        Decimal::Refused(f) => VrkDecimal {
-            refusal: f.number(),
-            day: 0.0,
-        },
+impl From<Result<f64, Refusal>> for VrkDecimal {
+    ghost from_gives = { λ d r. r ≡ decimal_out (decimal_slip d) };
+
+    fn from(d: Result<f64, Refusal>) -> VrkDecimal {
+        match d {
+            Ok(day) => VrkDecimal { refusal: 0, day },
+            Err(f) => VrkDecimal {
+                refusal: f.number(),
+                day: 0.0,
+            },
+        }
     }
 }
 
-#[unsafe(no_mangle)]
-pub extern "C" fn vrk_decimal_read(day: f64, scale: u32) -> VrkTime
+impl From<Result<u64, Refusal>> for VrkCount {
+    ghost from_gives = { λ c r. r ≡ count_out (count_slip c) };
+
+    fn from(c: Result<u64, Refusal>) -> VrkCount {
+        match c {
+            Ok(count) => VrkCount { refusal: 0, count },
+            Err(f) => VrkCount {
+                refusal: f.number(),
+                count: 0,
+            },
+        }
+    }
+}
+
+impl From<Result<Tick, Refusal>> for VrkCount {
+    ghost from_gives = { λ t r. r ≡ count_out (tick_slip t) };
+
+    fn from(t: Result<Tick, Refusal>) -> VrkCount {
+        t.map(|tick| tick.0 as u64).into()
+    }
+}
+
+// ---- the functions
+
+pub fn vrk_decimal_read(day: f64, scale: u32) -> VrkTime
     ensures { result ≡ decimal_read day scale }
 {
-    match scale_named(scale) {
-        ScaleNamed::Scale(s) => time_out(decimal::read(day, s)),
-        ScaleNamed::Unknown => empty_out(3, 0),
-    }
+    let Some(scale) = scale_named(scale) else {
+        return VrkTime::from(Err(Refusal::FieldOver.of(Scale::Tai)));
+    };
+    decimal::read(day, scale).into()
 }
 
-#[unsafe(no_mangle)]
-pub extern "C" fn vrk_decimal_write(time: VrkHanded) -> VrkDecimal
+pub fn vrk_decimal_write(time: VrkHanded) -> VrkDecimal
     ensures { DecimalWrote time result }
 {
-    match hand(time) {
-        Given::Handed(h) => decimal_out(decimal::write(h)),
-        Given::Unknown => VrkDecimal {
-            refusal: 3,
-            day: 0.0,
-        },
+    match Handed::try_from(time) {
+        Ok(h) => decimal::write(h).into(),
+        Err(f) => VrkDecimal::from(Err(f)),
     }
 }
 
 // A correlation of an unknown scale is one that is not accepted: its period is 0.
-fn correlate(c: VrkSbtCorrelation) -> Correlation
-    ensures { result ≡ correlation_of c }
-{
-    match scale_named(c.scale) {
-        ScaleNamed::Scale(scale) => Correlation {
+impl From<VrkSbtCorrelation> for Correlation {
+    ghost from_gives = { λ c r. r ≡ correlation_of c };
+
+    fn from(c: VrkSbtCorrelation) -> Correlation {
+        let (scale, period) = match scale_named(c.scale) {
+            Some(scale) => (scale, c.period),
+            None => (Scale::Tai, 0),
+        };
+        Correlation {
             tick: Tick(c.tick),
             scale,
             day: c.day,
             micro: c.micro,
-            period: c.period,
+            period,
             back: c.back,
             ahead: c.ahead,
-        },
-        ScaleNamed::Unknown => Correlation {
-            tick: Tick(c.tick),
-            scale: Scale::Tai,
-            day: c.day,
-            micro: c.micro,
-            period: 0,
-            back: c.back,
-            ahead: c.ahead,
-        },
+        }
     }
 }
 
-pub(crate) fn tick_out(t: Ticked) -> VrkCount
-    ensures { result ≡ count_out (tick_slip t) }
-{
-    match t {
-        Ticked::Tick(tick) => VrkCount {
-            refusal: 0,
-            count: tick.0 as u64,
-        },
-        Ticked::Refused(f) => VrkCount {
-            refusal: f.number(),
-            count: 0,
-        },
-    }
-}
-
-#[unsafe(no_mangle)]
-pub extern "C" fn vrk_sbt_date(
+pub fn vrk_sbt_date(
     tick: u32,
     correlation: VrkSbtCorrelation,
     receipt_day: i64,
@@ -247,19 +226,15 @@ pub extern "C" fn vrk_sbt_date(
 ) -> VrkTime
     ensures { result ≡ sbt_date tick correlation receipt_day receipt_micro days.now offsets.now last }
 {
-    time_out(sbt::date(
-        correlate(correlation),
-        Tick(tick),
-        receipt_day,
-        receipt_micro,
-        days,
-        offsets,
-        last,
-    ))
+    let receipt = Receipt {
+        day: receipt_day,
+        micro: receipt_micro,
+    };
+    let list = List::new(days, offsets, last);
+    sbt::date(correlation.into(), Tick(tick), receipt, &list).into()
 }
 
-#[unsafe(no_mangle)]
-pub extern "C" fn vrk_sbt_tick(
+pub fn vrk_sbt_tick(
     time: VrkHanded,
     correlation: VrkSbtCorrelation,
     days: &[i64],
@@ -268,29 +243,20 @@ pub extern "C" fn vrk_sbt_tick(
 ) -> VrkCount
     ensures { result ≡ sbt_tick time correlation days.now offsets.now last }
 {
-    match hand(time) {
-        Given::Handed(h) => {
-            tick_out(sbt::tick_of(correlate(correlation), h, days, offsets, last))
-        }
-        Given::Unknown => VrkCount {
-            refusal: 3,
-            count: 0,
-        },
+    let list = List::new(days, offsets, last);
+    match Handed::try_from(time) {
+        Ok(h) => sbt::tick_of(correlation.into(), h, &list).into(),
+        Err(f) => VrkCount::from(Err::<u64, Refusal>(f)),
     }
 }
 
-#[unsafe(no_mangle)]
-pub extern "C" fn vrk_list_accepted(days: &[i64], offsets: &[u64], last: i64) -> u32
+pub fn vrk_list_accepted(days: &[i64], offsets: &[u64], last: i64) -> u32
     ensures { result ≡ list_accepted days.now offsets.now last }
 {
-    if leap::is_accepted(days, offsets, last) {
-        return 1;
-    }
-    0
+    u32::from(List::new(days, offsets, last).is_accepted())
 }
 
-#[unsafe(no_mangle)]
-pub extern "C" fn vrk_change(
+pub fn vrk_change(
     time: VrkHanded,
     to_scale: u32,
     days: &[i64],
@@ -299,11 +265,11 @@ pub extern "C" fn vrk_change(
 ) -> VrkTime
     ensures { result ≡ changed time to_scale days.now offsets.now last }
 {
-    let ScaleNamed::Scale(to) = scale_named(to_scale) else {
-        return empty_out(3, 0);
+    let Some(to) = scale_named(to_scale) else {
+        return VrkTime::from(Err(Refusal::FieldOver.of(Scale::Tai)));
     };
-    match hand(time) {
-        Given::Handed(h) => time_out(changes::change(h, to, days, offsets, last)),
-        Given::Unknown => empty_out(3, to.code()),
+    match Handed::try_from(time) {
+        Ok(h) => changes::change(h, to, &List::new(days, offsets, last)).into(),
+        Err(f) => VrkTime::from(Err(f.of(to))),
     }
 }

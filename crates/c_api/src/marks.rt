@@ -1,31 +1,19 @@
 // Where a record came from, for C: the code of its mark and the source that belongs to it.
 ghost use Rattle.std.specs.Prelude.{◌≡◌};
-ghost use Rattle.c_api.specs.Marks.{bit_of, marked_by, mark_code, mark_source};
+ghost use Rattle.c_api.specs.Marks.{marked_by, mark_code, mark_source};
 
 use scales::Mark;
 
-#[derive(Clone, Copy)]
-pub(crate) enum MarkNamed {
-    Mark(Mark),
-    Unknown,
-}
-
-pub(crate) fn mark_named(code: u32, source: u64) -> MarkNamed
+pub(crate) fn mark_named(code: u32, source: u64) -> Option<Mark>
     ensures { result ≡ marked_by code source }
 {
-    if code == 0 {
-        return MarkNamed::Mark(Mark::Plain);
+    match (code, source) {
+        (0, _) => Some(Mark::Plain),
+        (1, 0) => Some(Mark::Proteus(false)),
+        (1, 1) => Some(Mark::Proteus(true)),
+        (2, reference) => Some(Mark::Correlated(reference)),
+        _ => None,
     }
-    if code == 2 {
-        return MarkNamed::Mark(Mark::Correlated(source));
-    }
-    if code != 1 {
-        return MarkNamed::Unknown;
-    }
-    if 1 < source {
-        return MarkNamed::Unknown;
-    }
-    MarkNamed::Mark(Mark::Proteus(source == 1))
 }
 
 pub(crate) fn mark_code(mark: Mark) -> u32
@@ -38,18 +26,12 @@ pub(crate) fn mark_code(mark: Mark) -> u32
     }
 }
 
-pub(crate) fn bit(b: bool) -> u32
-    ensures { result ≡ bit_of b }
-{
-    if b { 1 } else { 0 }
-}
-
 pub(crate) fn mark_source(mark: Mark) -> u64
     ensures { result ≡ mark_source mark }
 {
     match mark {
         Mark::Plain => 0,
-        Mark::Proteus(h3) => bit(h3) as u64,
+        Mark::Proteus(h3) => u64::from(h3),
         Mark::Correlated(reference) => reference,
     }
 }

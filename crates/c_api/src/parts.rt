@@ -7,12 +7,7 @@ ghost use Rattle.layout_fields.specs.Siral.{read as siral_read};
 ghost use Rattle.c_api.specs.Bytes.{wrote_of, writes};
 ghost use Rattle.c_api.specs.Parts.{cuc_fields, proteus_fields, cryosat_fields, siral_fields, cuc_fields_writing, proteus_fields_writing, cryosat_fields_writing, siral_fields_writing};
 
-use crate::bytes::{REFUSED, VrkWritten, written_out};
-use crate::marks::bit;
-use layout_fields::cryosat::CryosatParted;
-use layout_fields::cuc::CucParted;
-use layout_fields::proteus::ProteusParted;
-use layout_fields::siral::SiralParted;
+use crate::bytes::{REFUSED, VrkWritten};
 
 #[repr(C)]
 #[derive(Clone, Copy)]
@@ -51,17 +46,16 @@ pub struct VrkSiralFields {
     pub extra: u32,
 }
 
-#[unsafe(no_mangle)]
-pub extern "C" fn vrk_cuc_fields_read(bytes: &[u8]) -> VrkCucFields
+pub fn vrk_cuc_fields_read(bytes: &[u8]) -> VrkCucFields
     ensures { result ≡ cuc_fields (cuc_read bytes.now) }
 {
     match layout_fields::cuc::read(bytes) {
-        CucParted::Fields(f) => VrkCucFields {
+        Ok(f) => VrkCucFields {
             refusal: 0,
             seconds: f.seconds,
-            fraction: f.fraction as u32,
+            fraction: u32::from(f.fraction),
         },
-        CucParted::Refused(f) => VrkCucFields {
+        Err(f) => VrkCucFields {
             refusal: f.number(),
             seconds: 0,
             fraction: 0,
@@ -69,35 +63,27 @@ pub extern "C" fn vrk_cuc_fields_read(bytes: &[u8]) -> VrkCucFields
     }
 }
 
-#[unsafe(no_mangle)]
-pub extern "C" fn vrk_cuc_fields_write(seconds: u32, fraction: u32, out: &mut [u8]) -> VrkWritten
+pub fn vrk_cuc_fields_write(seconds: u32, fraction: u32, out: &mut [u8]) -> VrkWritten
     ensures { wrote_of result out.new ≡ writes (cuc_fields_writing seconds fraction) out.old }
 {
-    if 65536 <= fraction {
+    let Ok(fraction) = u16::try_from(fraction) else {
         return REFUSED;
-    }
-    written_out(layout_fields::cuc::write(
-        layout_fields::cuc::Fields {
-            seconds,
-            fraction: fraction as u16,
-        },
-        out,
-    ))
+    };
+    layout_fields::cuc::write(layout_fields::cuc::Fields { seconds, fraction }, out).into()
 }
 
-#[unsafe(no_mangle)]
-pub extern "C" fn vrk_proteus_fields_read(bytes: &[u8]) -> VrkProteusFields
+pub fn vrk_proteus_fields_read(bytes: &[u8]) -> VrkProteusFields
     ensures { result ≡ proteus_fields (proteus_read bytes.now) }
 {
     match layout_fields::proteus::read(bytes) {
-        ProteusParted::Fields(f) => VrkProteusFields {
+        Ok(f) => VrkProteusFields {
             refusal: 0,
-            week: f.week as u32,
-            h3: bit(f.h3),
+            week: u32::from(f.week),
+            h3: u32::from(f.h3),
             second: f.second,
-            fraction: f.fraction as u32,
+            fraction: u32::from(f.fraction),
         },
-        ProteusParted::Refused(f) => VrkProteusFields {
+        Err(f) => VrkProteusFields {
             refusal: f.number(),
             week: 0,
             h3: 0,
@@ -107,8 +93,7 @@ pub extern "C" fn vrk_proteus_fields_read(bytes: &[u8]) -> VrkProteusFields
     }
 }
 
-#[unsafe(no_mangle)]
-pub extern "C" fn vrk_proteus_fields_write(
+pub fn vrk_proteus_fields_write(
     week: u32,
     h3: u32,
     second: u32,
@@ -117,32 +102,32 @@ pub extern "C" fn vrk_proteus_fields_write(
 ) -> VrkWritten
     ensures { wrote_of result out.new ≡ writes (proteus_fields_writing week h3 second fraction) out.old }
 {
-    if 65536 <= week || 1 < h3 || 65536 <= fraction {
+    if 1 < h3 {
         return REFUSED;
     }
-    written_out(layout_fields::proteus::write(
-        layout_fields::proteus::Fields {
-            week: week as u16,
-            h3: h3 == 1,
-            second,
-            fraction: fraction as u16,
-        },
-        out,
-    ))
+    let (Ok(week), Ok(fraction)) = (u16::try_from(week), u16::try_from(fraction)) else {
+        return REFUSED;
+    };
+    let fields = layout_fields::proteus::Fields {
+        week,
+        h3: h3 == 1,
+        second,
+        fraction,
+    };
+    layout_fields::proteus::write(fields, out).into()
 }
 
-#[unsafe(no_mangle)]
-pub extern "C" fn vrk_cryosat_fields_read(bytes: &[u8]) -> VrkCryosatFields
+pub fn vrk_cryosat_fields_read(bytes: &[u8]) -> VrkCryosatFields
     ensures { result ≡ cryosat_fields (cryosat_read bytes.now) }
 {
     match layout_fields::cryosat::read(bytes) {
-        CryosatParted::Fields(f) => VrkCryosatFields {
+        Ok(f) => VrkCryosatFields {
             refusal: 0,
-            day: f.day as u32,
+            day: u32::from(f.day),
             millisecond: f.millisecond,
-            microsecond: f.microsecond as u32,
+            microsecond: u32::from(f.microsecond),
         },
-        CryosatParted::Refused(f) => VrkCryosatFields {
+        Err(f) => VrkCryosatFields {
             refusal: f.number(),
             day: 0,
             millisecond: 0,
@@ -151,8 +136,7 @@ pub extern "C" fn vrk_cryosat_fields_read(bytes: &[u8]) -> VrkCryosatFields
     }
 }
 
-#[unsafe(no_mangle)]
-pub extern "C" fn vrk_cryosat_fields_write(
+pub fn vrk_cryosat_fields_write(
     day: u32,
     millisecond: u32,
     microsecond: u32,
@@ -160,32 +144,29 @@ pub extern "C" fn vrk_cryosat_fields_write(
 ) -> VrkWritten
     ensures { wrote_of result out.new ≡ writes (cryosat_fields_writing day millisecond microsecond) out.old }
 {
-    if 65536 <= day || 65536 <= microsecond {
+    let (Ok(day), Ok(microsecond)) = (u16::try_from(day), u16::try_from(microsecond)) else {
         return REFUSED;
-    }
-    written_out(layout_fields::cryosat::write(
-        layout_fields::cryosat::Fields {
-            day: day as u16,
-            millisecond,
-            microsecond: microsecond as u16,
-        },
-        out,
-    ))
+    };
+    let fields = layout_fields::cryosat::Fields {
+        day,
+        millisecond,
+        microsecond,
+    };
+    layout_fields::cryosat::write(fields, out).into()
 }
 
-#[unsafe(no_mangle)]
-pub extern "C" fn vrk_siral_fields_read(bytes: &[u8]) -> VrkSiralFields
+pub fn vrk_siral_fields_read(bytes: &[u8]) -> VrkSiralFields
     ensures { result ≡ siral_fields (siral_read bytes.now) }
 {
     match layout_fields::siral::read(bytes) {
-        SiralParted::Fields(f) => VrkSiralFields {
+        Ok(f) => VrkSiralFields {
             refusal: 0,
-            day: f.day as u32,
+            day: u32::from(f.day),
             millisecond: f.millisecond,
-            microsecond: f.microsecond as u32,
-            extra: f.extra as u32,
+            microsecond: u32::from(f.microsecond),
+            extra: u32::from(f.extra),
         },
-        SiralParted::Refused(f) => VrkSiralFields {
+        Err(f) => VrkSiralFields {
             refusal: f.number(),
             day: 0,
             millisecond: 0,
@@ -195,8 +176,7 @@ pub extern "C" fn vrk_siral_fields_read(bytes: &[u8]) -> VrkSiralFields
     }
 }
 
-#[unsafe(no_mangle)]
-pub extern "C" fn vrk_siral_fields_write(
+pub fn vrk_siral_fields_write(
     day: u32,
     millisecond: u32,
     microsecond: u32,
@@ -205,16 +185,18 @@ pub extern "C" fn vrk_siral_fields_write(
 ) -> VrkWritten
     ensures { wrote_of result out.new ≡ writes (siral_fields_writing day millisecond microsecond extra) out.old }
 {
-    if 65536 <= day || 65536 <= microsecond || 65536 <= extra {
+    let (Ok(day), Ok(microsecond), Ok(extra)) = (
+        u16::try_from(day),
+        u16::try_from(microsecond),
+        u16::try_from(extra),
+    ) else {
         return REFUSED;
-    }
-    written_out(layout_fields::siral::write(
-        layout_fields::siral::Fields {
-            day: day as u16,
-            millisecond,
-            microsecond: microsecond as u16,
-            extra: extra as u16,
-        },
-        out,
-    ))
+    };
+    let fields = layout_fields::siral::Fields {
+        day,
+        millisecond,
+        microsecond,
+        extra,
+    };
+    layout_fields::siral::write(fields, out).into()
 }

@@ -3,8 +3,6 @@ ghost use Rattle.std.specs.Prelude.{◌≡◌};
 ghost use Rattle.runs.specs.Meaning.{siral};
 ghost use Rattle.c_api.specs.Runs.{run_of};
 
-use runs::Ran;
-
 #[repr(C)]
 #[derive(Clone, Copy)]
 pub struct VrkRun {
@@ -13,17 +11,16 @@ pub struct VrkRun {
     pub last: u64,
 }
 
-#[unsafe(no_mangle)]
-pub extern "C" fn vrk_siral_run(bytes: &[u8], told: u64, dates: &mut [i64]) -> VrkRun
+pub fn vrk_siral_run(bytes: &[u8], told: u64, dates: &mut [i64]) -> VrkRun
     ensures { run_of result dates.new ≡ siral bytes.now told dates.old }
 {
     match runs::siral(bytes, told, dates) {
-        Ran::Dates(n, last) => VrkRun {
+        Ok(d) => VrkRun {
             refusal: 0,
-            count: n as u64,
-            last,
+            count: d.count as u64,
+            last: d.last,
         },
-        Ran::Refused(f) => VrkRun {
+        Err(f) => VrkRun {
             refusal: f.number(),
             count: 0,
             last: 0,

@@ -15,7 +15,6 @@ use Rattle.scales.specs.declared.Scale.TheVariants as S
 use Rattle.scales.specs.declared.Record.{Record}
 use Rattle.scales.specs.declared.Mark.{Mark}
 use Rattle.scales.specs.declared.Mark.TheVariants as M
-use Rattle.scales.specs.declared.Dated.TheVariants as D
 use Rattle.ground_laws.proofs.Desks.{got, keeps, sevens}
 use Rattle.double.specs.Meaning.{plus_zero}
 use Rattle.handed.specs.Meaning.{mark_of}
@@ -211,7 +210,7 @@ mark_again (M.Proteus false) = (refl, refl)
 mark_again (M.Correlated n) = (refl, refl)
 
 -- is the record that the library answered, mark included; whatever stands in `decimal`
-pub handed_again : (r : Record) (x : Float) → handed_in (again x (time_out (slip (D.At r)))) ≡ answer (H.Record r)
+pub handed_again : (r : Record) (x : Float) → handed_in (again x (time_out (slip (Ok r)))) ≡ answer (H.Record r)
 handed_again r x =
     let s = scale_again r.scale in
     let m = mark_again r.mark in
@@ -258,4 +257,4 @@ pub handed_again_instance : writes (handed_writing Proteus.writing (again nan (t
 unfolding Proteus.read number field last_to
 handed_again_instance =
     let r = marked_record (M.Proteus true) (record_of S.Utc (negsuc 7299) 1000000) in
-    (by_handed (again nan (time_out (slip (D.At r)))) (answer (H.Record r)) (handed_again r nan)).bytes Proteus.writing (sevens 8)
+    (by_handed (again nan (time_out (slip (Ok r)))) (answer (H.Record r)) (handed_again r nan)).bytes Proteus.writing (sevens 8)

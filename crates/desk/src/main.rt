@@ -2,153 +2,128 @@
 // a block is said and proved in `lines`; here bytes are only moved.
 #![tactic(auto)]
 
-ghost use Rattle.std.specs.Prelude.{◌≤◌, length};
+ghost use Rattle.std.specs.Prelude.{◌≤◌, length, IfOk, IfSome};
 
 use std::env::{Env, FillError};
 use std::io::{ErrorKind, Read, Write};
-use std::{io, str};
+use std::{fmt, io, str};
 
-// The bytes of a line that has begun, kept at the front of the block, and whether to go on.
+// A call of the system's that failed.
 #[derive(Clone, Copy)]
-struct Turn {
-    kept: usize,
-    goes_on: bool,
+enum Failure {
+    Read(io::Error),
+    Write(io::Error),
 }
 
-// How many bytes were dated and their answers written; none where a write failed.
-#[derive(Clone, Copy)]
-struct Printed {
-    dated: usize,
-    failed: bool,
+// In the system's words, without the number that std puts behind them.
+impl fmt::Display for Failure {
+    fn fmt<W: fmt::Write>(&self, f: &mut fmt::Formatter<W>) -> fmt::Result {
+        let (call, error) = match self {
+            Failure::Read(error) => ("read", error),
+            Failure::Write(error) => ("write", error),
+        };
+        let mut text = [0u8; 128];
+        let mut room = &mut text[..];
+        let _ = write!(room, "{error}");
+        let told = str::from_utf8(&text).unwrap_or("").trim_end_matches('\0');
+        let why = told
+            .split_once(" (os error ")
+            .map_or(told, |(words, _)| words);
+        write!(f, "{call}: {why}")
+    }
 }
 
-// Tells what failed, and why in the system's words, without the number that std puts behind them.
-fn fail(rt: &impl Eprint, what: &str, error: io::Error) {
-    let mut text = [0u8; 128];
-    let mut room = &mut text[..];
-    let _ = write!(room, "{error}");
-    let n = 128 - room.len().min(128);
-    let told = str::from_utf8(&text[..n]).unwrap_or("");
-    let why = told
-        .split_once(" (os error ")
-        .map_or(told, |(words, _)| words);
-    let _ = eprintln!(rt; "{what}: {why}");
-}
-
-fn print<R: Print + Eprint>(rt: &R, part: &[u8], out: &mut [u8]) -> Printed
-    ensures { result.dated ≤ length part.now }
+// How many bytes were dated and their answers written.
+fn print<R: Print>(rt: &R, part: &[u8], out: &mut [u8]) -> Result<usize, Failure>
+    ensures { IfOk result (λ dated. dated ≤ length part.now) }
 {
     let p = lines::date_lines(part, out);
     let written = p.written;
-    if let Err(error) = rt.write_all(&out[..written]) {
-        fail(rt, "desk: write", error);
-        return Printed {
-            dated: 0,
-            failed: true,
-        };
-    }
-    Printed {
-        dated: p.consumed,
-        failed: false,
-    }
+    rt.write_all(&out[..written]).map_err(Failure::Write)?;
+    Ok(p.consumed)
 }
 
-// All whole lines of a part, as many at a time as find room.
-fn print_all<R: Print + Eprint>(rt: &R, part: &[u8], out: &mut [u8]) -> Printed {
+// All whole lines of a part, as many at a time as find room: how many bytes these are.
+fn print_all<R: Print>(rt: &R, part: &[u8], out: &mut [u8]) -> Result<usize, Failure> {
     let mut dated = 0;
     while dated < part.len() {
-        let p = print(rt, &part[dated..], out);
-        if p.dated == 0 {
-            return Printed {
-                dated,
-                failed: p.failed,
-            };
+        let more = print(rt, &part[dated..], out)?;
+        if more == 0 {
+            break;
         }
-        dated += p.dated;
+        dated += more;
     }
-    Printed {
-        dated,
-        failed: false,
-    }
+    Ok(dated)
 }
 
-// Prints the whole lines of the first n bytes, and keeps the line that has begun behind them.
-fn print_lines<R: Print + Eprint>(rt: &R, block: &mut [u8], n: usize, out: &mut [u8]) -> Turn
+// Prints the whole lines of the first n bytes, and keeps the line that has begun behind them: as many bytes as it gives, at the
+// front of the block.
+fn print_lines<R: Print>(
+    rt: &R,
+    block: &mut [u8],
+    n: usize,
+    out: &mut [u8],
+) -> Result<usize, Failure>
     requires { n ≤ length block.old }
-    ensures { result.kept ≤ 32 }
+    ensures { IfOk result (λ kept. kept ≤ 32) }
 {
-    let p = print_all(rt, &block[..n], out);
-    if p.failed {
-        return Turn {
-            kept: 0,
-            goes_on: false,
-        };
-    }
-    Turn {
-        kept: lines::keep(block, p.dated, n),
-        goes_on: true,
-    }
+    let dated = print_all(rt, &block[..n], out)?;
+    Ok(lines::keep(block, dated, n))
 }
 
 // A last line without a newline counts.
-fn end<R: Print + Eprint>(rt: &R, block: &mut [u8], kept: usize, out: &mut [u8])
+fn end<R: Print>(rt: &R, block: &mut [u8], kept: usize, out: &mut [u8]) -> Result<(), Failure>
     requires kept_bound { kept ≤ 32 }
     requires in_bounds { 65536 ≤ length block.old }
 {
     if 0 < kept {
         block[kept] = b'\n';
-        print_lines(rt, block, kept + 1, out);
+        print_lines(rt, block, kept + 1, out)?;
     }
+    Ok(())
 }
 
-// Reads behind the bytes that were kept.
-fn read_block<R: Print + Eprint, I: Read>(
+// Reads behind the bytes that were kept, and gives how many are kept now; none where the input has ended.
+fn read_block<R: Print, I: Read>(
     rt: &R,
     input: &mut I,
     block: &mut [u8],
     kept: usize,
     out: &mut [u8],
-) -> Turn
+) -> Result<Option<usize>, Failure>
     requires kept_bound { kept ≤ 32 }
     requires in_bounds { 65536 ≤ length block.old }
-    ensures { result.kept ≤ 32 }
+    ensures { IfOk result (λ goes_on. IfSome goes_on (λ kept. kept ≤ 32)) }
 {
     match input.read(&mut block[kept..]) {
         Ok(0) => {
-            end(rt, block, kept, out);
-            Turn {
-                kept: 0,
-                goes_on: false,
-            }
+            end(rt, block, kept, out)?;
+            Ok(None)
         }
-        Ok(got) => print_lines(rt, block, kept + got, out),
+        Ok(got) => Ok(Some(print_lines(rt, block, kept + got, out)?)),
         // A signal came before any byte did.
-        Err(error) if error.kind() == ErrorKind::Interrupted => Turn {
-            kept,
-            goes_on: true,
-        },
-        Err(error) => {
-            fail(rt, "desk: read", error);
-            Turn {
-                kept: 0,
-                goes_on: false,
-            }
-        }
+        Err(error) if error.kind() == ErrorKind::Interrupted => Ok(Some(kept)),
+        Err(error) => Err(Failure::Read(error)),
     }
 }
 
 // A proved loop has to end: the turns count up to a number that no run comes to.
-fn run<R: Print + Eprint, I: Read>(rt: &R, input: &mut I, block: &mut [u8], out: &mut [u8])
+fn run<R: Print, I: Read>(
+    rt: &R,
+    input: &mut I,
+    block: &mut [u8],
+    out: &mut [u8],
+) -> Result<(), Failure>
     requires { 65536 ≤ length block.old }
 {
     let mut kept = 0;
     for _ in 0..u64::MAX {
-        let t = read_block(rt, input, block, kept, out);
-        if !t.goes_on {
-            return;
-        }
-        kept = t.kept;
+        let Some(n) = read_block(rt, input, block, kept, out)? else {
+            break;
+        };
+        kept = n;
     }
+    Ok(())
 }
 
 // Whether the program was started with a word behind its name.
@@ -163,5 +138,7 @@ fn main(rt: HostRuntime) {
     }
     let mut block = [0u8; 65536];
     let mut out = [0u8; 65536];
-    run(&rt, &mut rt.stdin(), &mut block, &mut out);
+    if let Err(failure) = run(&rt, &mut rt.stdin(), &mut block, &mut out) {
+        let _ = eprintln!(rt; "desk: {failure}");
+    }
 }

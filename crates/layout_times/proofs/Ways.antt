@@ -2,6 +2,7 @@
 use mathlib.Core.Path.{◌≡◌, refl, sym, ap, ap₂, ◌∙◌}
 use mathlib.Core.Bool.{Bool, true, false, ◌&&◌}
 use mathlib.Core.List.{List}
+use Rattle.std.specs.Prelude.{Ok, Err}
 use Prim.Native.Nat.{ℕ, ◌+◌, ◌-◌, ◌*◌, ◌/◌, ◌%◌, ◌≤◌, ◌<◌}
 use native.Mathlib.Omega.{arith}
 use lib.Dec.{leb, ltb, lit<, lit≤}
@@ -10,7 +11,7 @@ use lib.Signed.{le_z}
 use borrow.Author.Tests.{lt-ltb, le-ltb, le-leb, lt-leb, ltb-true, leb-true}
 use Rattle.axis.specs.Meaning.{place_of_day}
 use Rattle.axis.specs.Axis.{day_from, day_to}
-use Rattle.scales.specs.Meaning.{same_scale, outcome, some, no, valued, value_slip}
+use Rattle.scales.specs.Meaning.{same_scale, outcome, valued, value_slip}
 use Rattle.scales.specs.Order.{Answers, last, next}
 use Rattle.scales.specs.Place.{apart, day_part, micro_part, and_false, and_both}
 use Rattle.scales.specs.declared.Scale.TheVariants as S
@@ -44,7 +45,7 @@ module _ (h : Handed) where
   abbrev in_weeks : Bool
   in_weeks = le_z Proteus.epoch (day_of h) && (le_z (day_of h) (pos 21371) && ltb (micro_of h) 86400000000)
 
-  pub proteus_no : (f : Refusal) → value_slip 0 (no f) ≡ valued 0 (outcome (due_in S.Utc h)) → value_slip 0 (no f) ≡ valued 0 (outcome (since1980 h))
+  pub proteus_no : (f : Refusal) → value_slip 0 (Err f) ≡ valued 0 (outcome (due_in S.Utc h)) → value_slip 0 (Err f) ≡ valued 0 (outcome (since1980 h))
   proteus_no f e = still_no S.Utc h (micros_from Proteus.epoch (day_of h) (micro_of h)) in_weeks f e
 
   module _ (n : ℕ) (d : HeldIn S.Utc h n) where
@@ -57,27 +58,27 @@ module _ (h : Handed) where
     tests : in_weeks ≡ leb 32700 (n / 86401000000) && (leb (n / 86401000000) 61371 && ltb (n % 86401000000) 86400000000)
     tests = rw (day_from 32700 (day_of h) (lit< tt) (lit≤ tt), day_to 61371 (day_of h) (lit< tt), day_of_lem, micro_of_lem)
 
-    none : in_weeks ≡ false → value_slip 0 (no R.NoImage) ≡ valued 0 (outcome (since1980 h))
+    none : in_weeks ≡ false → value_slip 0 (Err R.NoImage) ≡ valued 0 (outcome (since1980 h))
     none e = now_no S.Utc h (micros_from Proteus.epoch (day_of h) (micro_of h)) in_weeks d e
 
-    pub proteus_early : n / 86401000000 < 32700 → value_slip 0 (no R.NoImage) ≡ valued 0 (outcome (since1980 h))
+    pub proteus_early : n / 86401000000 < 32700 → value_slip 0 (Err R.NoImage) ≡ valued 0 (outcome (since1980 h))
     proteus_early k = none (tests ∙ rw (lt-leb 32700 (n / 86401000000) k))
 
-    pub proteus_late_lem : 61371 < n / 86401000000 → value_slip 0 (no R.NoImage) ≡ valued 0 (outcome (since1980 h))
+    pub proteus_late_lem : 61371 < n / 86401000000 → value_slip 0 (Err R.NoImage) ≡ valued 0 (outcome (since1980 h))
     proteus_late_lem k = none (tests ∙ rw (lt-leb (n / 86401000000) 61371 k) (and_false (leb 32700 (n / 86401000000))))
 
-    pub proteus_sixty_lem : 86400000000 ≤ n % 86401000000 → value_slip 0 (no R.NoImage) ≡ valued 0 (outcome (since1980 h))
+    pub proteus_sixty_lem : 86400000000 ≤ n % 86401000000 → value_slip 0 (Err R.NoImage) ≡ valued 0 (outcome (since1980 h))
     proteus_sixty_lem k =
         none (tests ∙ rw (le-ltb (n % 86401000000) 86400000000 k, and_false (leb (n / 86401000000) 61371), and_false (leb 32700 (n / 86401000000))))
 
     pub proteus_at : 32700 ≤ n / 86401000000 → n / 86401000000 ≤ 61371 → n % 86401000000 < 86400000000 →
-        value_slip 0 (some ((n / 86401000000 - 32700) * 86400000000 + n % 86401000000)) ≡ valued 0 (outcome (since1980 h))
+        value_slip 0 (Ok ((n / 86401000000 - 32700) * 86400000000 + n % 86401000000)) ≡ valued 0 (outcome (since1980 h))
     proteus_at a b k =
         now_at S.Utc h (micros_from Proteus.epoch (day_of h) (micro_of h)) in_weeks d
         (tests ∙ rw (le-leb 32700 (n / 86401000000) a, le-leb (n / 86401000000) 61371 b, lt-ltb (n % 86401000000) 86400000000 k))
         (ap₂ (λ (x y : ℕ). (x - 32700) * 86400000000 + y) day_of_lem micro_of_lem)
 
-  pub proteus_below : (n : ℕ) → value_slip 0 (some n) ≡ valued 0 (outcome (since1980 h)) → n < 2477260800000000
+  pub proteus_below : (n : ℕ) → value_slip 0 (Ok n) ≡ valued 0 (outcome (since1980 h)) → n < 2477260800000000
   proteus_below n e =
       let d = held h (Proteus.has_image (scale_of h) (day_of h) (micro_of h)) (micros_from Proteus.epoch (day_of h) (micro_of h)) n e in
       let w = (and_both (same_scale S.Utc (scale_of h)) in_weeks d.image).1 in
@@ -94,25 +95,25 @@ proteus_limits b n h = rw (lt-ltb (n / 604800000000) 4096 (omega arith), le-leb 
 
 -- ---- CryoSat and SIRAL
 module _ (h : Handed) where
-  pub cryosat_no : (f : Refusal) → value_slip 0 (no f) ≡ valued 0 (outcome (due_in S.Tai h)) → value_slip 0 (no f) ≡ valued 0 (outcome (since2000 h))
+  pub cryosat_no : (f : Refusal) → value_slip 0 (Err f) ≡ valued 0 (outcome (due_in S.Tai h)) → value_slip 0 (Err f) ≡ valued 0 (outcome (since2000 h))
   cryosat_no f e = still_no S.Tai h (micros_from Cryosat.epoch (day_of h) (micro_of h)) (le_z Cryosat.epoch (day_of h)) f e
 
   day_test : le_z Cryosat.epoch (day_of h) ≡ leb 40000 (place_of_day (day_of h))
   day_test = day_from 40000 (day_of h) (lit< tt) (lit≤ tt)
 
   module _ (n : ℕ) (d : HeldIn S.Tai h n) where
-    pub cryosat_early : n < 3456000000000000 → value_slip 0 (no R.NoImage) ≡ valued 0 (outcome (since2000 h))
+    pub cryosat_early : n < 3456000000000000 → value_slip 0 (Err R.NoImage) ≡ valued 0 (outcome (since2000 h))
     cryosat_early k =
         now_no S.Tai h (micros_from Cryosat.epoch (day_of h) (micro_of h)) (le_z Cryosat.epoch (day_of h)) d
         (day_test ∙ lt-leb 40000 (place_of_day (day_of h)) (omega (arith, d.is)))
 
-    pub cryosat_at : 3456000000000000 ≤ n → value_slip 0 (some (n - 3456000000000000)) ≡ valued 0 (outcome (since2000 h))
+    pub cryosat_at : 3456000000000000 ≤ n → value_slip 0 (Ok (n - 3456000000000000)) ≡ valued 0 (outcome (since2000 h))
     cryosat_at k =
         let u = (place_in_lem S.Tai h d).under in
         now_at S.Tai h (micros_from Cryosat.epoch (day_of h) (micro_of h)) (le_z Cryosat.epoch (day_of h)) d
         (day_test ∙ le-leb 40000 (place_of_day (day_of h)) (omega (arith, d.is))) (omega (arith, d.is))
 
-  pub cryosat_below : (n : ℕ) → value_slip 0 (some n) ≡ valued 0 (outcome (since2000 h)) → n < 5662310400000000
+  pub cryosat_below : (n : ℕ) → value_slip 0 (Ok n) ≡ valued 0 (outcome (since2000 h)) → n < 5662310400000000
   cryosat_below n e =
       let d = held h (Cryosat.has_image (scale_of h) (day_of h)) (micros_from Cryosat.epoch (day_of h) (micro_of h)) n e in
       omega (arith, d.is, d.place.to, d.place.under, (apart (scale_of h)).most)

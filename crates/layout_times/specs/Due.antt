@@ -1,7 +1,7 @@
 -- A handed time as the writers take it: a number of microseconds, or 4, 7, 12. Assumes nothing.
-use Rattle.std.specs.Prelude.{◌≡◌, refl, Bool, true, false, ◌&&◌, ℕ}
+use Rattle.std.specs.Prelude.{◌≡◌, refl, Bool, true, false, ◌&&◌, ℕ, Result, Ok, Err}
 use Rattle.std.proofs.Common.{sym, ap, subst, ◌∙◌, eq-eqb, ne_eqb}
-use Rattle.scales.specs.Meaning.{code_of, same_scale, Judged, given, gives, and_then, outcome, number_of, time_scale, time_count, some, no, valued, value_slip}
+use Rattle.scales.specs.Meaning.{code_of, same_scale, Judged, given, gives, and_then, outcome, number_of, time_scale, time_count, valued, value_slip}
 use Rattle.scales.specs.Order.{Answers, next, last, is_answers}
 use Rattle.scales.specs.Place.{count_of}
 use Rattle.scales.specs.Same.{scales_same, same_scale_lem}
@@ -10,10 +10,9 @@ use Rattle.scales.specs.declared.Refusal.{Refusal}
 use Rattle.scales.specs.declared.Refusal.TheVariants as R
 use Rattle.scales.specs.declared.Time.{Time}
 use Rattle.handed.specs.declared.Handed.{Handed}
-use Rattle.handed.specs.Told.{Loose, loose, Told, told_nothing, told_outside, told_scale, told_count}
-use Rattle.handed.specs.declared.Taken.{Taken}
-use Rattle.handed.specs.declared.Taken.TheVariants as K
-use Rattle.handed.specs.Meaning.{scale_of, is_finite, is_in_span, day_of, micro_of, Took}
+use Rattle.handed.specs.Told.{Loose, loose, Told, untaken_lem, told_scale, told_count}
+use Rattle.handed.specs.declared.Untaken.{Untaken}
+use Rattle.handed.specs.Meaning.{scale_of, is_finite, is_in_span, day_of, micro_of, Took, refusal_by}
 use Rattle.layout_times.specs.Chain.{then_refused, told_answer, told_refused}
 use Rattle.layout_times.specs.Meaning.{micros_from}
 use Rattle.layout_times.specs.Cryosat as Cryosat
@@ -40,21 +39,18 @@ since1980 h = taking h (Proteus.has_image (scale_of h) (day_of h) (micro_of h)) 
 
 -- ---- from what `take` answers
 module _ (s : Scale) (h : Handed) where
-  module _ (t : Taken) (w : Took h t) (x : Scale) where
-    pub due_nothing : t ≡ K.NotFinite x → value_slip 0 (no R.DecimalNotFinite) ≡ valued 0 (outcome (due_in s h))
-    due_nothing e = rw (told_nothing h t w x e).0
-
-    pub due_outside : t ≡ K.Outside x → value_slip 0 (no R.OutsideSpan) ≡ valued 0 (outcome (due_in s h))
-    due_outside e = let o = told_outside h t w x e in rw (o.0, o.1)
+  pub due_untaken : (t : Result Time Untaken) → Took h t → (e : Untaken) → t ≡ Err e → value_slip 0 (Err (refusal_by e)) ≡ valued 0 (outcome (due_in s h))
+  due_untaken t w e q =
+      ap (valued 0) (sym (untaken_lem h t w e q (given (same_scale s (scale_of h)) 12 (gives (count_of s (day_of h) (micro_of h))))))
 
   module _ (t : Time) (w : Told h t) where
-    pub due_other : (code_of (time_scale t) ≡ code_of s → ⊥) → value_slip 0 (no R.NoImage) ≡ valued 0 (outcome (due_in s h))
+    pub due_other : (time_scale t ≡ s → ⊥) → value_slip 0 (Err R.NoImage) ≡ valued 0 (outcome (due_in s h))
     due_other n =
-        rw (w.finite, w.inside, ne_eqb (code_of s) (code_of (scale_of h)) (λ e. n (ap code_of (told_scale h t w) ∙ sym e)))
+        rw (w.finite, w.inside, ne_eqb (code_of s) (code_of (scale_of h)) (λ e. n (told_scale h t w ∙ scales_same (scale_of h) s (sym e))))
 
-    pub due_at : code_of (time_scale t) ≡ code_of s → value_slip 0 (some (time_count t)) ≡ valued 0 (outcome (due_in s h))
+    pub due_at : time_scale t ≡ s → value_slip 0 (Ok (time_count t)) ≡ valued 0 (outcome (due_in s h))
     due_at e =
-        let q = sym (told_scale h t w) ∙ scales_same (time_scale t) s e in
+        let q = sym (told_scale h t w) ∙ e in
         rw (w.finite, w.inside, eq-eqb (code_of s) (code_of (scale_of h)) (ap code_of (sym q)), told_count h t w, q)
 
 -- ---- what a number that was taken tells
@@ -69,14 +65,14 @@ module _ (h : Handed) (has : Bool) (m : ℕ) where
   from_answer : {n : ℕ} → Answers (taking h has m) n → Held h has m n
   from_answer (next e (next k (next l last))) = record { finite = e; inside = k; image = l; is = refl; place = loose h e k }
 
-  pub held : (n : ℕ) → value_slip 0 (some n) ≡ valued 0 (outcome (taking h has m)) → Held h has m n
+  pub held : (n : ℕ) → value_slip 0 (Ok n) ≡ valued 0 (outcome (taking h has m)) → Held h has m n
   held n e = from_answer (is_answers (taking h has m) n (told_answer 0 (taking h has m) refl n e))
 
 module _ (s : Scale) (h : Handed) where
   abbrev pub HeldIn : ℕ → Type 0
   HeldIn n = Held h (same_scale s (scale_of h)) (count_of s (day_of h) (micro_of h)) n
 
-  pub held_in : (n : ℕ) → value_slip 0 (some n) ≡ valued 0 (outcome (due_in s h)) → HeldIn n
+  pub held_in : (n : ℕ) → value_slip 0 (Ok n) ≡ valued 0 (outcome (due_in s h)) → HeldIn n
   held_in n e = held h (same_scale s (scale_of h)) (count_of s (day_of h) (micro_of h)) n e
 
   pub place_in_lem : {n : ℕ} → HeldIn n → Loose s (day_of h) (micro_of h)
@@ -91,15 +87,15 @@ module _ (s : Scale) (h : Handed) where
     both false b c = refl
 
     module _ (b : Bool) where
-      pub still_no : (f : Refusal) → value_slip 0 (no f) ≡ valued 0 (outcome (due_in s h)) → value_slip 0 (no f) ≡ valued 0 (outcome (taking h (same_scale s (scale_of h) && b) m))
+      pub still_no : (f : Refusal) → value_slip 0 (Err f) ≡ valued 0 (outcome (due_in s h)) → value_slip 0 (Err f) ≡ valued 0 (outcome (taking h (same_scale s (scale_of h) && b) m))
       still_no f e =
           ap (valued 0)
           (sym (then_refused (λ (n : ℕ). given b 12 (gives m)) (due_in s h) (number_of f) (told_refused 0 (due_in s h) f e))
           ∙ both (same_scale s (scale_of h)) b (count_of s (day_of h) (micro_of h)))
 
       module _ {n : ℕ} (d : HeldIn n) where
-        pub now_no : b ≡ false → value_slip 0 (no R.NoImage) ≡ valued 0 (outcome (taking h (same_scale s (scale_of h) && b) m))
+        pub now_no : b ≡ false → value_slip 0 (Err R.NoImage) ≡ valued 0 (outcome (taking h (same_scale s (scale_of h) && b) m))
         now_no e = rw (d.finite, d.inside, d.image, e)
 
-        pub now_at : b ≡ true → {k : ℕ} → k ≡ m → value_slip 0 (some k) ≡ valued 0 (outcome (taking h (same_scale s (scale_of h) && b) m))
+        pub now_at : b ≡ true → {k : ℕ} → k ≡ m → value_slip 0 (Ok k) ≡ valued 0 (outcome (taking h (same_scale s (scale_of h) && b) m))
         now_at e q = rw (d.finite, d.inside, d.image, e, q)

@@ -5,37 +5,26 @@ ghost use Rattle.layout_times.specs.Due.{since2000};
 ghost use Rattle.layout_times.specs.Cryosat.{fields_at, read, write};
 
 use handed::Handed;
-use layout_fields::cryosat::{CryosatParted, Fields};
-use scales::{Counted, Dated, Refusal, Scale, Written};
+use layout_fields::cryosat::Fields;
+use scales::{Record, Refusal, Refused, Scale};
 
-pub fn read(b: &[u8]) -> Dated
+pub fn read(b: &[u8]) -> Result<Record, Refused>
     ensures { slip result ≡ read b.now }
 {
-    match layout_fields::cryosat::read(b) {
-        // day 0
-        CryosatParted::Fields(f) => crate::since(
-            Scale::Tai,
-            40000,
-            crate::inner::micros(f.day, f.millisecond, f.microsecond),
-        ),
-        CryosatParted::Refused(r) => Dated::Refused(r, Scale::Tai),
-    }
+    let f = layout_fields::cryosat::read(b).map_err(|r| r.of(Scale::Tai))?;
+    let n = crate::inner::micros(f.day, f.millisecond, f.microsecond);
+    // day 0
+    crate::since(Scale::Tai, 40000, n)
 }
 
 // The microseconds since day 0 of a handed TAI time, or 4, 7, 12.
-pub(crate) fn since_2000(h: Handed) -> Counted
+pub(crate) fn since_2000(h: Handed) -> Result<u64, Refusal>
     ensures { count_slip result ≡ valued 0 (outcome (since2000 h)) }
 {
-    match crate::due(h, Scale::Tai) {
-        Counted::Count(n) => {
-            // 40,000 days: from day -40000 to day 0
-            if n < 3_456_000_000_000_000 {
-                return Counted::Refused(Refusal::NoImage);
-            }
-            Counted::Count(n - 3_456_000_000_000_000)
-        }
-        Counted::Refused(r) => Counted::Refused(r),
-    }
+    // 40,000 days: from day -40000 to day 0
+    crate::due(h, Scale::Tai)?
+        .checked_sub(3_456_000_000_000_000)
+        .ok_or(Refusal::NoImage)
 }
 
 // The fields of n microseconds since day 0.
@@ -50,11 +39,8 @@ pub(crate) fn fields_at(n: u64) -> Fields
     }
 }
 
-pub fn write(h: Handed, out: &mut [u8]) -> Written
+pub fn write(h: Handed, out: &mut [u8]) -> Result<usize, Refusal>
     ensures { wrote result out.new ≡ write h out.old }
 {
-    match since_2000(h) {
-        Counted::Count(n) => layout_fields::cryosat::write(fields_at(n), out),
-        Counted::Refused(r) => Written::Refused(r),
-    }
+    layout_fields::cryosat::write(fields_at(since_2000(h)?), out)
 }

@@ -6,5 +6,5 @@ ghost use Rattle.layout_times.specs.Cryosat.{micros_in};
 pub fn micros(day: u16, millisecond: u32, microsecond: u16) -> u64
     ensures { result ≡ micros_in day millisecond microsecond }
 {
-    (day as u64) * 86_400_000_000 + (millisecond as u64) * 1000 + (microsecond as u64)
+    u64::from(day) * 86_400_000_000 + u64::from(millisecond) * 1000 + u64::from(microsecond)
 }

@@ -3,12 +3,12 @@
 
 ghost use Rattle.std.specs.Prelude.{◌≡◌, ◌≤◌, ◌<◌};
 ghost use Rattle.axis.specs.Meaning.{day_at};
-ghost use Rattle.scales.specs.Meaning.{outcome, slip, spanned, time_count, valued, count_slip};
+ghost use Rattle.scales.specs.Meaning.{outcome, slip, spanned, valued, count_slip};
 ghost use Rattle.layout_times.specs.Meaning.{moment_from, fraction_micros, fraction_at};
 ghost use Rattle.layout_times.specs.Due.{due_in};
 
-use handed::{Handed, Taken};
-use scales::{Counted, Dated, Record, Refusal, Scale, Time};
+use handed::Handed;
+use scales::{Record, Refusal, Refused, Scale};
 
 pub mod cryosat;
 pub mod cuc;
@@ -17,7 +17,7 @@ pub mod proteus;
 pub mod siral;
 
 // The time n microseconds after the beginning of a day, given by its place on the axis, every day having 86,400 s; or 7.
-fn since(scale: Scale, from: u32, n: u64) -> Dated
+fn since(scale: Scale, from: u32, n: u64) -> Result<Record, Refused>
     requires { from ≤ 100000 }
     ensures { slip result ≡ spanned scale (moment_from (day_at from) n).day (moment_from (day_at from) n).micro }
 {
@@ -29,7 +29,7 @@ fn since(scale: Scale, from: u32, n: u64) -> Dated
 fn fraction_micros(f: u16) -> u64
     ensures { result ≡ fraction_micros f }
 {
-    ((f as u64) * 15625 + 512) / 1024
+    (u64::from(f) * 15625 + 512) / 1024
 }
 
 // The last 16-bit fraction of a second that is not later.
@@ -40,29 +40,13 @@ fn fraction_at(micros: u64) -> u16
     ((micros * 65536 + 32767) / 1_000_000) as u16
 }
 
-// The count of a time in its own scale.
-fn count(t: Time) -> u64
-    ensures { result ≡ time_count t }
-{
-    match t {
-        Time::Tai(x) => x.0,
-        Time::Utc(x) => x.0,
-        Time::Gps(x) => x.0,
-    }
-}
-
 // The count of a handed time where a time of a scale is due, or 4, 7, 12.
-fn due(h: Handed, scale: Scale) -> Counted
+fn due(h: Handed, scale: Scale) -> Result<u64, Refusal>
     ensures { count_slip result ≡ valued 0 (outcome (due_in scale h)) }
 {
-    match handed::take(h) {
-        Taken::NotFinite(_) => Counted::Refused(Refusal::DecimalNotFinite),
-        Taken::Outside(_) => Counted::Refused(Refusal::OutsideSpan),
-        Taken::At(t) => {
-            if t.scale().code() == scale.code() {
-                return Counted::Count(count(t));
-            }
-            Counted::Refused(Refusal::NoImage)
-        }
+    let t = handed::take(h)?;
+    if t.scale() != scale {
+        return Err(Refusal::NoImage);
     }
+    Ok(t.count())
 }

@@ -5,45 +5,31 @@ ghost use Rattle.layout_times.specs.Due.{since1980};
 ghost use Rattle.layout_times.specs.Proteus.{h3_of, fields_at, read, write};
 
 use handed::Handed;
-use layout_fields::proteus::{Fields, ProteusParted};
-use scales::{Counted, Dated, Mark, Refusal, Scale, Utc, Written};
+use layout_fields::proteus::Fields;
+use scales::{Mark, Record, Refusal, Refused, Scale, Utc};
 
-pub fn read(b: &[u8]) -> Dated
+pub fn read(b: &[u8]) -> Result<Record, Refused>
     ensures { slip result ≡ read b.now }
 {
-    match layout_fields::proteus::read(b) {
-        ProteusParted::Fields(f) => {
-            let seconds = (f.week as u64) * 604_800 + (f.second as u64);
-            let n = seconds * 1_000_000 + crate::fraction_micros(f.fraction);
-            // day -7300
-            crate::since(Scale::Utc, 32700, n).with_mark(Mark::Proteus(f.h3))
-        }
-        ProteusParted::Refused(r) => Dated::Refused(r, Scale::Utc),
-    }
+    let f = layout_fields::proteus::read(b).map_err(|r| r.of(Scale::Utc))?;
+    let seconds = u64::from(f.week) * 604_800 + u64::from(f.second);
+    let n = seconds * 1_000_000 + crate::fraction_micros(f.fraction);
+    // day -7300
+    Ok(crate::since(Scale::Utc, 32700, n)?.with_mark(Mark::Proteus(f.h3)))
 }
 
 // The microseconds since day -7300 of a handed UTC time that has an image, days of 86,400 s; or 4, 7, 12.
-fn since_1980(h: Handed) -> Counted
+fn since_1980(h: Handed) -> Result<u64, Refusal>
     ensures { count_slip result ≡ valued 0 (outcome (since1980 h)) }
 {
-    match crate::due(h, Scale::Utc) {
-        Counted::Count(n) => {
-            // The day by its place on the axis: -7300 stands at 32700, 21371 at 61371.
-            let day = n / Utc::BOUND;
-            let micro = n % Utc::BOUND;
-            if day < 32700 {
-                return Counted::Refused(Refusal::NoImage);
-            }
-            if 61371 < day {
-                return Counted::Refused(Refusal::NoImage);
-            }
-            if 86_400_000_000 <= micro {
-                return Counted::Refused(Refusal::NoImage);
-            }
-            Counted::Count((day - 32700) * 86_400_000_000 + micro)
-        }
-        Counted::Refused(r) => Counted::Refused(r),
+    let n = crate::due(h, Scale::Utc)?;
+    // The day by its place on the axis: -7300 stands at 32700, 21371 at 61371.
+    let day = n / Utc::BOUND;
+    let micro = n % Utc::BOUND;
+    if day < 32700 || 61371 < day || 86_400_000_000 <= micro {
+        return Err(Refusal::NoImage);
     }
+    Ok((day - 32700) * 86_400_000_000 + micro)
 }
 
 // The last fields that are not later than n microseconds since day -7300.
@@ -63,18 +49,12 @@ fn fields_at(h3: bool, n: u64) -> Fields
 fn h3_of(mark: Mark) -> bool
     ensures { result ≡ h3_of mark }
 {
-    match mark {
-        Mark::Plain => false,
-        Mark::Proteus(h3) => h3,
-        Mark::Correlated(_) => false,
-    }
+    matches!(mark, Mark::Proteus(true))
 }
 
-pub fn write(h: Handed, out: &mut [u8]) -> Written
+pub fn write(h: Handed, out: &mut [u8]) -> Result<usize, Refusal>
     ensures { wrote result out.new ≡ write h out.old }
 {
-    match since_1980(h) {
-        Counted::Count(n) => layout_fields::proteus::write(fields_at(h3_of(h.mark()), n), out),
-        Counted::Refused(r) => Written::Refused(r),
-    }
+    let n = since_1980(h)?;
+    layout_fields::proteus::write(fields_at(h3_of(h.mark()), n), out)
 }

@@ -4,20 +4,16 @@ ghost use Rattle.scales.specs.Meaning.{slip, wrote};
 ghost use Rattle.layout_times.specs.Siral.{fields_at, read, write};
 
 use handed::Handed;
-use layout_fields::siral::{Fields, SiralParted};
-use scales::{Counted, Dated, Scale, Written};
+use layout_fields::siral::Fields;
+use scales::{Record, Refusal, Refused, Scale};
 
-pub fn read(b: &[u8]) -> Dated
+pub fn read(b: &[u8]) -> Result<Record, Refused>
     ensures { slip result ≡ read b.now }
 {
-    match layout_fields::siral::read(b) {
-        SiralParted::Fields(f) => {
-            let n = crate::inner::micros(f.day, f.millisecond, f.microsecond);
-            // day 0
-            crate::since(Scale::Tai, 40000, n + (f.extra as u64) * 33 / 16)
-        }
-        SiralParted::Refused(r) => Dated::Refused(r, Scale::Tai),
-    }
+    let f = layout_fields::siral::read(b).map_err(|r| r.of(Scale::Tai))?;
+    let n = crate::inner::micros(f.day, f.millisecond, f.microsecond);
+    // day 0
+    crate::since(Scale::Tai, 40000, n + u64::from(f.extra) * 33 / 16)
 }
 
 // The fields of n microseconds since day 0: CryoSat's, and no extra units.
@@ -34,11 +30,8 @@ fn fields_at(n: u64) -> Fields
     }
 }
 
-pub fn write(h: Handed, out: &mut [u8]) -> Written
+pub fn write(h: Handed, out: &mut [u8]) -> Result<usize, Refusal>
     ensures { wrote result out.new ≡ write h out.old }
 {
-    match crate::cryosat::since_2000(h) {
-        Counted::Count(n) => layout_fields::siral::write(fields_at(n), out),
-        Counted::Refused(r) => Written::Refused(r),
-    }
+    layout_fields::siral::write(fields_at(crate::cryosat::since_2000(h)?), out)
 }

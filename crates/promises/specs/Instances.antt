@@ -1,5 +1,5 @@
 -- Each theorem with hypotheses at an input that meets them, where the conclusion is an answer. Assumes nothing.
-use Rattle.std.specs.Prelude.{◌≡◌, refl, true, List, [], ◌∷◌, ◌++◌, drop, ℕ, ℤ, pos, negsuc}
+use Rattle.std.specs.Prelude.{◌≡◌, refl, true, List, [], ◌∷◌, ◌++◌, drop, ℕ, ℤ, pos, negsuc, Err}
 use Rattle.std.proofs.Common.{sym, ap, ◌∙◌, arith, lit≤}
 use Rattle.axis.specs.Meaning.{Moment, since}
 use Rattle.octets.specs.Meaning.{number, field}
@@ -12,9 +12,8 @@ use Rattle.double.specs.Meaning.{plus_zero}
 use Rattle.handed.specs.Meaning.{taken_of, taken_slip, Took}
 use Rattle.handed.specs.declared.Handed.{Handed}
 use Rattle.handed.specs.declared.Handed.TheVariants as H
-use Rattle.handed.specs.declared.Taken.TheVariants as K
+use Rattle.handed.specs.declared.Untaken.TheVariants as K
 use Rattle.decimal.specs.Meaning.{decimal_slip}
-use Rattle.decimal.specs.declared.Decimal.TheVariants as D
 use Rattle.calendar.specs.Meaning.{leap, month_length, length_of, first_day, day_after, days_to, walk, is_date, date_of_day, day_of_date}
 use Rattle.leap.specs.Meaning.{through, is_step, published_days, published_offsets, published_last}
 use Rattle.leap.specs.Walk.{or_false}
@@ -74,15 +73,15 @@ kept_instance = (cuc_write_lem (H.Record (record_of S.Tai (pos 0) 0)) (9 ∷ [])
 abbrev late : Handed
 late = H.Record (record_of S.Tai (pos 40000) 0)
 
-late_taken : Took late (K.Outside S.Tai)
+late_taken : Took late (Err (K.Outside S.Tai))
 unfolding taken_of
 late_taken = record { is = refl; kept = lit≤ tt }
 
-pub take_instance : (taken_slip (K.Outside S.Tai)).number ≡ 7
-take_instance = (take late (K.Outside S.Tai) late_taken).first
+pub take_instance : (taken_slip (Err (K.Outside S.Tai))).number ≡ 7
+take_instance = (take late (Err (K.Outside S.Tai)) late_taken).first
 
-pub decimal_write_instance : (decimal_slip (D.Refused R.NoImage)).number ≡ 12
-decimal_write_instance = (decimal_write_lem (H.Record (record_of S.Utc (pos 0) 86400000000)) (D.Refused R.NoImage) (refl, refl)).first
+pub decimal_write_instance : (decimal_slip (Err R.NoImage)).number ≡ 12
+decimal_write_instance = (decimal_write_lem (H.Record (record_of S.Utc (pos 0) 86400000000)) (Err R.NoImage) (refl, refl)).first
 
 abbrev unknown : VrkHanded
 unknown = record { kind = 0; scale = 9; day = pos 0; micro = 0; decimal = plus_zero; mark = 0; source = 0 }

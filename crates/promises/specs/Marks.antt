@@ -1,6 +1,6 @@
 -- "Order and comparison of times ignore it": two handed records that differ in the mark alone get the same of every function, but for
 -- H3 among the bytes of Proteus, and a change and a judging give the same number and time with the mark handed in. Assumes nothing.
-use Rattle.std.specs.Prelude.{◌≡◌, refl, true, List, ℕ, ℤ, pos}
+use Rattle.std.specs.Prelude.{◌≡◌, refl, true, List, ℕ, ℤ, pos, Result}
 use Rattle.scales.specs.Meaning.{remark, spanned_as, record_of, marked_record}
 use Rattle.scales.specs.declared.Scale.{Scale}
 use Rattle.scales.specs.declared.Scale.TheVariants as S
@@ -9,7 +9,6 @@ use Rattle.scales.specs.declared.Mark.{Mark}
 use Rattle.scales.specs.declared.Mark.TheVariants as M
 use Rattle.handed.specs.declared.Handed.TheVariants as H
 use Rattle.decimal.specs.Meaning.{WroteDay}
-use Rattle.decimal.specs.declared.Decimal.{Decimal}
 use Rattle.changes.specs.Meaning.{change_of}
 use Rattle.leap_laws.proofs.Marks.{change_ignores, judged_ignores}
 use Rattle.sbt.specs.Meaning.{tick_of}
@@ -26,9 +25,10 @@ use Rattle.layout_laws.specs.Meaning.{SameButH3}
 use Rattle.layout_laws.proofs.Marks.{cuc_mark_ignored, cryosat_mark_ignored, siral_mark_ignored, proteus_mark_ignored}
 use Rattle.text_write.specs.Meaning.{write_text}
 use Rattle.text_write.specs.declared.Form.{Form}
+use Rattle.scales.specs.declared.Refusal.{Refusal}
 
 pub record MarkIgnored (m : Mark) (r : Record) : Type 0 where
-  pub decimal : (x : Decimal) → WroteDay (H.Record r) x → WroteDay (H.Record (marked_record m r)) x
+  pub decimal : (x : Result Float Refusal) → WroteDay (H.Record r) x → WroteDay (H.Record (marked_record m r)) x
   pub text : (f : Form) (ds : List ℤ) (os : List ℕ) (e : ℤ) (out : List ℕ)
       → write_text (H.Record (marked_record m r)) f ds os e out ≡ write_text (H.Record r) f ds os e out
   pub cuc : (out : List ℕ) → Cuc.write (H.Record (marked_record m r)) out ≡ Cuc.write (H.Record r) out

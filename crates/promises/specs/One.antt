@@ -1,6 +1,6 @@
 -- Demand 1 of every function that can refuse: "The first that applies in this order is given, never otherwise. Every refusal returns
 -- its number, .. and lent memory keeps all its bytes." Assumes nothing.
-use Rattle.std.specs.Prelude.{◌≡◌, refl, Bool, true, List, [], ◌∷◌, ◌++◌, ℕ, Float, ℤ, pos, length, drop}
+use Rattle.std.specs.Prelude.{◌≡◌, refl, Bool, true, List, [], ◌∷◌, ◌++◌, ℕ, Float, ℤ, pos, length, drop, Result}
 use Rattle.std.proofs.Common.{sym, ap, subst, ◌∙◌, drop_at}
 use Rattle.axis.specs.Meaning.{Moment}
 use Rattle.octets.specs.Meaning.{field}
@@ -12,12 +12,12 @@ use Rattle.scales.specs.declared.Mark.TheVariants as M
 use Rattle.handed.specs.Meaning.{scale_of, mark_of, Took, taken_slip, taking}
 use Rattle.handed.specs.Told.{taken_is}
 use Rattle.handed.specs.declared.Handed.{Handed}
-use Rattle.handed.specs.declared.Taken.{Taken}
+use Rattle.handed.specs.declared.Untaken.{Untaken}
+use Rattle.scales.specs.declared.Time.{Time}
 use Rattle.calendar.specs.Meaning as Calendar
 use Rattle.calendar.specs.declared.Date.{Date}
 use Rattle.double.specs.Meaning.{plus_zero}
 use Rattle.decimal.specs.Meaning.{reading, read_of, writing, Allowed, WroteDay, decimal_slip}
-use Rattle.decimal.specs.declared.Decimal.{Decimal}
 use Rattle.changes.specs.Meaning as Changes
 use Rattle.leap_laws.proofs.Order.{any}
 use Rattle.clock.specs.Meaning as Clock
@@ -50,6 +50,7 @@ use Rattle.promises.specs.Conditions as C
 use Rattle.promises.specs.Rows as Rows
 use Rattle.promises.specs.Judging.{change_rows, list_rows, dating_rows, turning_rows, text_read_rows, text_write_rows, line_rows}
 use Rattle.promises.specs.First.{number_in, order_clear, first_is, promised}
+use Rattle.scales.specs.declared.Refusal.{Refusal}
 
 -- ---- the kinds of answers
 -- a time whose answer has a mark; a refusal's empty record is plain
@@ -123,14 +124,14 @@ unfolding Calendar.day_of_date
 day_of_lem t = values (pos 0) (Calendar.giving_day t) refl refl
 
 -- what is taken apart, by the number and values of each case
-pub take : (h : Handed) (t : Taken) → Took h t → Times (scale_of h) (taken_slip t) (taking h) (Rows.take h)
+pub take : (h : Handed) (t : Result Time Untaken) → Took h t → Times (scale_of h) (taken_slip t) (taking h) (Rows.take h)
 take h t w = subst (λ (r : Slip). Times (scale_of h) r (taking h) (Rows.take h)) (sym (taken_is h t w)) (times (scale_of h) (taking h) refl refl)
 
 pub decimal_read_lem : (x : Float) (s : Scale) → Times s (read_of x s) (reading x s) (Rows.decimal_read x s)
 unfolding read_of
 decimal_read_lem x s = times s (reading x s) refl refl
 
-pub decimal_write_lem : (h : Handed) (r : Decimal) → WroteDay h r → Allows (decimal_slip r) (writing h) (Rows.decimal_write h)
+pub decimal_write_lem : (h : Handed) (r : Result Float Refusal) → WroteDay h r → Allows (decimal_slip r) (writing h) (Rows.decimal_write h)
 decimal_write_lem h r q = allows (writing h) refl refl (decimal_slip r) q
 
 -- ---- changes of scale

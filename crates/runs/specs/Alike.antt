@@ -1,6 +1,6 @@
 -- Packets whose three fields are the first's: the pass compares eight bytes, limits are judged once, and dates are told by the totals.
 -- Assumes nothing.
-use Rattle.std.specs.Prelude.{◌≡◌, refl, Bool, true, false, cond, ◌&&◌, List, [], ◌∷◌, map, ℕ, zero, suc, ◌+◌, ◌*◌, ◌/◌, ◌≤◌, ◌<◌, eqb, leb, ℤ, length, take, drop}
+use Rattle.std.specs.Prelude.{◌≡◌, refl, Bool, true, false, cond, ◌&&◌, List, [], ◌∷◌, map, ℕ, zero, suc, ◌+◌, ◌*◌, ◌/◌, ◌≤◌, ◌<◌, eqb, leb, ℤ, length, take, drop, Option, Some, None}
 use Rattle.std.proofs.Common.{sym, ap, ap₂, ◌∙◌, arith, length-drop, eqb-true, eq-eqb, ne_eqb}
 use Rattle.std.proofs.lemmas.Bool.{false≢true}
 use Rattle.std.proofs.Math.Bool.{and-true, and-false}
@@ -15,8 +15,6 @@ use Rattle.layout_fields.specs.declared.siral.Fields.{Fields}
 use Rattle.layout_times.specs.Siral.{sixteenths}
 use Rattle.runs.specs.Meaning.{packets_in, all, ahead, totals, last_of, is_in_limits, alike, most, date_of, dates_of}
 use Rattle.runs.specs.Passes.{unroll_from, last_from, dates_from}
-use Rattle.runs.specs.declared.Unrolled.{Unrolled}
-use Rattle.runs.specs.declared.Unrolled.TheVariants as U
 
 -- ---- the three fields in one number, and the first ten bytes
 abbrev pub front_of : Fields → ℕ
@@ -79,17 +77,17 @@ abbrev not_above : List ℕ → Bool
 not_above ts = all (λ (t : ℕ). leb t most) ts
 
 pub unroll_is : (n front t : ℕ) (s : List ℕ) → 10 * n ≤ length s →
-    unroll_from n front t s ≡ cond (fronts front (packets_in n s) && not_above (totals t (packets_in n s))) (U.Last (last_of t (totals t (packets_in n s)))) U.Not
+    unroll_from n front t s ≡ cond (fronts front (packets_in n s) && not_above (totals t (packets_in n s))) (Some (last_of t (totals t (packets_in n s)))) None
 unroll_is zero front t s h = refl
 unroll_is (suc n) front t s h =
     let f = fields_of (take 10 s) in
     let u = ahead t f.extra in
     let r = packets_in n (drop 10 s) in
-    ap₂ (λ (x y : ℕ). cond (eqb x front) (cond (leb (ahead t y) most) (unroll_from n front (ahead t y) (drop 10 s)) U.Not) U.Not) (front_of_lem s (omega arith)) (sym (extra_of s))
-    ∙ ap (λ (v : Unrolled). cond (eqb (front_of f) front) (cond (leb u most) v U.Not) U.Not) (unroll_is n front u (drop 10 s) (omega (arith, length-drop 10 s)))
-    ∙ go (eqb (front_of f) front) (leb u most) (fronts front r) (not_above (totals u r)) (U.Last (last_of u (totals u r)))
+    ap₂ (λ (x y : ℕ). cond (eqb x front) (cond (leb (ahead t y) most) (unroll_from n front (ahead t y) (drop 10 s)) None) None) (front_of_lem s (omega arith)) (sym (extra_of s))
+    ∙ ap (λ (v : Option ℕ). cond (eqb (front_of f) front) (cond (leb u most) v None) None) (unroll_is n front u (drop 10 s) (omega (arith, length-drop 10 s)))
+    ∙ go (eqb (front_of f) front) (leb u most) (fronts front r) (not_above (totals u r)) (Some (last_of u (totals u r)))
   where
-    go : (a b c d : Bool) (v : Unrolled) → cond a (cond b (cond (c && d) v U.Not) U.Not) U.Not ≡ cond ((a && c) && (b && d)) v U.Not
+    go : (a b c d : Bool) (v : Option ℕ) → cond a (cond b (cond (c && d) v None) None) None ≡ cond ((a && c) && (b && d)) v None
     go true true c d v = refl
     go true false c d v = rw (and-false c)
     go false b c d v = refl

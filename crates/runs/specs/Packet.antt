@@ -1,14 +1,16 @@
 -- What a packet of ten bytes tells: its fields where they are below their limits, and its three fields in one number. Assumes nothing.
-use Rattle.std.specs.Prelude.{◌≡◌, Bool, cond, List, ℕ, ◌+◌, ◌*◌, ◌≤◌, length, drop}
-use Rattle.std.proofs.Math.Path.{refl, ap}
+use Rattle.std.specs.Prelude.{◌≡◌, Bool, cond, List, ℕ, ◌+◌, ◌*◌, ◌≤◌, length, drop, Result, Ok, Err}
+use Rattle.std.specs.Result.{is_err}
+use Rattle.std.proofs.lemmas.Bool.{false≢true}
+use Rattle.std.proofs.Math.Path.{refl, sym, ap}
 use Rattle.std.proofs.Common.{◌∙◌, arith, length-drop, length-take-le, eq-eqb}
 use Rattle.std.proofs.Math.Bool.{true, false}
 use Rattle.scales.specs.Meaning.{Valued, valued, answer, refused}
-use Rattle.scales.specs.Same.{no_zero}
+use Rattle.scales.specs.Same.{no_zero, refusals}
 use Rattle.scales.specs.declared.Refusal.{Refusal}
+use Rattle.scales.specs.declared.Refusal.TheVariants as R
 use Rattle.layout_fields.specs.Siral.{fields_of, empty, slip, read}
 use Rattle.layout_fields.specs.declared.siral.Fields.{Fields}
-use Rattle.layout_fields.specs.declared.siral.SiralParted.TheVariants as P
 use Rattle.runs.specs.Meaning.{is_in_limits}
 use Rattle.runs.specs.Passes.{packet_at}
 
@@ -24,18 +26,27 @@ module _ (p : List ℕ) (l : length p ≡ 10) where
   unfolding read told
   read_is = rw (eq-eqb (length p) 10 l)
 
-  pub packet_in : (f : Fields) → slip (P.Fields f) ≡ read p → (is_in_limits (fields_of p) ≡ true) × (f ≡ fields_of p)
+  pub packet_in : (f : Fields) → slip (Ok f) ≡ read p → (is_in_limits (fields_of p) ≡ true) × (f ≡ fields_of p)
   unfolding told
   packet_in f q = go (is_in_limits (fields_of p)) (q ∙ read_is)
     where
-      go : (b : Bool) → slip (P.Fields f) ≡ told b → (b ≡ true) × (f ≡ fields_of p)
+      go : (b : Bool) → slip (Ok f) ≡ told b → (b ≡ true) × (f ≡ fields_of p)
       go true q = (refl, ap (λ (v : Valued Fields). v.value) q)
       go false q = absurd (let z : 0 ≡ 3 = ap (λ (v : Valued Fields). v.number) q in omega arith)
 
-  pub packet_over_lem : (r : Refusal) → slip (P.Refused r) ≡ read p → is_in_limits (fields_of p) ≡ false
+  pub packet_over_lem : (r : Refusal) → slip (Err r) ≡ read p → (is_in_limits (fields_of p) ≡ false) × (r ≡ R.FieldOver)
   unfolding told
   packet_over_lem r q = go (is_in_limits (fields_of p)) (q ∙ read_is)
     where
-      go : (b : Bool) → slip (P.Refused r) ≡ told b → b ≡ false
+      go : (b : Bool) → slip (Err r) ≡ told b → (b ≡ false) × (r ≡ R.FieldOver)
       go true q = absurd (no_zero r (ap (λ (v : Valued Fields). v.number) q))
-      go false q = refl
+      go false q = (refl, refusals r R.FieldOver (ap (λ (v : Valued Fields). v.number) q))
+
+  -- whether it answers
+  pub packet_fails : (r : Result Fields Refusal) → is_err r ≡ true → slip r ≡ read p → is_in_limits (fields_of p) ≡ false
+  packet_fails (Ok f) e q = absurd (false≢true e)
+  packet_fails (Err r) e q = (packet_over_lem r q).0
+
+  pub packet_reads : (r : Result Fields Refusal) → is_err r ≡ false → slip r ≡ read p → is_in_limits (fields_of p) ≡ true
+  packet_reads (Ok f) e q = (packet_in f q).0
+  packet_reads (Err r) e q = absurd (false≢true (sym e))

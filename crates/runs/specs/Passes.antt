@@ -1,33 +1,30 @@
 -- What the private functions answer, by their passes over the bytes. Assumes nothing.
-use Rattle.std.specs.Prelude.{Bool, cond, List, [], ◌∷◌, ℕ, zero, suc, ◌+◌, ◌*◌, ◌/◌, ◌≤◌, leb, ltb, eqb, ℤ, length, take, drop}
+use Rattle.std.specs.Prelude.{Bool, cond, List, [], ◌∷◌, ℕ, zero, suc, ◌+◌, ◌*◌, ◌/◌, ◌≤◌, leb, ltb, eqb, ℤ, length, take, drop, Result, Ok, Err, Option, Some, None}
 use Rattle.axis.specs.Meaning.{held_micros_at}
 use Rattle.octets.specs.Meaning.{part}
+use Rattle.scales.specs.declared.Refusal.{Refusal}
 use Rattle.scales.specs.Meaning.{number_of}
 use Rattle.scales.specs.declared.Refusal.TheVariants as R
 use Rattle.layout_fields.specs.Siral.{fields_of}
 use Rattle.layout_fields.specs.declared.siral.Fields.{Fields}
 use Rattle.layout_times.specs.Cryosat.{micros_in}
 use Rattle.runs.specs.Meaning.{packets_in, all, ahead, is_in_limits, most, Run}
-use Rattle.runs.specs.declared.Ran.{Ran}
-use Rattle.runs.specs.declared.Ran.TheVariants as N
-use Rattle.runs.specs.declared.Unrolled.{Unrolled}
-use Rattle.runs.specs.declared.Unrolled.TheVariants as U
+use Rattle.runs.specs.declared.Dates.{Dates}
 use Rattle.runs.specs.declared.Second.{Second}
-use Rattle.runs.specs.declared.Second.TheVariants as D
 
 -- packet i
 abbrev pub packet_at : List ℕ → ℕ → List ℕ
 packet_at s i = take 10 (drop (10 * i) s)
 
 -- ---- one pass: the eight bytes in front and the total, as long as it is not above the most
-abbrev pub unroll_from : ℕ → ℕ → ℕ → List ℕ → Unrolled
-unroll_from zero front total s = U.Last total
+abbrev pub unroll_from : ℕ → ℕ → ℕ → List ℕ → Option ℕ
+unroll_from zero front total s = Some total
 unroll_from (suc n) front total s =
     let t = ahead total (part s 8 2) in
-    cond (eqb (part s 0 8) front) (cond (leb t most) (unroll_from n front t (drop 10 s)) U.Not) U.Not
+    cond (eqb (part s 0 8) front) (cond (leb t most) (unroll_from n front t (drop 10 s)) None) None
 
-abbrev pub unrolled_in : ℕ → List ℕ → ℕ → Unrolled
-unrolled_in n s told = cond (leb told most) (unroll_from n (part s 0 8) told s) U.Not
+abbrev pub unrolled_in : ℕ → List ℕ → ℕ → Option ℕ
+unrolled_in n s told = cond (leb told most) (unroll_from n (part s 0 8) told s) None
 
 -- ---- where that is not so: the limits of all
 abbrev pub limits_in : ℕ → List ℕ → Bool
@@ -38,12 +35,12 @@ abbrev pub place_of : Fields → ℕ
 place_of f = 3456000000000000 + micros_in f.day f.millisecond f.microsecond
 
 -- day 36525 begins at 6611760000000000
-abbrev pub second_by : Fields → Bool → Unrolled → Second
-second_by f limits (U.Last t) =
-    cond (is_in_limits f) (cond (ltb (place_of f + t * 33 / 16) 6611760000000000) (D.At (place_of f) t) (D.Refused R.OutsideSpan)) (D.Refused R.FieldOver)
-second_by f limits U.Not = cond limits (D.Refused R.NotOneSecond) (D.Refused R.FieldOver)
+abbrev pub second_by : Fields → Bool → Option ℕ → Result Second Refusal
+second_by f limits (Some t) =
+    cond (is_in_limits f) (cond (ltb (place_of f + t * 33 / 16) 6611760000000000) (Ok (record { from = place_of f; last = t })) (Err R.OutsideSpan)) (Err R.FieldOver)
+second_by f limits None = cond limits (Err R.NotOneSecond) (Err R.FieldOver)
 
-abbrev pub second_of : ℕ → List ℕ → ℕ → Second
+abbrev pub second_of : ℕ → List ℕ → ℕ → Result Second Refusal
 second_of n s told = second_by (fields_of (take 10 s)) (limits_in n s) (unrolled_in n s told)
 
 -- ---- the pass that writes
@@ -64,6 +61,6 @@ pub record Filling (s : List ℕ) (n from told places : ℕ) : Type 0 where
   pub ends : last_from n told s ≤ 484848
 
 -- ---- what is handed back: the slice as the function leaves it
-abbrev pub run_slip : Ran → List ℤ → Run
-run_slip (N.Dates n t) out = record { number = 0; count = n; last = t; lent = out }
-run_slip (N.Refused f) out = record { number = number_of f; count = 0; last = 0; lent = out }
+abbrev pub run_slip : Result Dates Refusal → List ℤ → Run
+run_slip (Ok d) out = record { number = 0; count = d.count; last = d.last; lent = out }
+run_slip (Err f) out = record { number = number_of f; count = 0; last = 0; lent = out }

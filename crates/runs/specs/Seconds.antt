@@ -1,5 +1,5 @@
 -- What `judge` finds is what the meaning's tests come to: all of the limits, of one second, and of the span. Assumes nothing.
-use Rattle.std.specs.Prelude.{◌≡◌, refl, Bool, true, false, cond, ◌&&◌, List, [], ◌∷◌, map, ℕ, zero, suc, ◌+◌, ◌*◌, ◌/◌, ◌%◌, ◌≤◌, ◌<◌, leb, ltb, eqb, ℤ, length, take, drop}
+use Rattle.std.specs.Prelude.{◌≡◌, refl, Bool, true, false, cond, ◌&&◌, List, [], ◌∷◌, map, ℕ, zero, suc, ◌+◌, ◌*◌, ◌/◌, ◌%◌, ◌≤◌, ◌<◌, leb, ltb, eqb, ℤ, length, take, drop, Result, Ok, Err, Option, Some, None}
 use Rattle.std.proofs.Common.{sym, ap, ap₂, ◌∙◌, arith, ltb-true, leb-true, lt-ltb, le-ltb, le-leb, eq-eqb}
 use Rattle.std.proofs.Math.Bool.{and-false}
 use Rattle.std.proofs.lemmas.Bool.{lt-leb}
@@ -7,6 +7,7 @@ use Rattle.axis.specs.Meaning.{day_at}
 use Rattle.axis.specs.Diff.{Way, way, below, above}
 use Rattle.octets.specs.Meaning.{part}
 use Rattle.octets.specs.Field.{Bytes}
+use Rattle.scales.specs.declared.Refusal.{Refusal}
 use Rattle.scales.specs.Meaning.{in_span}
 use Rattle.scales.specs.Place.{and_both, span_in, span_late}
 use Rattle.scales.specs.declared.Scale.TheVariants as S
@@ -18,10 +19,7 @@ use Rattle.runs.specs.Meaning.{packets_in, all, extras, totals, last_of, is_in_l
 use Rattle.runs.specs.Passes.{unrolled_in, limits_in, place_of, second_by, second_of}
 use Rattle.runs.specs.Totals.{last_up, last_decides}
 use Rattle.runs.specs.Alike.{front_of, front_of_lem, within, unroll_is, fronts_alike, limits_alike, dates_alike}
-use Rattle.runs.specs.declared.Unrolled.{Unrolled}
-use Rattle.runs.specs.declared.Unrolled.TheVariants as U
 use Rattle.runs.specs.declared.Second.{Second}
-use Rattle.runs.specs.declared.Second.TheVariants as D
 
 -- ---- of each
 module _ {A : Type 0} where
@@ -64,9 +62,9 @@ most_down : (a b : ℕ) → a ≤ b → leb b most ≡ true → leb a most ≡ t
 most_down a b h e = let k : b ≤ 484848 = leb-true b 484848 e in le-leb a 484848 (omega arith)
 
 -- ---- the verdict, by the meaning's three tests
-abbrev pub verdict : ℕ → ℕ → Bool → Bool → Bool → Second
+abbrev pub verdict : ℕ → ℕ → Bool → Bool → Bool → Result Second Refusal
 verdict place last limits one spans =
-    cond limits (cond one (cond spans (D.At place last) (D.Refused R.OutsideSpan)) (D.Refused R.NotOneSecond)) (D.Refused R.FieldOver)
+    cond limits (cond one (cond spans (Ok (record { from = place; last = last })) (Err R.OutsideSpan)) (Err R.NotOneSecond)) (Err R.FieldOver)
 
 alike_self : (f : Fields) → alike f f ≡ true
 alike_self f = rw (eq-eqb f.day f.day refl, eq-eqb f.millisecond f.millisecond refl, eq-eqb f.microsecond f.microsecond refl)
@@ -95,7 +93,7 @@ module _ (f : Fields) (gs : List Fields) (told : ℕ) where
   most_last = last_decides (λ (t : ℕ). leb t most) most_down told f.extra (extras gs)
 
   -- the verdict, by what the pass came to
-  judged : (b : Bool) → is_one_second told (f ∷ gs) ≡ b → second_by f (all is_in_limits (f ∷ gs)) (cond b (U.Last (last_of told (totals told (f ∷ gs)))) U.Not) ≡
+  judged : (b : Bool) → is_one_second told (f ∷ gs) ≡ b → second_by f (all is_in_limits (f ∷ gs)) (cond b (Some (last_of told (totals told (f ∷ gs)))) None) ≡
       verdict (place_of f) (last_of told (totals told (f ∷ gs))) (all is_in_limits (f ∷ gs)) (is_one_second told (f ∷ gs)) (all is_in_span (dates_of (f ∷ gs) (totals told (f ∷ gs))))
   judged false e = rw e
   judged true e =
@@ -122,8 +120,8 @@ second_is (suc m) s told b z h =
     f : Fields
     f = fields_of (take 10 s)
 
-    last : Unrolled
-    last = U.Last (last_of told (totals told (packets_in (suc m) s)))
+    last : Option ℕ
+    last = Some (last_of told (totals told (packets_in (suc m) s)))
 
     fronts : all (λ (g : Fields). eqb (front_of g) (part s 0 8)) (packets_in (suc m) s) ≡ are_alike (packets_in (suc m) s)
     fronts =
@@ -131,10 +129,10 @@ second_is (suc m) s told b z h =
         ∙ fronts_alike f (within s b (omega arith)) (suc m) s b h
         ∙ ap (λ (x : Bool). x && all (alike f) (packets_in m (drop 10 s))) (alike_self f)
 
-    go : Way most told → unrolled_in (suc m) s told ≡ cond (is_one_second told (packets_in (suc m) s)) last U.Not
+    go : Way most told → unrolled_in (suc m) s told ≡ cond (is_one_second told (packets_in (suc m) s)) last None
     go (below k) =
         rw (lt-leb told 484848 k, told_over f (packets_in m (drop 10 s)) told k, and-false (are_alike (packets_in (suc m) s)))
     go (above k) =
         rw (le-leb told 484848 k)
         (unroll_is (suc m) (part s 0 8) told s h
-        ∙ ap (λ (x : Bool). cond (x && all (λ (t : ℕ). leb t most) (totals told (packets_in (suc m) s))) last U.Not) fronts)
+        ∙ ap (λ (x : Bool). cond (x && all (λ (t : ℕ). leb t most) (totals told (packets_in (suc m) s))) last None) fronts)

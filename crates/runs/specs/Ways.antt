@@ -1,5 +1,5 @@
 -- The ways out of a run, each with what it hands back. Assumes nothing.
-use Rattle.std.specs.Prelude.{◌≡◌, refl, Bool, cond, List, [], ◌∷◌, ◌++◌, map, ℕ, zero, suc, ◌+◌, ◌*◌, ◌/◌, ◌%◌, ◌≤◌, ◌<◌, min, ℤ, pos, length, take, drop}
+use Rattle.std.specs.Prelude.{◌≡◌, refl, Bool, cond, List, [], ◌∷◌, ◌++◌, map, ℕ, zero, suc, ◌+◌, ◌*◌, ◌/◌, ◌%◌, ◌≤◌, ◌<◌, min, ℤ, pos, length, take, drop, Result, Ok, Err}
 use Rattle.std.proofs.Math.Path.{sym, ap}
 use Rattle.std.proofs.Common.{ap₂, ◌∙◌, arith}
 use Rattle.std.proofs.Math.Bool.{true, false}
@@ -19,22 +19,20 @@ use Rattle.runs.specs.Passes.{place_of, second_of, dates_from, Filling, run_slip
 use Rattle.runs.specs.Turns.{length_dates}
 use Rattle.runs.specs.Alike.{last_is, dates_are, dates_alike}
 use Rattle.runs.specs.Seconds.{before, date_is, verdict, all_alike, spans_are, last_most, second_is}
-use Rattle.runs.specs.declared.Ran.TheVariants as N
 use Rattle.runs.specs.declared.Second.{Second}
-use Rattle.runs.specs.declared.Second.TheVariants as D
 
 -- what a verdict tells
-number_in : Second → ℕ
-number_in (D.At p l) = 0
-number_in (D.Refused r) = number_of r
+number_in : Result Second Refusal → ℕ
+number_in (Ok v) = 0
+number_in (Err r) = number_of r
 
-place_in : Second → ℕ
-place_in (D.At p l) = p
-place_in (D.Refused r) = 0
+place_in : Result Second Refusal → ℕ
+place_in (Ok v) = v.from
+place_in (Err r) = 0
 
-last_in : Second → ℕ
-last_in (D.At p l) = l
-last_in (D.Refused r) = 0
+last_in : Result Second Refusal → ℕ
+last_in (Ok v) = v.last
+last_in (Err r) = 0
 
 pub length_packets : (n : ℕ) (s : List ℕ) → length (packets_in n s) ≡ n
 length_packets zero s = refl
@@ -98,15 +96,15 @@ module _ (s : List ℕ) (told : ℕ) (out : List ℤ) (b : Bytes s) (e : length 
   unfolding siral tested limits one spans last
   run_is = rw (eq-eqb (length s % 10) 0 e)
 
-  found : (v : Second) → second_of (length s / 10) s told ≡ v → verdict place last limits one spans ≡ v
+  found : (v : Result Second Refusal) → second_of (length s / 10) s told ≡ v → verdict place last limits one spans ≡ v
   unfolding limits one spans place last
   found v q = sym (second_is (length s / 10) s told b h (omega arith)) ∙ q
 
-  pub run_refused : (r : Refusal) → second_of (length s / 10) s told ≡ D.Refused r → siral s told out ≡ run_slip (N.Refused r) out
+  pub run_refused : (r : Refusal) → second_of (length s / 10) s told ≡ Err r → siral s told out ≡ run_slip (Err r) out
   unfolding number_in tested
-  run_refused r q = run_is ∙ ap (ran last out) (go limits one spans (found (D.Refused r) q))
+  run_refused r q = run_is ∙ ap (ran last out) (go limits one spans (found (Err r) q))
     where
-      go : (l o p : Bool) → verdict place last l o p ≡ D.Refused r → tested l o p ≡ refused (number_of r)
+      go : (l o p : Bool) → verdict place last l o p ≡ Err r → tested l o p ≡ refused (number_of r)
       go true true true k = absurd (no_zero r (sym (ap number_in k)))
       go true true false k = ap refused (ap number_in k)
       go true false p k = ap refused (ap number_in k)
@@ -120,12 +118,12 @@ module _ (s : List ℕ) (told : ℕ) (out : List ℤ) (b : Bytes s) (e : length 
     pub from_is : from ≡ place
     pub to_is : to ≡ last
 
-  module _ (from to : ℕ) (q : second_of (length s / 10) s told ≡ D.At from to) where
+  module _ (from to : ℕ) (q : second_of (length s / 10) s told ≡ Ok (record { from = from; last = to })) where
     holds : Holds limits one spans from to
     unfolding number_in place_in last_in
-    holds = go limits one spans (found (D.At from to) q)
+    holds = go limits one spans (found (Ok (record { from = from; last = to })) q)
       where
-        go : (l o p : Bool) → verdict place last l o p ≡ D.At from to → Holds l o p from to
+        go : (l o p : Bool) → verdict place last l o p ≡ Ok (record { from = from; last = to }) → Holds l o p from to
         go true true true k = record { limits_hold = refl; one_holds = refl; spans_hold = refl; from_is = sym (ap place_in k); to_is = sym (ap last_in k) }
         go true true false k = absurd (let z : 7 ≡ 0 = ap number_in k in omega arith)
         go true false p k = absurd (let z : 16 ≡ 0 = ap number_in k in omega arith)

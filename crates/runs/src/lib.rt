@@ -8,18 +8,18 @@ ghost use Rattle.layout_fields.specs.Siral.{slip, read};
 ghost use Rattle.runs.specs.Meaning.{ahead, siral};
 ghost use Rattle.runs.specs.Passes.{packet_at, unrolled_in, limits_in, second_of, dates_from, Filling, run_slip};
 
-use layout_fields::siral::SiralParted;
+use layout_fields::siral::Fields;
 use scales::Refusal;
 
-// How many dates were written, and the last total; or a refusal.
+// How many dates were written, and the last total.
 #[derive(Clone, Copy)]
-pub enum Ran {
-    Dates(usize, u64),
-    Refused(Refusal),
+pub struct Dates {
+    pub count: usize,
+    pub last: u64,
 }
 
 // Packet i.
-fn packet(bytes: &[u8], i: usize) -> SiralParted
+fn packet(bytes: &[u8], i: usize) -> Result<Fields, Refusal>
     requires { 10 * i + 10 ≤ length bytes.now }
     ensures { slip result ≡ read (packet_at bytes.now i) }
 {
@@ -55,36 +55,28 @@ fn next(total: u64, before: u64, extra: u64) -> u64
 }
 
 // The last total of packets whose three fields are the same and whose totals are not above the most.
-#[derive(Clone, Copy)]
-enum Unrolled {
-    Last(u64),
-    Not,
-}
-
-fn unroll(bytes: &[u8], n: usize, told: u64) -> Unrolled
+fn unroll(bytes: &[u8], n: usize, told: u64) -> Option<u64>
     requires { (10 * n ≤ length bytes.now) × (0 < n) }
     ensures { result ≡ unrolled_in n bytes.now told }
 {
     if 484_848 < told {
-        return Unrolled::Not;
+        return None;
     }
     let first = front(bytes, 0);
     let mut total = told;
     let mut before = told % 65536;
-    let mut i = 0;
-    while i < n {
+    for i in 0..n {
         if front(bytes, i) != first {
-            return Unrolled::Not;
+            return None;
         }
         let extra = extra_of(bytes, i);
         total = next(total, before, extra);
         if 484_848 < total {
-            return Unrolled::Not;
+            return None;
         }
         before = extra;
-        i += 1;
     }
-    Unrolled::Last(total)
+    Some(total)
 }
 
 // Are the fields of n packets below their limits?
@@ -92,44 +84,41 @@ fn all_in_limits(bytes: &[u8], n: usize) -> bool
     requires { 10 * n ≤ length bytes.now }
     ensures { result ≡ limits_in n bytes.now }
 {
-    let mut i = 0;
-    while i < n {
-        let SiralParted::Fields(_) = packet(bytes, i) else {
+    for i in 0..n {
+        if packet(bytes, i).is_err() {
             return false;
-        };
-        i += 1;
+        }
     }
     true
 }
 
-// The place of the three fields of a run, and its last total; or 3, 16, 7. Dates never fall, so that the last decides 7.
+// The place of the three fields of a run, and its last total.
 #[derive(Clone, Copy)]
-enum Second {
-    At(u64, u64),
-    Refused(Refusal),
+struct Second {
+    from: u64,
+    last: u64,
 }
 
-fn judge(bytes: &[u8], n: usize, told: u64) -> Second
+// The second of a run, or 3, 16, 7. Dates never fall, so that the last decides 7.
+fn judge(bytes: &[u8], n: usize, told: u64) -> Result<Second, Refusal>
     requires { (10 * n ≤ length bytes.now) × (0 < n) }
     ensures { result ≡ second_of n bytes.now told }
 {
-    let Unrolled::Last(total) = unroll(bytes, n, told) else {
+    let Some(last) = unroll(bytes, n, told) else {
         if all_in_limits(bytes, n) {
-            return Second::Refused(Refusal::NotOneSecond);
+            return Err(Refusal::NotOneSecond);
         }
-        return Second::Refused(Refusal::FieldOver);
+        return Err(Refusal::FieldOver);
     };
-    let SiralParted::Fields(f) = packet(bytes, 0) else {
-        return Second::Refused(Refusal::FieldOver);
-    };
+    let f = packet(bytes, 0)?;
     // day 0 on the axis
     let from = 3_456_000_000_000_000
         + layout_times::inner::micros(f.day, f.millisecond, f.microsecond);
     // day 36525
-    if 6_611_760_000_000_000 <= from + total * 33 / 16 {
-        return Second::Refused(Refusal::OutsideSpan);
+    if 6_611_760_000_000_000 <= from + last * 33 / 16 {
+        return Err(Refusal::OutsideSpan);
     }
-    Second::At(from, total)
+    Ok(Second { from, last })
 }
 
 // The dates of n packets onto the front of a lent slice.
@@ -139,35 +128,35 @@ fn fill(bytes: &[u8], n: usize, from: u64, told: u64, dates: &mut [i64])
 {
     let mut total = told;
     let mut before = told % 65536;
-    let mut i = 0;
-    while i < n {
+    for i in 0..n {
         let extra = extra_of(bytes, i);
         total = next(total, before, extra);
         dates[i] = axis::micros_at(from + total * 33 / 16);
         before = extra;
-        i += 1;
     }
 }
 
 // The dates of a run, in TAI microseconds since day 0; `told` is the last total of the run that this one goes on from, or 0.
-pub fn siral(bytes: &[u8], told: u64, dates: &mut [i64]) -> Ran
+pub fn siral(bytes: &[u8], told: u64, dates: &mut [i64]) -> Result<Dates, Refusal>
     ensures { run_slip result dates.new ≡ siral bytes.now told dates.old }
 {
     let n = bytes.len() / 10;
     if bytes.len() % 10 != 0 {
-        return Ran::Refused(Refusal::LengthIsNone);
+        return Err(Refusal::LengthIsNone);
     }
     if n == 0 {
-        return Ran::Dates(0, told);
+        return Ok(Dates {
+            count: 0,
+            last: told,
+        });
     }
-    match judge(bytes, n, told) {
-        Second::At(from, last) => {
-            if dates.len() < n {
-                return Ran::Refused(Refusal::OutputShorter);
-            }
-            fill(bytes, n, from, told, dates);
-            Ran::Dates(n, last)
-        }
-        Second::Refused(f) => Ran::Refused(f),
+    let second = judge(bytes, n, told)?;
+    if dates.len() < n {
+        return Err(Refusal::OutputShorter);
     }
+    fill(bytes, n, second.from, told, dates);
+    Ok(Dates {
+        count: n,
+        last: second.last,
+    })
 }

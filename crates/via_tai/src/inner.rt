@@ -121,10 +121,11 @@ pub fn unexpired_to_utc(c: Tai, list: &Accepted) -> Result<Utc, Refusal>
     requires unexpired { is_expired_tai list.now.days list.now.offsets list.now.last (micros_at c.0) ≡ false }
     ensures { slip_utc result ≡ dated Scale.Utc (outcome (to_utc list.now.days list.now.offsets list.now.last (micros_at c.0))) }
 {
+    let list = list.list();
     if c.0 < FIRST * Tai::BOUND + 10 * SECOND {
         return Err(Refusal::ResultOutside);
     }
-    Ok(leap::inner::utc_at(list.list(), c))
+    Ok(leap::inner::utc_at(list, c))
 }
 
 pub fn to_utc(c: Tai, list: &Accepted) -> Result<Utc, Refusal>
