@@ -1,14 +1,11 @@
 -- The Gregorian calendar as the paper states it. Days are signed, counted from 1 January 2000. Assumes nothing.
-use Rattle.std.specs.Prelude.{Bool, true, cond, not, ◌&&◌, ◌||◌, List, [], ◌∷◌, ℕ, zero, suc, ◌+◌, ◌-◌, ◌*◌, ◌/◌, ◌%◌, eqb, leb, ltb, ℤ, pos, nat_abs, ◌-ℤ◌}
+use Rattle.std.specs.Prelude.{Bool, true, cond, not, ◌&&◌, ◌||◌, List, [], ◌∷◌, ℕ, zero, suc, ◌+◌, ◌-◌, ◌*◌, ◌/◌, ◌%◌, eqb, leb, ltb, ℤ, pos, nat_abs, ◌-ℤ◌, Result}
 use Rattle.std.proofs.Math.IntN.{sub_ℕ}
 use Rattle.std.specs.Int.Signed.{le_z}
-use Rattle.scales.specs.Meaning.{first, last, Judged, given, gives, Outcome, outcome, Valued, valued, Reply, some, no, value_slip}
+use Rattle.scales.specs.Meaning.{first, last, Judged, given, gives, Outcome, outcome, Valued, valued, value_slip}
 use Rattle.scales.specs.declared.Scale.TheVariants as S
+use Rattle.scales.specs.declared.Refusal.{Refusal}
 use Rattle.calendar.specs.declared.Date.{Date}
-use Rattle.calendar.specs.declared.DateAnswer.{DateAnswer}
-use Rattle.calendar.specs.declared.DateAnswer.TheVariants as A
-use Rattle.calendar.specs.declared.DayAnswer.{DayAnswer}
-use Rattle.calendar.specs.declared.DayAnswer.TheVariants as Y
 
 -- ---- "Dates are Gregorian"
 unfoldable pub leap : ℕ → Bool
@@ -97,19 +94,11 @@ date_handed o = valued no_date o
 abbrev pub day_handed : Outcome ℤ → Valued ℤ
 day_handed o = valued (pos 0) o
 
-abbrev pub reply_date : DateAnswer → Reply Date
-reply_date (A.Date t) = some t
-reply_date (A.Refused f) = no f
+abbrev pub date_slip : Result Date Refusal → Valued Date
+date_slip r = value_slip no_date r
 
-abbrev pub reply_day : DayAnswer → Reply ℤ
-reply_day (Y.Day d) = some d
-reply_day (Y.Refused f) = no f
-
-abbrev pub date_slip : DateAnswer → Valued Date
-date_slip r = value_slip no_date (reply_date r)
-
-abbrev pub day_slip : DayAnswer → Valued ℤ
-day_slip r = value_slip (pos 0) (reply_day r)
+abbrev pub day_slip : Result ℤ Refusal → Valued ℤ
+day_slip r = value_slip (pos 0) r
 
 unfoldable pub date_of_day : ℤ → Valued Date
 date_of_day d = date_handed (outcome (giving_date d))

@@ -11,71 +11,41 @@ use scales::Refusal;
 pub mod inner;
 
 // A date: the month and the day of the month are counted from 1.
-#[derive(Clone, Copy)]
+#[derive(Clone, Copy, PartialEq, Eq)]
 pub struct Date {
     pub year: u64,
     pub month: u64,
     pub day: u64,
 }
 
-#[derive(Clone, Copy)]
-pub enum DateAnswer {
-    Date(Date),
-    Refused(Refusal),
-}
-
-#[derive(Clone, Copy)]
-pub enum DayAnswer {
-    Day(i64),
-    Refused(Refusal),
-}
-
+#[tactic(auto, unfolding(crate::specs::Meaning::leap))]
 fn is_leap(y: u64) -> bool
     ensures { result ≡ leap y }
 {
-    if y % 400 == 0 {
-        return true;
-    }
-    if y % 100 == 0 {
-        return false;
-    }
-    y % 4 == 0
+    y % 400 == 0 || (y % 100 != 0 && y % 4 == 0)
 }
 
+#[tactic(auto, unfolding(crate::specs::Meaning::month_length))]
 fn month_length(y: u64, m: u64) -> u64
     ensures { result ≡ month_length y m }
 {
     match m {
-        2 => {
-            if is_leap(y) {
-                return 29;
-            }
-            28
-        }
+        2 if is_leap(y) => 29,
+        2 => 28,
         4 | 6 | 9 | 11 => 30,
         _ => 31,
     }
 }
 
+#[tactic(auto, unfolding(crate::specs::Meaning::is_date))]
 fn is_date(date: Date) -> bool
     ensures { result ≡ is_date date }
 {
-    let y = date.year;
-    let m = date.month;
-    let d = date.day;
-    if 9999 < y {
-        return false;
-    }
-    if m < 1 {
-        return false;
-    }
-    if 12 < m {
-        return false;
-    }
-    if d < 1 {
-        return false;
-    }
-    d <= month_length(y, m)
+    date.year <= 9999
+        && 1 <= date.month
+        && date.month <= 12
+        && 1 <= date.day
+        && date.day <= month_length(date.year, date.month)
 }
 
 // ---- the formula: a year is taken from March on, so that a leap day is its last, and every fourth has one
@@ -100,35 +70,31 @@ fn date_at(n: u32) -> Date
     requires { n < 46752 }
     ensures { result ≡ date_at (walk 1536 0 n) }
 {
-    let year = march_year(n) as u64;
-    let s = scaled(n) as u64;
+    let year = u64::from(march_year(n));
+    let s = u64::from(scaled(n));
     let month = s / 65536;
     let day = s % 65536 / 2141 + 1;
     if 12 < month {
-        return Date {
+        Date {
             year: year + 1969,
             month: month - 12,
             day,
-        };
-    }
-    Date {
-        year: year + 1968,
-        month,
-        day,
+        }
+    } else {
+        Date {
+            year: year + 1968,
+            month,
+            day,
+        }
     }
 }
 
+#[tactic(auto, using(crate::specs::Days::first_early, crate::specs::Days::first_late))]
 fn is_first(day: i64) -> bool
     ensures { result ≡ is_first day }
 {
     let place = axis::place_of_day(day);
-    if place < 29773 {
-        return false;
-    }
-    if 76525 < place {
-        return false;
-    }
-    inner::is_first(day)
+    29773 <= place && place <= 76525 && inner::is_first(day)
 }
 
 // The first of a month of a March year, counted from 1 March 1968.
@@ -154,46 +120,34 @@ fn days_to(year: u64, month: u64, day: u64) -> u32
 }
 
 // The date of a day from 1 January 1972 to 31 December 2099.
-pub fn date_of(day: i64) -> DateAnswer
+#[tactic(auto, using(crate::specs::Days::date_early, crate::specs::Days::date_late, crate::specs::Days::date_within))]
+pub fn date_of(day: i64) -> Result<Date, Refusal>
     ensures { date_slip result ≡ date_of_day day }
 {
     let place = axis::place_of_day(day);
-    if place < 29773 {
-        return DateAnswer::Refused(Refusal::OutsideSpan);
+    if place < 29773 || 76524 < place {
+        return Err(Refusal::OutsideSpan);
     }
-    if 76524 < place {
-        return DateAnswer::Refused(Refusal::OutsideSpan);
-    }
-    DateAnswer::Date(date_at((place - 29773) as u32))
+    Ok(date_at((place - 29773) as u32))
 }
 
 // The day of a date.
-pub fn day_of(date: Date) -> DayAnswer
+#[tactic(auto, using(crate::specs::Days::day_lacks, crate::specs::Days::day_early, crate::specs::Days::day_late, crate::specs::Days::day_within))]
+pub fn day_of(date: Date) -> Result<i64, Refusal>
     ensures { day_slip result ≡ day_of_date date }
 {
     if !is_date(date) {
-        return DayAnswer::Refused(Refusal::FieldOver);
+        return Err(Refusal::FieldOver);
     }
-    let y = date.year;
-    if y < 1972 {
-        return DayAnswer::Refused(Refusal::OutsideSpan);
+    if date.year < 1972 || 2099 < date.year {
+        return Err(Refusal::OutsideSpan);
     }
-    if 2099 < y {
-        return DayAnswer::Refused(Refusal::OutsideSpan);
-    }
-    DayAnswer::Day(axis::day_at(days_to(y, date.month, date.day) + 29773))
+    Ok(axis::day_at(days_to(date.year, date.month, date.day) + 29773))
 }
 
 // Are all these days firsts of months, January 1972 to January 2100?
 pub fn all_firsts(days: &[i64]) -> bool
     ensures { result ≡ all_firsts days.now }
 {
-    let mut i = 0;
-    while i < days.len() {
-        if !is_first(days[i]) {
-            return false;
-        }
-        i += 1;
-    }
-    true
+    days.iter().all(|day| is_first(*day))
 }

@@ -2,13 +2,13 @@
 use mathlib.Core.Path.{refl}
 use mathlib.Core.Bool.{true, false}
 use native.Mathlib.Omega.{arith}
+use Rattle.std.specs.Prelude.{Ok, Err}
 use lib.IntN.{pos}
 use Rattle.evidence.specs.ShutOut.{ShutOut, differ}
-use Rattle.scales.specs.Meaning.{Slip, slip, remark, spanned_as, spanned, record_of, marked_record}
+use Rattle.scales.specs.Meaning.{Slip, slip, remark, refused_of, spanned_as, spanned, record_of, marked_record}
 use Rattle.scales.specs.declared.Scale.TheVariants as S
 use Rattle.scales.specs.declared.Record.{Record}
 use Rattle.scales.specs.declared.Refusal.TheVariants as R
-use Rattle.scales.specs.declared.Dated.TheVariants as D
 use Rattle.scales.specs.declared.Mark.{Mark}
 use Rattle.scales.specs.declared.Mark.TheVariants as M
 use Rattle.ground_laws.proofs.Desks.{answered, empty, marked_as, mark_number, by_mark, always_marked}
@@ -36,10 +36,10 @@ pub mark_without_h3 :
     (marked_record (M.Proteus false) someday)
 mark_without_h3 = (refl, refl, differ (λ (r : Record). mark_number r.mark) (λ e. omega arith))
 
--- ---- Dated::with_mark
+-- ---- a mark on what is answered
 -- every slip is marked, a refusal's too
 pub refusal_marked_lem :
-    ShutOut (remark (M.Correlated 9) (slip (D.Refused R.NotInForce S.Utc))) (empty 8 S.Utc) (always_marked (M.Correlated 9) (slip (D.Refused R.NotInForce S.Utc)))
+    ShutOut (remark (M.Correlated 9) (slip (Err (refused_of S.Utc R.NotInForce)))) (empty 8 S.Utc) (always_marked (M.Correlated 9) (slip (Err (refused_of S.Utc R.NotInForce))))
     (record { number = 8; scale = S.Utc; day = pos 0; micro = 0; mark = M.Correlated 9 })
 refusal_marked_lem = (refl, refl, by_mark (λ e. omega arith))
 
@@ -48,7 +48,7 @@ abbrev never : Mark → Slip → Slip
 never m x = x
 
 pub answer_unmarked :
-    ShutOut (remark (M.Proteus false) (slip (D.At someday))) (marked_as (M.Proteus false) S.Utc (pos 5) 7) (never (M.Proteus false) (slip (D.At someday)))
+    ShutOut (remark (M.Proteus false) (slip (Ok someday))) (marked_as (M.Proteus false) S.Utc (pos 5) 7) (never (M.Proteus false) (slip (Ok someday)))
     (answered S.Utc (pos 5) 7)
 answer_unmarked = (refl, refl, by_mark (λ e. omega arith))
 

@@ -7,6 +7,5 @@ pub fn part(b: &[u8], from: usize, n: usize) -> u64
     requires { (from + n ≤ length b.now) × (n ≤ 8) }
     ensures { PartIs b.now from n result }
 {
-    let end = from + n;
-    crate::number_of(&b[from..end])
+    crate::number_of(&b[from..from + n])
 }

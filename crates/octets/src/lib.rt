@@ -30,6 +30,7 @@ pub fn lay(v: u64, out: &mut [u8])
 }
 
 // An image onto the front of a lent slice, or nothing where the slice is shorter; whether it was written.
+#[tactic(auto, using(crate::specs::Place::onto_room, crate::specs::Place::onto_none))]
 pub fn put(image: &[u8], out: &mut [u8]) -> bool
     ensures { (result ≡ has_room image.now out.old) × (out.new ≡ onto image.now out.old) }
 {
