@@ -98,7 +98,7 @@ def _factors(term):
 def _applied(term, operators, what):
     """A definition's name and its arguments: names, numbers, fields of them and terms in brackets."""
     for part in term:
-        if isinstance(part, str) and (part in operators or not (part[0].isalnum() or part in ("[]", "_"))):
+        if isinstance(part, str) and (part in operators or not (part[0].isalnum() or part[0] == "_" or part == "[]")):
             raise Refused(f"{what} is no definition applied to arguments: '{part}' stands in it")
     if not term or not isinstance(term[0], str):
         raise Refused(f"{what} is no definition applied to arguments")

@@ -1,15 +1,14 @@
 -- From a bit pattern to the exact value that it stands for. Assumes nothing.
 use mathlib.Core.Path.{◌≡◌, refl, sym, ap, ◌∙◌, subst}
-use mathlib.Core.Bool.{Bool, true, false, not, cond, true≢false}
+use mathlib.Core.Bool.{Bool, true, false, not, cond, false≢true}
 use Prim.Native.Nat.{ℕ, zero, suc, ◌+◌, ◌*◌, ◌/◌, ◌%◌, ◌^◌, ◌<◌}
 use native.Mathlib.Nat.{lt_irrefl}
 use native.Mathlib.Omega.{arith}
 use lib.Dec.{T, leb, eqb, eqb→eq, not_T}
 use lib.Pow.{field}
-use lib.Ieee.{Float, nan, inf, fin, binary64, odd, of_fields, of_bits, is_nan, ne}
+use lib.Ieee.{Float, nan, inf, fin, binary64, odd, of_fields, of_bits, is_nan}
 use lib.Ieee.Fits.{eq→eqb}
 use lib.Ieee.Exact.{HasValue, odd_sign}
-use lib.Ieee.Compare.{differs_from_itself, nan_differs}
 use Rattle.double.specs.Meaning.{finite, size_at, Holds, bits_of}
 use Rattle.double.proofs.Exact.{holds}
 
@@ -63,12 +62,9 @@ module _ (b : ℕ) where
       subst (λ (y : Float). Holds y s (size_at x t) (2 ^ 1074)) (sym (by_fields b))
       (holds (of_fields binary64 s x t) s (size_at x t) (2 ^ 1074) (fields_value s x t h))
 
--- ---- the test x != x
-pub at_nan : (x : Float) → ne x x ≡ true → finite x ≡ false
-at_nan x h = ap finite (differs_from_itself x (subst T (sym h) tt))
-
-pub no_nan : (x : Float) → ne x x ≡ false → T (not (is_nan x))
+-- ---- what is not a number
+pub at_nan : (x : Float) → is_nan x ≡ true → finite x ≡ false
 unfolding is_nan
-no_nan nan h = absurd (true≢false (sym nan_differs ∙ h))
-no_nan (inf s) h = tt
-no_nan (fin s m e) h = tt
+at_nan nan h = refl
+at_nan (inf s) h = absurd (false≢true h)
+at_nan (fin s m e) h = absurd (false≢true h)

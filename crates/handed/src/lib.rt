@@ -86,10 +86,7 @@ fn below(q: u64, sh: u64, limit: u64) -> bool
     requires { (q < 2 ^ 53) × (0 < limit) }
     ensures { result ≡ ltb q (limit * 2 ^ sh) }
 {
-    if 52 < sh {
-        return true;
-    }
-    (q >> sh) < limit
+    52 < sh || (q >> sh) < limit
 }
 
 // q / 2^sh days after day 0, or before it. A half goes to the later: before day 0 that is towards day 0,
@@ -136,10 +133,10 @@ fn read_days(first: u64, day: f64) -> Result<u64, Unread>
     requires { (0 < first) × (first ≤ 36525) }
     ensures { result ≡ found first day }
 {
-    if day != day {
+    if day.is_nan() {
         return Err(Unread::NotFinite);
     }
-    read_bits(first, f64::to_bits(day))
+    read_bits(first, day.to_bits())
 }
 
 // ---- taking a handed time apart

@@ -1,11 +1,13 @@
 -- The leap list as the paper states it. A list is its steps' days, TAI minus UTC from each day on, and its last day E. Days are
 -- signed, counted from 1 January 2000; TAI counts are signed microseconds from 00:00:00 of day 0. Assumes nothing.
-use Rattle.std.specs.Prelude.{◌≡◌, Bool, true, false, cond, ◌&&◌, ◌||◌, List, [], ◌∷◌, ◌++◌, ℕ, ◌+◌, ◌-◌, ◌*◌, eqb, leb, ltb, ℤ, pos, negsuc, ◌+ℤ◌, ◌-ℤ◌, length}
+use Rattle.std.specs.Prelude.{◌≡◌, Bool, true, false, cond, ◌&&◌, ◌||◌, List, [], ◌∷◌, ◌++◌, ℕ, ◌+◌, ◌-◌, ◌*◌, eqb, leb, ltb, ℤ, pos, negsuc, ◌+ℤ◌, ◌-ℤ◌, length, Result, Ok, Err}
 use Rattle.std.specs.Int.Signed.{le_z, lt_z}
 use Rattle.axis.specs.Meaning.{Moment, day_micros, since, moment_of}
 use Rattle.scales.specs.Meaning.{moment_at}
 use Rattle.scales.specs.declared.Scale.TheVariants as S
 use Rattle.scales.specs.declared.Utc.{Utc}
+use Rattle.scales.specs.declared.Refusal.{Refusal}
+use Rattle.scales.specs.declared.Refusal.TheVariants as R
 use Rattle.calendar.specs.Meaning.{all_firsts}
 
 -- a list as it is lent
@@ -13,6 +15,9 @@ pub record LeapList : Type 0 where
   pub days : List ℤ
   pub offsets : List ℕ
   pub last : ℤ
+
+abbrev pub list_of : List ℤ → List ℕ → ℤ → LeapList
+list_of ds os e = record { days = ds; offsets = os; last = e }
 
 abbrev pub seconds : ℕ → ℤ
 seconds n = pos (n * 1000000)
@@ -68,6 +73,10 @@ accepted ds os e =
     && (counts_up os
     && (ends_in e
     && none_later ds (e +ℤ pos 1))))))
+
+-- a list that is lent, where it is accepted, or 5
+abbrev pub accepted_or : LeapList → Result LeapList Refusal
+accepted_or l = cond (accepted l.days l.offsets l.last) (Ok l) (Err R.ListNotAccepted)
 
 -- ---- "List B extends A when B begins with A's steps, B's further steps are later than E(A)+1, and E(B) is not before E(A)"
 unfoldable pub all_later : List ℤ → ℤ → Bool

@@ -1,15 +1,27 @@
 // Searches through a list that was accepted before, each from its end: they take the facts and test nothing.
-ghost use Rattle.std.specs.Prelude.{◌≡◌, ◌+◌, ◌-◌, ◌*◌, ◌≤◌, ◌<◌, pos, length, get_or};
+ghost use Rattle.std.specs.Prelude.{◌≡◌, true, ◌+◌, ◌-◌, ◌*◌, ◌≤◌, ◌<◌, pos, length, get_or};
 ghost use Rattle.axis.specs.Meaning.{place_of_day, day_at, micros_at};
 ghost use Rattle.scales.specs.Meaning.{moment_at};
-ghost use Rattle.leap.specs.Meaning.{offset_on, is_step, utc_of, utc_moment};
+ghost use Rattle.leap.specs.Meaning.{accepted, offset_on, is_step, utc_of, utc_moment};
 ghost use Rattle.leap.specs.Places.{plain_at, sixty_at};
 ghost use Rattle.leap.specs.Steps.{Usable};
 
-use crate::List;
+use crate::{Accepted, List};
 use scales::{Scale, Tai, Utc};
 
 const SECOND: u64 = 1_000_000;
+
+impl<'a> List<'a> {
+    // A list that is known to be accepted: it is not tested.
+    pub fn known(&self) -> Accepted<'a>
+        requires { accepted self.now.days self.now.offsets self.now.last ≡ true }
+        ensures { result ≡ self.now }
+    {
+        Accepted {
+            list: List::new(self.days, self.offsets, self.last),
+        }
+    }
+}
 
 // The place of step i's day.
 pub fn step_day(days: &[i64], i: usize) -> u64

@@ -2,8 +2,8 @@
 // from each day on, with its last day E.
 #![tactic(auto)]
 
-ghost use Rattle.std.specs.Prelude.{◌≡◌, ◌↔◌, true, false, pos, get_or, drop, IfOk, IsErrOf};
-ghost use Rattle.leap.specs.Meaning.{LeapList, accepted, published_days, published_offsets};
+ghost use Rattle.std.specs.Prelude.{◌≡◌, true, pos, get_or, drop};
+ghost use Rattle.leap.specs.Meaning.{LeapList, list_of, accepted, accepted_or, published_days, published_offsets};
 ghost use Rattle.leap.specs.Follow.{Tested, rest};
 
 use scales::{Refusal, Utc};
@@ -83,7 +83,7 @@ fn steps_follow(days: &[i64], offsets: &[u64], end: i64) -> bool
 
 impl<'a> List<'a> {
     pub fn new(days: &'a [i64], offsets: &'a [u64], last: i64) -> List<'a>
-        ensures { result ≡ record { days = days.now; offsets = offsets.now; last = last } }
+        ensures { result ≡ list_of days.now offsets.now last }
     {
         List {
             days,
@@ -134,23 +134,12 @@ impl<'a> List<'a> {
 
     // The list, where it is accepted, or 5.
     pub fn accepted(&self) -> Result<Accepted<'a>, Refusal>
-        ensures ok { IfOk result (λ a. a ≡ self.now) }
-        ensures err { IsErrOf result Refusal.ListNotAccepted ↔ (accepted self.now.days self.now.offsets self.now.last ≡ false) }
+        ensures { result ≡ accepted_or self.now }
     {
         if !self.is_accepted() {
             return Err(Refusal::ListNotAccepted);
         }
         Ok(self.known())
-    }
-
-    // A list that is known to be accepted: it is not tested.
-    pub fn known(&self) -> Accepted<'a>
-        requires { accepted self.now.days self.now.offsets self.now.last ≡ true }
-        ensures { result ≡ self.now }
-    {
-        Accepted {
-            list: List::new(self.days, self.offsets, self.last),
-        }
     }
 }
 

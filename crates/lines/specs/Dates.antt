@@ -1,14 +1,13 @@
 -- What the answer for a line tells. Assumes nothing.
-use Rattle.std.specs.Prelude.{◌≡◌, refl, true, List, ℕ, ℤ}
+use Rattle.std.specs.Prelude.{◌≡◌, refl, true, List, ℕ, ℤ, Ok, Err}
 use Rattle.std.proofs.Common.{sym, ◌∙◌}
 use Rattle.axis.specs.Meaning.{Moment}
-use Rattle.scales.specs.Meaning.{in_span, Outcome, refused, answer, outcome, dated, number_of, slip, record_moment}
+use Rattle.scales.specs.Meaning.{in_span, Outcome, refused, answer, outcome, dated, number_of, slip, record_moment, refused_of}
 use Rattle.scales.specs.Order.{onward, then_is, ends, no_answer}
 use Rattle.scales.specs.declared.Scale.{Scale}
 use Rattle.scales.specs.declared.Scale.TheVariants as S
 use Rattle.scales.specs.declared.Record.{Record}
 use Rattle.scales.specs.declared.Refusal.{Refusal}
-use Rattle.scales.specs.declared.Dated.TheVariants as D
 use Rattle.changes.specs.Asked.{sound, slip_answer, slip_refused}
 use Rattle.text_read.specs.Meaning.{scale_in, reading}
 use Rattle.text_read.specs.In.{into}
@@ -36,10 +35,10 @@ module _ (ds : List ℤ) (os : List ℕ) (e : ℤ) where
         go (refused n) p q = sound (reading s ds os e) refl (p ∙ q)
         go (answer m) p q = passes (scale_in s) m q
 
-    pub line_answer : (t : Record) → slip (D.At t) ≡ dated S.Tai (outcome (line_dating ds os e s)) → (t.scale ≡ S.Tai) × (outcome (line_dating ds os e s) ≡ answer (record_moment t))
+    pub line_answer : (t : Record) → slip (Ok t) ≡ dated S.Tai (outcome (line_dating ds os e s)) → (t.scale ≡ S.Tai) × (outcome (line_dating ds os e s) ≡ answer (record_moment t))
     line_answer t q = slip_answer S.Tai (outcome (line_dating ds os e s)) never t q
 
-    pub line_refused : (f : Refusal) (z : Scale) → slip (D.Refused f z) ≡ dated S.Tai (outcome (line_dating ds os e s)) → outcome (line_dating ds os e s) ≡ refused (number_of f)
+    pub line_refused : (f : Refusal) (z : Scale) → slip (Err (refused_of z f)) ≡ dated S.Tai (outcome (line_dating ds os e s)) → outcome (line_dating ds os e s) ≡ refused (number_of f)
     line_refused f z q = slip_refused S.Tai (outcome (line_dating ds os e s)) f z q
 
     pub line_inside : (n : Moment) → outcome (line_dating ds os e s) ≡ answer n → Inside n

@@ -1,5 +1,5 @@
 -- What is printed for a line, as it stands on the front of the lent slice. Assumes nothing.
-use Rattle.std.specs.Prelude.{◌≡◌, Bool, true, false, cond, List, [], ◌∷◌, ◌++◌, ℕ, suc, ◌/◌, ◌≤◌, ◌<◌, ltb, ℤ, length, drop, get_or, set}
+use Rattle.std.specs.Prelude.{◌≡◌, Bool, true, false, cond, List, [], ◌∷◌, ◌++◌, ℕ, suc, ◌/◌, ◌≤◌, ◌<◌, ltb, ℤ, length, drop, get_or, set, Result, Ok, Err}
 use Rattle.std.proofs.Math.Path.{refl, ap}
 use Rattle.std.proofs.Common.{sym, ◌∙◌, append_assoc, arith, drop-cons, le-leb, lt-ltb, le-ltb}
 use Rattle.std.proofs.Math.ListN.{length-append}
@@ -10,8 +10,6 @@ use Rattle.octets.specs.Place.{onto_room}
 use Rattle.scales.specs.Meaning.{Outcome, refused, answer, outcome, wrote}
 use Rattle.scales.specs.declared.Scale.{Scale}
 use Rattle.scales.specs.declared.Scale.TheVariants as S
-use Rattle.scales.specs.declared.Written.{Written}
-use Rattle.scales.specs.declared.Written.TheVariants as W
 use Rattle.calendar.specs.Meaning.{date_of_day}
 use Rattle.text_write.specs.Meaning.{stamp_of, image_of}
 use Rattle.text_write.specs.Image.{size_is}
@@ -19,6 +17,7 @@ use Rattle.text_write.specs.Stage.{imaged}
 use Rattle.text_write.specs.declared.Form.TheVariants as F
 use Rattle.lines.specs.Meaning.{digit, refused_text, told, line_dating, answer_to}
 use Rattle.lines.specs.Stage.{refused_line, Put}
+use Rattle.scales.specs.declared.Refusal.{Refusal}
 
 -- ---- `refused N`
 put_on : (image front out : List ℕ) (n : ℕ) → front ≡ image → n ≡ length front → Put image out (onto front out) n
@@ -50,7 +49,7 @@ module _ (z : Scale) (m : Moment) (out : List ℕ) (room : 32 ≤ length out) wh
   unfolding imaged
   imaged_is = rw (le-leb (length image) (length out) (omega (arith, image_length z m)))
 
-  pub printed : (w : Written) (after : List ℕ) → wrote w after ≡ imaged F.PrefixedMicros z m out → Put (image ++ (10 ∷ [])) out (set after 31 10) 32
+  pub printed : (w : Result ℕ Refusal) (after : List ℕ) → wrote w after ≡ imaged F.PrefixedMicros z m out → Put (image ++ (10 ∷ [])) out (set after 31 10) 32
   printed w after q =
       let l = image_length z m in
       let b : length (image ++ (10 ∷ [])) ≡ 32 = omega (arith, l, length-append image (10 ∷ [])) in
@@ -65,9 +64,9 @@ module _ (z : Scale) (m : Moment) (out : List ℕ) (room : 32 ≤ length out) wh
             ∙ sym (onto_room (image ++ (10 ∷ [])) out (omega arith) ∙ ap (λ (n : ℕ). (image ++ (10 ∷ [])) ++ drop n out) b);
       }
     where
-      left : (w : Written) → after ≡ (wrote w after).lent
-      left (W.Bytes n) = refl
-      left (W.Refused f) = refl
+      left : (w : Result ℕ Refusal) → after ≡ (wrote w after).lent
+      left (Ok n) = refl
+      left (Err f) = refl
 
 -- ---- an answer has at most 32 bytes
 told_small : (o : Outcome Moment) → length (told o) ≤ 31

@@ -1,7 +1,6 @@
 -- What a packet of ten bytes tells: its fields where they are below their limits, and its three fields in one number. Assumes nothing.
 use Rattle.std.specs.Prelude.{◌≡◌, Bool, cond, List, ℕ, ◌+◌, ◌*◌, ◌≤◌, length, drop, Result, Ok, Err}
-use Rattle.std.specs.Result.{is_err}
-use Rattle.std.proofs.lemmas.Bool.{false≢true}
+use Rattle.std.specs.Result.{is_ok}
 use Rattle.std.proofs.Math.Path.{refl, sym, ap}
 use Rattle.std.proofs.Common.{◌∙◌, arith, length-drop, length-take-le, eq-eqb}
 use Rattle.std.proofs.Math.Bool.{true, false}
@@ -42,11 +41,6 @@ module _ (p : List ℕ) (l : length p ≡ 10) where
       go true q = absurd (no_zero r (ap (λ (v : Valued Fields). v.number) q))
       go false q = (refl, refusals r R.FieldOver (ap (λ (v : Valued Fields). v.number) q))
 
-  -- whether it answers
-  pub packet_fails : (r : Result Fields Refusal) → is_err r ≡ true → slip r ≡ read p → is_in_limits (fields_of p) ≡ false
-  packet_fails (Ok f) e q = absurd (false≢true e)
-  packet_fails (Err r) e q = (packet_over_lem r q).0
-
-  pub packet_reads : (r : Result Fields Refusal) → is_err r ≡ false → slip r ≡ read p → is_in_limits (fields_of p) ≡ true
-  packet_reads (Ok f) e q = (packet_in f q).0
-  packet_reads (Err r) e q = absurd (false≢true (sym e))
+  pub packet_ok : (r : Result Fields Refusal) → slip r ≡ read p → is_ok r ≡ is_in_limits (fields_of p)
+  packet_ok (Ok f) q = sym (packet_in f q).0
+  packet_ok (Err r) q = sym (packet_over_lem r q).0

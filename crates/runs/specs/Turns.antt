@@ -1,7 +1,8 @@
 -- A turn of each pass, at packet i of n, and its end. Assumes nothing.
 use Rattle.std.specs.Prelude.{◌≡◌, refl, Bool, true, false, cond, ◌&&◌, List, ◌∷◌, ℕ, zero, suc, ◌+◌, ◌-◌, ◌*◌, ◌/◌, ◌%◌, ◌≤◌, ◌<◌, eqb, leb, length, take, drop, Option, Some, None}
-use Rattle.std.proofs.Common.{ap, ap₂, subst, ◌∙◌, arith, lit≤, drop-drop, leb-true, eq-eqb, ne_eqb, le-leb}
+use Rattle.std.proofs.Common.{sym, ap, ap₂, subst, ◌∙◌, arith, lit≤, drop-drop, leb-true, eq-eqb, ne_eqb, le-leb}
 use Rattle.std.proofs.lemmas.Bool.{lt-leb}
+use Rattle.std.specs.List.{list_all, range_with_len}
 use Rattle.axis.specs.Meaning.{held_micros_at}
 use Rattle.octets.specs.Meaning.{number, part}
 use Rattle.layout_fields.specs.Siral.{fields_of}
@@ -50,11 +51,6 @@ module _ (s : List ℕ) (n i : ℕ) where
             ≡ unroll_from (n - (i + 1)) front (ahead total (part s (10 * i + 8) 2)) (drop (10 * (i + 1)) s)
         unroll_on h = step ∙ rw (eq-eqb (part s (10 * i) 8) front e, le-leb (ahead total (part s (10 * i + 8) 2)) 484848 h)
 
-    pub limits_on : limits_in (n - i) (drop (10 * i) s) ≡ (is_in_limits (fields_of (packet_at s i)) && limits_in (n - (i + 1)) (drop (10 * (i + 1)) s))
-    limits_on =
-        ap (λ (k : ℕ). limits_in k (drop (10 * i) s)) left
-        ∙ ap (λ (l : List ℕ). is_in_limits (fields_of (packet_at s i)) && limits_in (n - (i + 1)) l) after
-
     pub last_on : (total : ℕ) → last_from (n - i) total (drop (10 * i) s) ≡ last_from (n - (i + 1)) (ahead total (part s (10 * i + 8) 2)) (drop (10 * (i + 1)) s)
     last_on total =
         ap (λ (k : ℕ). last_from k total (drop (10 * i) s)) left
@@ -65,6 +61,12 @@ module _ (s : List ℕ) (n i : ℕ) where
     dates_on from total =
         ap (λ (k : ℕ). dates_from k from total (drop (10 * i) s)) left
         ∙ ap₂ (λ (x : ℕ) (l : List ℕ). let t = ahead total x in held_micros_at (from + t * 33 / 16) ∷ dates_from (n - (i + 1)) from t l) extra_is after
+
+-- the limits of each packet from i on are those of the rest
+pub limits_from : (s : List ℕ) (n i : ℕ) → list_all (λ (j : ℕ). is_in_limits (fields_of (packet_at s j))) (range_with_len i n) ≡ limits_in n (drop (10 * i) s)
+limits_from s zero i = refl
+limits_from s (suc n) i =
+    ap (λ (b : Bool). is_in_limits (fields_of (packet_at s i)) && b) (limits_from s n (i + 1) ∙ ap (limits_in n) (sym (after s n i)))
 
 -- what a told count that is not above the most leads to
 pub told_is : (s : List ℕ) (n told : ℕ) → told ≤ most → unrolled_in n s told ≡ unroll_from n (part s 0 8) told s

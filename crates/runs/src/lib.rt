@@ -4,8 +4,8 @@
 
 ghost use Rattle.std.specs.Prelude.{◌≡◌, ◌++◌, ◌+◌, ◌*◌, ◌%◌, ◌≤◌, ◌<◌, length, drop};
 ghost use Rattle.octets.specs.Meaning.{PartIs};
-ghost use Rattle.layout_fields.specs.Siral.{slip, read};
-ghost use Rattle.runs.specs.Meaning.{ahead, siral};
+ghost use Rattle.layout_fields.specs.Siral.{fields_of, slip, read};
+ghost use Rattle.runs.specs.Meaning.{ahead, is_in_limits, siral};
 ghost use Rattle.runs.specs.Passes.{packet_at, unrolled_in, limits_in, second_of, dates_from, Filling, run_slip};
 
 use layout_fields::siral::Fields;
@@ -24,8 +24,7 @@ fn packet(bytes: &[u8], i: usize) -> Result<Fields, Refusal>
     ensures { slip result ≡ read (packet_at bytes.now i) }
 {
     let at = 10 * i;
-    let end = at + 10;
-    layout_fields::siral::read(&bytes[at..end])
+    layout_fields::siral::read(&bytes[at..at + 10])
 }
 
 // The eight bytes in front of packet i, its three fields in one number. Of two halves the compiler makes one load.
@@ -79,17 +78,20 @@ fn unroll(bytes: &[u8], n: usize, told: u64) -> Option<u64>
     Some(total)
 }
 
+// Are the fields of packet i below their limits?
+fn is_in_limits(bytes: &[u8], i: usize) -> bool
+    requires { 10 * i + 10 ≤ length bytes.now }
+    ensures { result ≡ is_in_limits (fields_of (packet_at bytes.now i)) }
+{
+    packet(bytes, i).is_ok()
+}
+
 // Are the fields of n packets below their limits?
 fn all_in_limits(bytes: &[u8], n: usize) -> bool
     requires { 10 * n ≤ length bytes.now }
     ensures { result ≡ limits_in n bytes.now }
 {
-    for i in 0..n {
-        if packet(bytes, i).is_err() {
-            return false;
-        }
-    }
-    true
+    (0..n).all(|i| is_in_limits(bytes, i))
 }
 
 // The place of the three fields of a run, and its last total.

@@ -4,12 +4,13 @@ ghost use Rattle.text_fields.specs.Meaning.{prefix_of};
 
 use scales::Scale;
 
+#[tactic(auto, unfolding(crate::specs::Meaning::prefix_of))]
 pub fn prefix(z: Scale) -> [u8; 4]
     ensures { result ≡ prefix_of z }
 {
     match z {
-        Scale::Tai => [b'T', b'A', b'I', b'='],
-        Scale::Utc => [b'U', b'T', b'C', b'='],
-        Scale::Gps => [b'G', b'P', b'S', b'='],
+        Scale::Tai => *b"TAI=",
+        Scale::Utc => *b"UTC=",
+        Scale::Gps => *b"GPS=",
     }
 }

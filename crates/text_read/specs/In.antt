@@ -1,8 +1,8 @@
 -- The time of a text in a scale that is wanted: a law for each way out. Assumes nothing.
-use Rattle.std.specs.Prelude.{◌≡◌, refl, Bool, true, false, not, List, ℕ, ℤ, ◌+ℤ◌}
+use Rattle.std.specs.Prelude.{◌≡◌, refl, Bool, true, false, not, List, ℕ, ℤ, ◌+ℤ◌, Result, Ok, Err}
 use Rattle.std.proofs.Common.{sym, ap, ap₂, subst, ◌∙◌}
 use Rattle.axis.specs.Meaning.{Moment, since}
-use Rattle.scales.specs.Meaning.{and_then, in_span, Judged, given, gives, Outcome, refused, outcome, dated, number_of, moment_at, time_scale, time_count, slip_timed, spanned, record_moment}
+use Rattle.scales.specs.Meaning.{and_then, in_span, Judged, given, gives, Outcome, refused, outcome, dated, number_of, moment_at, time_scale, time_count, slip_timed, spanned, record_moment, refused_of}
 use Rattle.scales.specs.Order.{onward, then_is}
 use Rattle.scales.specs.Place.{count_of, moment_of_lem}
 use Rattle.scales.specs.Counts.{timed_at, timed_no}
@@ -10,7 +10,6 @@ use Rattle.scales.specs.Same.{time_scale_lem, time_count_lem}
 use Rattle.scales.specs.declared.Scale.{Scale}
 use Rattle.scales.specs.declared.Scale.TheVariants as S
 use Rattle.scales.specs.declared.Time.{Time}
-use Rattle.scales.specs.declared.Timed.TheVariants as TD
 use Rattle.scales.specs.declared.Record.{Record}
 use Rattle.scales.specs.declared.Refusal.{Refusal}
 use Rattle.leap.specs.Meaning.{seconds, accepted, tai_of, has_micro, is_expired_day}
@@ -19,8 +18,6 @@ use Rattle.changes.specs.Meaning.{settled, moving, asked}
 use Rattle.changes.specs.Asked.{record_asked, list_passes}
 use Rattle.text_read.specs.Meaning.{scale_in, reading, reading_in}
 use Rattle.text_read.specs.Stage.{ParsesText}
-use Rattle.text_read.specs.declared.Parsed.{Parsed}
-use Rattle.text_read.specs.declared.Parsed.TheVariants as P
 
 module _ (to : Scale) (ds : List ℤ) (os : List ℕ) (e : ℤ) where
   abbrev pub into : Scale → Moment → Judged Moment
@@ -51,7 +48,7 @@ module _ (to : Scale) (ds : List ℤ) (os : List ℕ) (e : ℤ) where
     twice S.Gps m = again (in_span S.Gps m.day m.micro) (settled S.Gps to ds os e m (since m.day m.micro +ℤ seconds 19))
 
     module _ (r : Record) where
-      pub in_at : (t : Time) → slip_timed (TD.At t) ≡ spanned r.scale r.day r.micro
+      pub in_at : (t : Time) → slip_timed (Ok t) ≡ spanned r.scale r.day r.micro
           → dated to (outcome (of_count (time_scale t) (time_count t) (moving (time_scale t) to ds os e))) ≡ dated to (outcome (record_in r))
       in_at t q =
           let k = timed_at r.scale r.day r.micro t q in
@@ -62,19 +59,19 @@ module _ (to : Scale) (ds : List ℤ) (os : List ℕ) (e : ℤ) where
           ∙ ap (λ (m : Moment). outcome (into r.scale m)) (moment_of_lem r.scale r.day r.micro k.0)
           ∙ twice r.scale (record_moment r))
 
-      pub in_outside : (f : Refusal) (z : Scale) → slip_timed (TD.Refused f z) ≡ spanned r.scale r.day r.micro → dated to (refused (number_of f)) ≡ dated to (outcome (record_in r))
+      pub in_outside : (f : Refusal) (z : Scale) → slip_timed (Err (refused_of z f)) ≡ spanned r.scale r.day r.micro → dated to (refused (number_of f)) ≡ dated to (outcome (record_in r))
       in_outside f z q =
           let k = timed_no r.scale r.day r.micro f z q in
           ap (λ (g : Refusal). dated to (refused (number_of g))) k.1.0 ∙ sym (rw (list_passes ds os e r.scale (λ h. w), k.0))
 
   -- ---- a text that was parsed
-  module _ (s : List ℕ) (r : Parsed) (p : ParsesText s r) where
-    pub in_refused : (f : Refusal) → r ≡ P.Refused f → dated to (refused (number_of f)) ≡ dated to (outcome (reading_in to s ds os e))
+  module _ (s : List ℕ) (r : Result Record Refusal) (p : ParsesText s r) where
+    pub in_refused : (f : Refusal) → r ≡ Err f → dated to (refused (number_of f)) ≡ dated to (outcome (reading_in to s ds os e))
     in_refused f q =
         let x = (subst (ParsesText s) q p).is ds os e in
         ap (dated to) (ap (onward (into (scale_in s))) x ∙ sym (then_is (reading s ds os e) (into (scale_in s))))
 
-    pub in_parsed : (t : Record) → r ≡ P.Time t → dated to (outcome (record_in t)) ≡ dated to (outcome (reading_in to s ds os e))
+    pub in_parsed : (t : Record) → r ≡ Ok t → dated to (outcome (record_in t)) ≡ dated to (outcome (reading_in to s ds os e))
     in_parsed t q =
         let x = (subst (ParsesText s) q p).is in
         ap (dated to)

@@ -1,5 +1,5 @@
 -- The ways out of parsing a text. Assumes nothing.
-use Rattle.std.specs.Prelude.{◌≡◌, refl, Bool, true, false, cond, ◌||◌, ◌&&◌, List, ℕ, ◌≤◌, ◌<◌, eqb, leb, ltb, ℤ, drop}
+use Rattle.std.specs.Prelude.{◌≡◌, refl, Bool, true, false, cond, ◌||◌, ◌&&◌, List, ℕ, ◌≤◌, ◌<◌, eqb, leb, ltb, ℤ, drop, Result, Ok, Err}
 use Rattle.std.proofs.Math.Path.{sym}
 use Rattle.std.proofs.Common.{◌∙◌, arith, eqb-true, leb-true, ltb-true, ne_eqb}
 use Rattle.std.proofs.lemmas.Bool.{false≢true}
@@ -20,8 +20,8 @@ use Rattle.text_read.specs.Meaning.{has_marks, stamp_in, in_limits, is_body, is_
 use Rattle.text_read.specs.Digits.{has_digits, digits_in}
 use Rattle.text_read.specs.Stage.{Parses, body_chain, ParsesBody, ParsesText}
 use Rattle.text_fields.specs.declared.Stamp.{Stamp}
-use Rattle.text_read.specs.declared.Parsed.{Parsed}
-use Rattle.text_read.specs.declared.Parsed.TheVariants as P
+use Rattle.scales.specs.declared.Record.{Record}
+use Rattle.scales.specs.declared.Refusal.{Refusal}
 
 -- ---- the lengths
 pub either_from : (n a b : ℕ) → a ≤ b → (eqb n a || eqb n b) ≡ true → a ≤ n
@@ -83,10 +83,10 @@ has t q = go (is_date t) refl (leb 1972 t.year && leb t.year 2099) (day_after (d
 
 -- ---- the text without its prefix
 module _ (z : Scale) (s : List ℕ) where
-  body_lacks : is_body z s ≡ false → ParsesBody z s (P.Refused R.FieldOver)
+  body_lacks : is_body z s ≡ false → ParsesBody z s (Err R.FieldOver)
   body_lacks w = record { is = λ ds os e. sym (rw w) }
 
-  pub body_marks : has_marks s ≡ false → ParsesBody z s (P.Refused R.FieldOver)
+  pub body_marks : has_marks s ≡ false → ParsesBody z s (Err R.FieldOver)
   unfolding is_body
   body_marks w = body_lacks (rw w)
 
@@ -102,21 +102,21 @@ module _ (z : Scale) (s : List ℕ) where
       digits_in s (omega (arith, r.day_to, (month_bounds t.date.year t.date.month).1)) (omega (arith, r.year_to)) (omega (arith, l.hour)) (omega (arith, l.minute))
       (omega (arith, l.second)) l.micro
 
-  pub body_digits : has_digits s ≡ false → ParsesBody z s (P.Refused R.FieldOver)
+  pub body_digits : has_digits s ≡ false → ParsesBody z s (Err R.FieldOver)
   body_digits w = body_lacks (go (is_body z s) refl)
     where
       go : (b : Bool) → is_body z s ≡ b → is_body z s ≡ false
       go false p = p
       go true p = absurd (false≢true (sym w ∙ body_fits p))
 
-  pub body_limits : in_limits z (stamp_in s) ≡ false → ParsesBody z s (P.Refused R.FieldOver)
+  pub body_limits : in_limits z (stamp_in s) ≡ false → ParsesBody z s (Err R.FieldOver)
   unfolding is_body
   body_limits w = body_lacks (rw w (and_false (has_marks s)))
 
   abbrev date : Date
   date = (stamp_in s).date
 
-  pub body_date : (day_of_date date).number ≡ 3 → ParsesBody z s (P.Refused R.FieldOver)
+  pub body_date : (day_of_date date).number ≡ 3 → ParsesBody z s (Err R.FieldOver)
   unfolding is_body
   body_date q = body_lacks (rw (lacks date q, and_false (in_limits z (stamp_in s))) (and_false (has_marks s)))
 
@@ -125,34 +125,34 @@ module _ (z : Scale) (s : List ℕ) where
     unfolding is_body
     is_body_lem q = rw (m, l, has date q)
 
-    pub body_outside : ((day_of_date date).number ≡ 3 → ⊥) → ((day_of_date date).number ≡ 0 → ⊥) → ParsesBody z s (P.Time (outside_of z))
+    pub body_outside : ((day_of_date date).number ≡ 3 → ⊥) → ((day_of_date date).number ≡ 0 → ⊥) → ParsesBody z s (Ok (outside_of z))
     body_outside q r = record { is = (refl, λ ds os e. rw (outside_span_lem z, is_body_lem q, ne_eqb (day_of_date date).number 0 r)) }
 
-    pub body_at : (d : ℤ) → day_handed (answer d) ≡ day_of_date date → ParsesBody z s (P.Time (record_of z d (stamp_micro (stamp_in s))))
+    pub body_at : (d : ℤ) → day_handed (answer d) ≡ day_of_date date → ParsesBody z s (Ok (record_of z d (stamp_micro (stamp_in s))))
     body_at d q =
         let n : (day_of_date date).number ≡ 0 = λ i. (sym q i).number in
         record { is = (refl, λ ds os e. sym (rw (is_body_lem (λ k. omega arith), sym q))) }
 
 -- ---- the whole text
 carried : (z y : Scale) (i j : List ℤ → List ℕ → ℤ → Judged Moment) → z ≡ y → ((ds : List ℤ) (os : List ℕ) (e : ℤ) → outcome (i ds os e) ≡ outcome (j ds os e))
-    → (r : Parsed) → Parses z i r → Parses y j r
-carried z y i j p q (P.Refused f) w = λ ds os e. w ds os e ∙ q ds os e
-carried z y i j p q (P.Time r) w = (w.0 ∙ p, λ ds os e. w.1 ds os e ∙ q ds os e)
+    → (r : Result Record Refusal) → Parses z i r → Parses y j r
+carried z y i j p q (Err f) w = λ ds os e. w ds os e ∙ q ds os e
+carried z y i j p q (Ok r) w = (w.0 ∙ p, λ ds os e. w.1 ds os e ∙ q ds os e)
 
 module _ (s : List ℕ) where
-  pub text_length : is_prefixed s ≡ false → is_plain s ≡ false → ParsesText s (P.Refused R.LengthIsNone)
+  pub text_length : is_prefixed s ≡ false → is_plain s ≡ false → ParsesText s (Err R.LengthIsNone)
   text_length a b = record { is = λ ds os e. sym (rw (a, b)) }
 
-  pub text_plain : is_prefixed s ≡ false → is_plain s ≡ true → (r : Parsed) → ParsesBody S.Utc s r → ParsesText s r
+  pub text_plain : is_prefixed s ≡ false → is_plain s ≡ true → (r : Result Record Refusal) → ParsesBody S.Utc s r → ParsesText s r
   unfolding scale_in body_in is_prefix_right
   text_plain a b r w = record { is = carried S.Utc _ (body_chain S.Utc s) (reading s) (sym (rw a)) (λ ds os e. sym (rw (a, b))) r w.is }
 
   module _ (a : is_prefixed s ≡ true) where
-    pub text_prefix : has_prefix (prefix_scale s) s ≡ false → ParsesText s (P.Refused R.FieldOver)
+    pub text_prefix : has_prefix (prefix_scale s) s ≡ false → ParsesText s (Err R.FieldOver)
     unfolding scale_in body_in is_prefix_right
     text_prefix w = record { is = λ ds os e. sym (rw (a, w)) }
 
-    pub text_prefixed : has_prefix (prefix_scale s) s ≡ true → (r : Parsed) → ParsesBody (prefix_scale s) (drop 4 s) r → ParsesText s r
+    pub text_prefixed : has_prefix (prefix_scale s) s ≡ true → (r : Result Record Refusal) → ParsesBody (prefix_scale s) (drop 4 s) r → ParsesText s r
     unfolding scale_in body_in is_prefix_right
     text_prefixed h r w =
         record { is = carried (prefix_scale s) _ (body_chain (prefix_scale s) (drop 4 s)) (reading s) (sym (rw a)) (λ ds os e. sym (rw (a, h))) r w.is }

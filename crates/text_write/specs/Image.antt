@@ -1,5 +1,5 @@
 -- Laws of the image of a text: its bytes, and how it stands on a slice. Assumes nothing.
-use Rattle.std.specs.Prelude.{◌≡◌, refl, Bool, true, false, cond, ℕ, ◌+◌, ◌≤◌, ◌<◌, get_or, set, drop}
+use Rattle.std.specs.Prelude.{◌≡◌, refl, Bool, true, false, cond, ℕ, ◌+◌, ◌≤◌, ◌<◌, get_or, set, drop, Ok, Err}
 use Rattle.std.proofs.Math.Path.{sym, ap, ap₂}
 use Rattle.std.proofs.Common.{◌∙◌, arith, length-append, length-drop, le-leb}
 use mathlib.Core.List.{List, [], ◌++◌}
@@ -12,7 +12,6 @@ use Rattle.scales.specs.Meaning.{wrote}
 use Rattle.scales.specs.declared.Scale.{Scale}
 use Rattle.scales.specs.declared.Scale.TheVariants as S
 use Rattle.scales.specs.declared.Refusal.TheVariants as R
-use Rattle.scales.specs.declared.Written.TheVariants as W
 use Rattle.text_fields.specs.declared.Stamp.{Stamp}
 use Rattle.text_fields.specs.Meaning.{prefix_of}
 use Rattle.text_write.specs.Meaning.{text_of, body_of, has_micros, shows_scale, full_text}
@@ -54,13 +53,6 @@ full_is f z t = go (shows_scale f)
     go false = refl
 
 -- ---- the prefix, as it was put
-copied : (z : Scale) (out p : List ℕ) → p ≡ prefix_of z
-    → set (set (set (set out 0 (get_or p 0 0)) 1 (get_or p 1 0)) 2 (get_or p 2 0)) 3 (get_or p 3 0) ≡ sets out 0 (prefix_of z)
-unfolding prefix_of
-copied S.Tai out p e = rw e
-copied S.Utc out p e = rw e
-copied S.Gps out p e = rw e
-
 module _ (f : Form) (z : Scale) (out : List ℕ) where
   pub prefix_none : shows_scale f ≡ false → (0 ≡ length (prefix_in f z)) × (out ≡ onto (prefix_in f z) out)
   prefix_none q =
@@ -74,15 +66,14 @@ module _ (f : Form) (z : Scale) (out : List ℕ) where
     pub prefix_room : length (prefix_in f z) ≤ length out → 4 ≤ length out
     prefix_room h = omega (arith, ap length prefix_is, prefix_length z)
 
-    pub prefix_put : length (prefix_in f z) ≤ length out → (p : List ℕ) → p ≡ prefix_of z →
-        (4 ≡ length (prefix_in f z)) × (set (set (set (set out 0 (get_or p 0 0)) 1 (get_or p 1 0)) 2 (get_or p 2 0)) 3 (get_or p 3 0) ≡ onto (prefix_in f z) out)
+    pub prefix_put : length (prefix_in f z) ≤ length out → (p : List ℕ) → p ≡ prefix_of z → (4 ≡ length (prefix_in f z)) × (p ++ drop 4 out ≡ onto (prefix_in f z) out)
     prefix_put h p e =
-        let l : length (prefix_of z) ≤ length out = omega (arith, ap length prefix_is) in
-        (omega (arith, ap length prefix_is, prefix_length z), copied z out p e ∙ front_put (prefix_of z) out l ∙ ap (λ (x : List ℕ). onto x out) (sym prefix_is))
+        let n : 4 ≡ length (prefix_in f z) = omega (arith, ap length prefix_is, prefix_length z) in
+        (n, ap₂ (λ (s : List ℕ) (k : ℕ). s ++ drop k out) (e ∙ sym prefix_is) n ∙ sym (onto_room (prefix_in f z) out h))
 
 -- ---- the whole text
 module _ (f : Form) (z : Scale) (t : Stamp) (out : List ℕ) (n : ℕ) (size : n ≡ size_of f) where
-  pub text_short : length out < n → wrote (W.Refused R.OutputShorter) out ≡ putting (full_text f z t) out
+  pub text_short : length out < n → wrote (Err R.OutputShorter) out ≡ putting (full_text f z t) out
   unfolding putting
   text_short h = sym (rw (lt-leb (length (full_text f z t)) (length out) (omega (arith, size, size_is f z t))))
 
@@ -107,12 +98,12 @@ module _ (f : Form) (z : Scale) (t : Stamp) (out : List ℕ) (n : ℕ) (size : n
       pub rest_room : length body ≤ length (drop k p)
       rest_room = omega (arith, room, ap length ep, length_onto front out, length-drop k p)
 
-      pub text_put : (b : List ℕ) → b ≡ onto body (drop k p) → wrote (W.Bytes n) (take k p ++ b) ≡ putting (full_text f z t) out
+      pub text_put : (b : List ℕ) → b ≡ onto body (drop k p) → wrote (Ok n) (take k p ++ b) ≡ putting (full_text f z t) out
       unfolding putting
       text_put b eb =
           let l : length (full_text f z t) ≤ length out = omega (arith, size, size_is f z t) in
           let o : take k p ++ b ≡ onto (front ++ body) out =
           ap (λ (s : List ℕ). take k p ++ s) eb ∙ rw (ep) (rest_onto k front body out (sym ek) (omega (arith, room))) in
-          ap₂ (λ (i : ℕ) (s : List ℕ). wrote (W.Bytes i) s) (size ∙ sym (size_is f z t))
+          ap₂ (λ (i : ℕ) (s : List ℕ). wrote (Ok i) s) (size ∙ sym (size_is f z t))
           (o ∙ ap (λ (x : List ℕ). onto x out) (sym (full_is f z t)) ∙ onto_room (full_text f z t) out l)
           ∙ sym (rw (le-leb (length (full_text f z t)) (length out) l))

@@ -4,14 +4,14 @@ ghost use Rattle.std.proofs.lemmas.List.Edits.{sets};
 ghost use Rattle.octets.specs.Meaning.{onto};
 ghost use Rattle.scales.specs.Meaning.{wrote};
 ghost use Rattle.text_fields.specs.Names.{name_of};
-ghost use Rattle.text_write.specs.Meaning.{stamp_of, text_of, has_micros, shows_scale, body_of, full_text};
+ghost use Rattle.text_write.specs.Meaning.{stamp_of, text_of, body_of, full_text};
 ghost use Rattle.text_write.specs.Stage.{putting};
-ghost use Rattle.text_write.specs.Image.{size_of, prefix_in};
+ghost use Rattle.text_write.specs.Image.{prefix_in};
 ghost use Rattle.text_write.specs.Columns.{Fits, pair, letters_of};
 
 use super::Form;
 use calendar::Date;
-use scales::{Refusal, Scale, Written};
+use scales::{Refusal, Scale};
 use text_fields::Stamp;
 
 // Second 60 comes after 23:59.
@@ -19,23 +19,18 @@ pub fn stamp_of(date: Date, u: u64) -> Stamp
     ensures { result ≡ stamp_of date u }
 {
     let seconds = u / 1_000_000;
-    let micro = u % 1_000_000;
-    if seconds < 86_400 {
-        let minutes = seconds / 60;
-        return Stamp {
-            date,
-            hour: minutes / 60,
-            minute: minutes % 60,
-            second: seconds % 60,
-            micro,
-        };
-    }
+    let minutes = seconds / 60;
+    let (hour, minute, second) = if seconds < 86_400 {
+        (minutes / 60, minutes % 60, seconds % 60)
+    } else {
+        (23, 59, 60)
+    };
     Stamp {
         date,
-        hour: 23,
-        minute: 59,
-        second: 60,
-        micro,
+        hour,
+        minute,
+        second,
+        micro: u % 1_000_000,
     }
 }
 
@@ -49,7 +44,7 @@ fn put_two(v: u64, out: &mut [u8], at: usize)
     out[at + 1] = (48 + v % 10) as u8;
 }
 
-// The three letters of a month as one number.
+// The three letters of a month as one number: as bytes they would be written more slowly.
 fn name_of(m: u64) -> u32
     requires { (1 ≤ m) × (m ≤ 12) }
     ensures { result ≡ name_of m }
@@ -85,14 +80,13 @@ fn put_date(t: Stamp, out: &mut [u8])
     requires in_bounds { 11 ≤ length out.old }
     ensures { out.new ≡ sets out.old 0 (take 11 (text_of t)) }
 {
-    let d = t.date;
-    let y = d.year;
-    put_two(d.day, out, 0);
+    let date = t.date;
+    put_two(date.day, out, 0);
     out[2] = b'-';
-    put_name(d.month, out, 3);
+    put_name(date.month, out, 3);
     out[6] = b'-';
-    put_two(y / 100, out, 7);
-    put_two(y % 100, out, 9);
+    put_two(date.year / 100, out, 7);
+    put_two(date.year % 100, out, 9);
 }
 
 fn put_clock(t: Stamp, out: &mut [u8])
@@ -135,66 +129,28 @@ fn fill(t: Stamp, micros: bool, out: &mut [u8])
     }
 }
 
-pub fn has_micros(form: Form) -> bool
-    ensures { result ≡ has_micros form }
-{
-    match form {
-        Form::Plain => false,
-        Form::Micros => true,
-        Form::Prefixed => false,
-        Form::PrefixedMicros => true,
-    }
-}
-
-pub fn shows_scale(form: Form) -> bool
-    ensures { result ≡ shows_scale form }
-{
-    match form {
-        Form::Plain => false,
-        Form::Micros => false,
-        Form::Prefixed => true,
-        Form::PrefixedMicros => true,
-    }
-}
-
-// How many bytes a form has.
-fn size_of(form: Form) -> usize
-    ensures { result ≡ size_of form }
-{
-    match form {
-        Form::Plain => 20,
-        Form::Micros => 27,
-        Form::Prefixed => 24,
-        Form::PrefixedMicros => 31,
-    }
-}
-
 // The prefix, onto the front, where the form has one; how many bytes it has.
 fn put_prefix(form: Form, z: Scale, out: &mut [u8]) -> usize
     requires { length (prefix_in form z) ≤ length out.old }
     ensures { (result ≡ length (prefix_in form z)) × (out.new ≡ onto (prefix_in form z) out.old) }
 {
-    if !shows_scale(form) {
+    if !form.shows_scale() {
         return 0;
     }
-    let p = text_fields::inner::prefix(z);
-    out[0] = p[0];
-    out[1] = p[1];
-    out[2] = p[2];
-    out[3] = p[3];
+    out[..4].copy_from_slice(&text_fields::inner::prefix(z));
     4
 }
 
 // The room is tested once, so that a refusal leaves every byte. After its prefix the same writer fills the rest.
-pub fn put_text(form: Form, z: Scale, t: Stamp, out: &mut [u8]) -> Written
+pub fn put_text(form: Form, z: Scale, t: Stamp, out: &mut [u8]) -> Result<usize, Refusal>
     requires { Fits t }
     ensures { wrote result out.new ≡ putting (full_text form z t) out.old }
 {
-    let n = size_of(form);
+    let n = form.size();
     if out.len() < n {
-        return Written::Refused(Refusal::OutputShorter);
+        return Err(Refusal::OutputShorter);
     }
     let from = put_prefix(form, z, out);
-    fill(t, has_micros(form), &mut out[from..]);
-    Written::Bytes(n)
+    fill(t, form.has_micros(), &mut out[from..]);
+    Ok(n)
 }

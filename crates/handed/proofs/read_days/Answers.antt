@@ -2,17 +2,14 @@ use Rattle.std.proofs.Common.{sym, ap, subst, ◌∙◌}
 use lib.Dec.{T}
 use lib.Ieee.{Float, binary64}
 use lib.Ieee.Bits.{of_bits-to_bits}
-use Rattle.double.proofs.Pattern.{at_nan, no_nan}
+use Rattle.double.proofs.Pattern.{at_nan}
 use Rattle.handed.specs.Parts.{found}
 use Rattle.handed.proofs.Fields.{found_nothing}
 use Rattle.handed.proofs.read_days.Goals as goal
 
--- only a NaN differs from itself, and any other value is that of its own bits
-pub returns-then-day : goal.returns-then-day
-returns-then-day c = sym (found_nothing c.args.first c.args.day (at_nan c.args.day c.if-day.true))
-
-pub float_to_bits-day : goal.float_to_bits-day
-float_to_bits-day c = no_nan c.args.day c.if-day.false
+-- a NaN has no bits, and any other value is that of its own
+pub returns-then-is_nan : goal.returns-then-is_nan
+returns-then-is_nan c = sym (found_nothing c.args.first c.args.day (at_nan c.args.day (sym c.if-is_nan.ensures.value)))
 
 pub returns : goal.returns
 returns c =

@@ -1,27 +1,16 @@
-use Rattle.std.proofs.Common.{◌≡◌, ℕ, ◌+◌, ◌-◌, ◌*◌, ◌<◌, List, drop, Bool, ◌&&◌, true, false, arith, sym, ap, ◌∙◌}
+use Rattle.std.proofs.Common.{rules, tests, arith, ◌∙◌, ℕ}
+use Rattle.std.proofs.lemmas.Iterator.{YieldsList-from_range}
+use Rattle.std.proofs.lemmas.Iterator.Search.{all_from_yields_List}
 use Rattle.layout_fields.specs.Siral.{fields_of}
 use Rattle.runs.specs.Meaning.{is_in_limits}
-use Rattle.runs.specs.Passes.{packet_at, limits_in}
-use Rattle.runs.specs.Packet.{packet_length, packet_fails, packet_reads}
-use Rattle.runs.specs.Turns.{limits_on}
+use Rattle.runs.specs.Passes.{packet_at}
+use Rattle.runs.specs.Turns.{limits_from}
 use Rattle.runs.proofs.all_in_limits.Goals as goal
 
--- what the rest comes to after packet i
-turn : (s : List ℕ) (n i : ℕ) → i < n → limits_in (n - i) (drop (10 * i) s) ≡ limits_in n s → (b : Bool) → is_in_limits (fields_of (packet_at s i)) ≡ b →
-    (b && limits_in (n - (i + 1)) (drop (10 * (i + 1)) s)) ≡ limits_in n s
-turn s n i h k b e =
-    ap (λ (x : Bool). x && limits_in (n - (i + 1)) (drop (10 * (i + 1)) s)) (sym e) ∙ sym (limits_on s n i h) ∙ k
-
-pub returns-then-is_err : goal.returns-then-is_err
-returns-then-is_err c =
+pub returns : goal.returns
+returns c =
     let s = c.args.bytes.now in
-    let i = c.loop-i.i in
-    turn s c.args.n i (omega arith) c.loop-i.invariant false
-    (packet_fails (packet_at s i) (packet_length s i (omega arith)) c.packet.result (sym c.is_err.ensures.value ∙ c.if-is_err.true) c.packet.ensures)
-
-pub loop-i-preserved : goal.loop-i-preserved
-loop-i-preserved c =
-    let s = c.args.bytes.now in
-    let i = c.loop-i.i in
-    turn s c.args.n i (omega arith) c.loop-i.invariant true
-    (packet_reads (packet_at s i) (packet_length s i (omega arith)) c.packet.result (sym c.is_err.ensures.value ∙ c.if-is_err.false) c.packet.ensures)
+    let n = c.args.n in
+    all_from_yields_List (λ (i : ℕ). is_in_limits (fields_of (packet_at s i))) _ _ c.all.result c.all.ensures.ran (YieldsList-from_range 0 n n (cc) (omega arith))
+    (λ x b q h. search (rules, tests))
+    ∙ limits_from s n 0
