@@ -173,7 +173,7 @@ none true x e = absurd (let z : ◌≡◌ {A = ℕ} 0 1 = cc in omega arith)
 none false x e = refl
 
 pub based_at : (t : Bool) (x r : ℕ) (b n : Bool) → cond t (Some (base_as x b)) None ≡ Some (base_as r n) → (t ≡ true) × ((x ≡ r) × (b ≡ n))
-based_at true x r b n e = (refl, (cc, cc))
+based_at true x r b n e = let q : base_as x b ≡ base_as r n = cc in (refl, ((λ i. (q i).at), (λ i. (q i).current)))
 based_at false x r b n e = absurd (let z : ◌≡◌ {A = ℕ} 0 1 = cc in omega arith)
 
 pub based_none : (t : Bool) (x : ℕ) (b : Bool) → cond t (Some (base_as x b)) None ≡ None → t ≡ false

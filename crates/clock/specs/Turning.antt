@@ -1,10 +1,10 @@
 -- The way back by what the code finds on the places: one law for each way out of `inner::turn`, and the count of a time from what a
 -- counter's crate reckoned. Assumes nothing.
-use Rattle.std.specs.Prelude.{◌≡◌, refl, Bool, true, false, cond, not, ◌&&◌, ◌||◌, List, ℕ, ◌+◌, ◌-◌, ◌*◌, ◌/◌, ◌≤◌, ◌<◌, leb, ℤ}
+use Rattle.std.specs.Prelude.{◌≡◌, refl, Bool, true, false, cond, not, ◌&&◌, ◌||◌, List, ℕ, ◌+◌, ◌-◌, ◌*◌, ◌/◌, ◌≤◌, ◌<◌, leb, ℤ, Result, Err}
 use Rattle.std.proofs.Common.{sym, ap, ◌∙◌, arith, add-mul, div-mul-le_self, mul-le-mul_right, leb-true}
 use Rattle.std.proofs.Math.Nat.{lt-div-mul-add}
-use Rattle.axis.specs.Meaning.{micros_at, Moment}
-use Rattle.scales.specs.Meaning.{same_scale, Judged, given, gives, refused, answer, outcome, moment_at, record_at, time_scale, time_count}
+use Rattle.axis.specs.Meaning.{micros_at, Moment, since}
+use Rattle.scales.specs.Meaning.{same_scale, Judged, given, gives, refused, answer, outcome, number_of, moment_at, record_at, time_scale, time_count}
 use Rattle.scales.specs.Order.{onward, then_is, passed, no_answer}
 use Rattle.scales.specs.Place.{and_both}
 use Rattle.scales.specs.declared.Scale.{Scale}
@@ -13,11 +13,12 @@ use Rattle.scales.specs.declared.Record.{Record}
 use Rattle.scales.specs.declared.Time.{Time}
 use Rattle.handed.specs.declared.Handed.{Handed}
 use Rattle.handed.specs.declared.Handed.TheVariants as H
-use Rattle.handed.specs.Told.{Told, told_record}
-use Rattle.handed.specs.Meaning.{is_finite, is_in_span, day_of, micro_of}
+use Rattle.handed.specs.declared.Untaken.{Untaken}
+use Rattle.handed.specs.Told.{Told, told_record, untaken_lem}
+use Rattle.handed.specs.Meaning.{is_finite, is_in_span, day_of, micro_of, Took, refusal_by}
 use Rattle.leap.specs.Meaning.{has_micro, is_expired_day}
 use Rattle.via_tai.specs.Meaning.{is_utc}
-use Rattle.clock.specs.Meaning.{Clock, Cover, cover, within, covers, list_serves, is_current, has_second, last_count, count_at, instant_of, has_image, turning}
+use Rattle.clock.specs.Meaning.{Clock, Cover, cover, within, covers, list_serves, is_current, is_known, has_second, last_count, count_at, instant_of, has_image, turning}
 use Rattle.clock.specs.Places.{time_at, last_at, ends_at, cover_of, within_at, shown_at, within_place, count_place, Based, divided_place, cover_place, last_few}
 use Rattle.clock.specs.Stage.{Spanned, placing, covering, covering_own, unaccepted_by, At, at_place, count_since}
 use Rattle.clock.specs.Window.{last_is}
@@ -25,11 +26,10 @@ use Rattle.clock.specs.declared.inner.Ends.{Ends}
 
 -- ---- under a TAI or GPS correlation: a handed time that was not taken, and one that was
 module _ (s : Scale) (v : Cover) (h : Handed) where
-  pub own_4 : is_finite h ≡ false → refused 4 ≡ outcome (covering_own s v h)
-  own_4 f = rw f
-
-  pub own_7 : is_finite h ≡ true → is_in_span h ≡ false → refused 7 ≡ outcome (covering_own s v h)
-  own_7 f g = rw (f, g)
+  pub own_untaken : (t : Result Time Untaken) → Took h t → (e : Untaken) → t ≡ Err e → refused (number_of (refusal_by e)) ≡ outcome (covering_own s v h)
+  own_untaken t w e q =
+      sym (untaken_lem h t w e q
+      (given (not (has_image s h) || within v (since (day_of h) (micro_of h))) 8 (given (has_image s h) 12 (gives (since (day_of h) (micro_of h))))))
 
   pub own_at : (t : Time) → Told h t → outcome (covering_own s v (H.Record (record_at (time_scale t) (time_count t)))) ≡ outcome (covering_own s v h)
   own_at t w =
@@ -50,11 +50,13 @@ module _ (s : Scale) (v : Ends) (z : Scale) (n : ℕ) (i : Spanned z n) where
 
 -- ---- under a UTC correlation: the same
 module _ (n : Bool) (v : Cover) (h : Handed) (ds : List ℤ) (os : List ℕ) (e : ℤ) where
-  pub turn_4 : is_finite h ≡ false → refused 4 ≡ outcome (covering S.Utc n v h ds os e)
-  turn_4 f = rw f
-
-  pub turn_7 : is_finite h ≡ true → is_in_span h ≡ false → refused 7 ≡ outcome (covering S.Utc n v h ds os e)
-  turn_7 f g = rw (f, g)
+  pub turn_untaken : (t : Result Time Untaken) → Took h t → (u : Untaken) → t ≡ Err u → refused (number_of (refusal_by u)) ≡ outcome (covering S.Utc n v h ds os e)
+  turn_untaken t w u q =
+      sym (untaken_lem h t w u q
+      (given (not (has_image S.Utc h) || cond (n && is_known S.Utc ds e (day_of h) (micro_of h)) (within v (instant_of S.Utc ds os h)) true) 8
+      (given (n && (not (has_image S.Utc h) || is_current S.Utc e (day_of h))) 9
+      (given (not (has_image S.Utc h) || has_second S.Utc ds (day_of h) (micro_of h)) 10
+      (given (has_image S.Utc h) 12 (gives (instant_of S.Utc ds os h)))))))
 
   pub turn_stale : is_finite h ≡ true → is_in_span h ≡ true → n ≡ false → refused 9 ≡ outcome (covering S.Utc n v h ds os e)
   turn_stale f g k = go (has_image S.Utc h) refl

@@ -70,7 +70,8 @@ pub fn unaccepted(h: Handed, f: Refusal) -> Refusal
 {
     match handed::take(h) {
         Err(Untaken::NotFinite(_)) => Refusal::DecimalNotFinite,
-        _ => f,
+        Err(Untaken::Outside(_)) => f,
+        Ok(_) => f,
     }
 }
 
@@ -168,7 +169,8 @@ pub fn date_by_list(k: Reckoned, current: bool, receipt: Receipt, list: &Accepte
             if w.0 < k.at {
                 return Err(Refusal::ResultLater);
             }
-            // The receipt is not expired, so that what is not later is not.
+            // The list is accepted and the receipt is not expired, so that what is not later is not.
+            let _ = list.list();
             via_tai::inner::unexpired_to_utc(Tai(k.at), list)
         }
         Err(f) => Err(without_receipt(f, k.at, list)),
