@@ -5,10 +5,16 @@ use Rattle.scales.specs.Meaning.{in_span, record_of, record_moment}
 use Rattle.scales.specs.declared.Scale.{Scale}
 use Rattle.scales.specs.declared.Scale.TheVariants as S
 use Rattle.scales.specs.declared.Record.{Record}
+use Rattle.scales.specs.declared.Refusal.{Refusal}
+use Rattle.scales.specs.declared.Refusal.TheVariants as R
 use Rattle.handed.specs.declared.Handed.{Handed}
 use Rattle.handed.specs.declared.Handed.TheVariants as H
 use Rattle.handed.specs.declared.inner.NotFinite.{NotFinite}
 use Rattle.handed.specs.Meaning.{scale_of, is_finite, is_in_span, day_of, micro_of, moment_in}
+
+-- the refusal of a decimal day that is not finite
+abbrev pub not_laid : NotFinite → Refusal
+not_laid e = R.DecimalNotFinite
 
 -- one fixed record outside every span
 abbrev pub outside_of : Scale → Record

@@ -2,9 +2,8 @@
 ghost use Rattle.std.specs.Prelude.{◌≡◌, ◌/◌, ◌%◌};
 ghost use Rattle.axis.specs.Meaning.{day_at, day_micros};
 ghost use Rattle.scales.specs.Meaning.{record_of};
-ghost use Rattle.scales.specs.declared.Refusal.TheVariants.{DecimalNotFinite};
 ghost use Rattle.handed.specs.Meaning.{Took};
-ghost use Rattle.handed.specs.Laid.{outside_of, Lays};
+ghost use Rattle.handed.specs.Laid.{outside_of, Lays, not_laid};
 
 use super::{Handed, Unread, Untaken, first_of, read_days, time_of};
 use scales::{Record, Refusal, Scale, Time};
@@ -14,7 +13,7 @@ use scales::{Record, Refusal, Scale, Time};
 pub struct NotFinite(pub Scale);
 
 impl From<NotFinite> for Refusal {
-    ghost from_gives = { λ _ f. f ≡ DecimalNotFinite };
+    ghost from_gives = { λ e f. f ≡ not_laid e };
 
     fn from(_e: NotFinite) -> Refusal {
         Refusal::DecimalNotFinite
