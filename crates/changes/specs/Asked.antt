@@ -8,11 +8,12 @@ use Rattle.scales.specs.Meaning.{in_span, Judged, given, gives, Outcome, refused
 use Rattle.scales.specs.Order.{no_answer, numbered}
 use Rattle.scales.specs.Same.{no_zero}
 use Rattle.scales.specs.Place.{and_both, apart, placed, spanned_out}
-use Rattle.scales.specs.Counts.{timed_no}
+use Rattle.scales.specs.Counts.{timed_at, timed_no}
 use Rattle.scales.specs.declared.Scale.{Scale}
 use Rattle.scales.specs.declared.Scale.TheVariants as S
 use Rattle.scales.specs.declared.Record.{Record}
 use Rattle.scales.specs.declared.Refusal.{Refusal}
+use Rattle.scales.specs.declared.Time.{Time}
 use Rattle.handed.specs.Meaning.{scale_of, is_finite, is_in_span, moment_in}
 use Rattle.handed.specs.Laid.{LaidAt}
 use Rattle.handed.specs.declared.Handed.{Handed}
@@ -55,14 +56,18 @@ module _ (ds : List ℤ) (os : List ℕ) (e : ℤ) where
         let k = timed_no r.scale r.day r.micro f y q in
         q ∙ spanned_out r.scale r.day r.micro k.0 ∙ sym (rw (list_passes r.scale w, k.0))
 
-    pub judge_plain : in_span r.scale r.day r.micro ≡ true → is_utc r.scale ≡ false → Judges (dated r.scale (answer (record_moment r)))
-    judge_plain i u = sym (rw (i, u))
+    pub judge_plain : (t : Time) → slip_timed (Ok t) ≡ spanned r.scale r.day r.micro → is_utc r.scale ≡ false → Judges (dated r.scale (answer (record_moment r)))
+    judge_plain t q u = sym (rw ((timed_at r.scale r.day r.micro t q).0, u))
 
     -- of UTC also 9 and 10, by the place of the day
     pub record InUtc (p : ℕ) : Type 0 where
       pub inside : in_span r.scale r.day r.micro ≡ true
       pub utc : is_utc r.scale ≡ true
       pub place : p ≡ place_of_day r.day
+
+    -- a record that was taken as a time, of UTC
+    pub in_utc : (t : Time) (p : ℕ) → slip_timed (Ok t) ≡ spanned r.scale r.day r.micro → is_utc r.scale ≡ true → p ≡ place_of_day r.day → InUtc p
+    in_utc t p q u e = record { inside = (timed_at r.scale r.day r.micro t q).0; utc = u; place = e }
 
     module _ (p : ℕ) (k : InUtc p) where
       pub judge_place : p < 99999

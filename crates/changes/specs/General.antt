@@ -30,22 +30,22 @@ uses_from s to e = rw e
 pub uses_to : (s to : Scale) → is_utc to ≡ true → change_uses_list s to ≡ true
 uses_to s to e = rw e (or_true (is_utc s))
 
--- ---- to its own scale, or to another; the last day is e, and a callee reads it from its bits, as z
-module _ (s : Scale) (n : ℕ) (ds : List ℤ) (os : List ℕ) {z e : ℤ} (q : z ≡ e) {r : Result Tai Refusal} (w : Left (of_count s n (from_scale s ds os z)) r) (to : Scale) where
-  abbrev moved : ℤ → Slip
-  moved y = dated to (outcome (of_count s n (moving s to ds os y)))
+-- ---- to its own scale, or to another
+module _ (s : Scale) (n : ℕ) (ds : List ℤ) (os : List ℕ) (e : ℤ) {r : Result Tai Refusal} (w : Left (of_count s n (from_scale s ds os e)) r) (to : Scale) where
+  abbrev Moves : Slip → Type 0
+  Moves x = x ≡ dated to (outcome (of_count s n (moving s to ds os e)))
 
   abbrev next : ℤ → Judged Moment
-  next = settled s to ds os z (moment_at s n)
+  next = settled s to ds os e (moment_at s n)
 
-  pub move_stays : {t : Tai} → r ≡ Ok t → same_scale s to ≡ true → dated s (answer (moment_at s n)) ≡ moved e
-  move_stays g h = way_on w to next g (ap (λ (x : Scale). dated x (answer (moment_at s n))) (same_scale_lem s to h) ∙ sym (rw h)) ∙ ap moved q
+  pub move_stays : {t : Tai} → r ≡ Ok t → same_scale s to ≡ true → Moves (dated s (answer (moment_at s n)))
+  move_stays g h = way_on w to next g (ap (λ (x : Scale). dated x (answer (moment_at s n))) (same_scale_lem s to h) ∙ sym (rw h))
 
-  pub move_goes : {t : Tai} {x : Slip} → r ≡ Ok t → same_scale s to ≡ false → x ≡ dated to (outcome (to_scale to ds os z (micros_at t.0))) → x ≡ moved e
-  move_goes g h i = way_on w to next g (i ∙ sym (rw h)) ∙ ap moved q
+  pub move_goes : {t : Tai} {x : Slip} → r ≡ Ok t → same_scale s to ≡ false → x ≡ dated to (outcome (to_scale to ds os e (micros_at t.0))) → Moves x
+  move_goes g h i = way_on w to next g (i ∙ sym (rw h))
 
-  pub move_out : {f : Refusal} → r ≡ Err f → dated to (refused (number_of f)) ≡ moved e
-  move_out g = way_out w to next g ∙ ap moved q
+  pub move_out : {f : Refusal} → r ≡ Err f → Moves (dated to (refused (number_of f)))
+  move_out g = way_out w to next g
 
 -- none of its refusals has the number of an answer
 pub moving_numbered : (s to : Scale) (ds : List ℤ) (os : List ℕ) (e : ℤ) (inside : Bool) (m : Moment) → numbered (moving s to ds os e inside m) ≡ true

@@ -1,0 +1,24 @@
+use Rattle.std.proofs.Common.{rules, ◌≡◌, ◌∙◌, Ok, Err}
+use Rattle.scales.specs.Meaning.{slip_tai}
+use Rattle.scales.specs.declared.Scale.TheVariants as S
+use Rattle.leap.specs.Meaning.{accepted_or}
+use Rattle.changes.specs.Meaning.{utc_to_tai}
+use Rattle.changes.specs.Ways.{list_on, list_out}
+use Rattle.changes.proofs.utc_to_tai.Goals as goal
+
+pub returns-in_err-list : goal.returns-in_err-list
+unfolding utc_to_tai
+returns-in_err-list c = search rules
+
+pub returns-in_err-from_utc : goal.returns-in_err-from_utc
+unfolding utc_to_tai
+returns-in_err-from_utc c =
+    let h : accepted_or c.args.list.now ≡ Ok c.in_ok-list.list = search rules in
+    let f : slip_tai c.from_residual-in_err-from_utc.result ≡ slip_tai (Err c.in_err-from_utc.field-0.0) = search rules in
+    f ∙ list_out S.Utc S.Tai c.args.t.0 _ _ h c.from_utc.ensures c.in_err-from_utc.was
+
+pub returns : goal.returns
+unfolding utc_to_tai
+returns c =
+    let h : accepted_or c.args.list.now ≡ Ok c.in_ok-list.list = search rules in
+    list_on S.Utc S.Tai c.args.t.0 _ _ h c.from_utc.ensures c.in_ok-from_utc.was c.to_tai.ensures
