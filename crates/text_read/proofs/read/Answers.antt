@@ -20,7 +20,7 @@ returns-then-lacks_list c =
     let t = c.in_ok-r.r in
     let g : c.parse.result ≡ Ok t = search rules in
     let u : (is_utc t.scale && not (accepted l.days l.offsets l.last)) ≡ true = search rules in
-    read_lacks c.args.text.now l.days l.offsets l.last c.parse.result c.parse.ensures t g u
+    rw c.of.ensures (read_lacks c.args.text.now l.days l.offsets l.last c.parse.result c.parse.ensures t g u)
 
 pub returns : goal.returns
 returns c =

@@ -1,11 +1,7 @@
-use Rattle.std.proofs.Common.{◌≡◌, rules, true, false, arith, sym, ap, ap₂, ◌∙◌, Ok, Err, ℕ, ℤ}
-use Rattle.std.specs.Prelude.{List}
+use Rattle.std.proofs.Common.{◌≡◌, rules, true, false, arith, Ok, Err}
 use Rattle.scales.specs.Meaning.{record_of}
-use Rattle.scales.specs.declared.Record.{Record}
-use Rattle.scales.specs.declared.Scale.{Scale}
 use Rattle.scales.specs.declared.Refusal.TheVariants as R
 use Rattle.calendar.specs.Meaning.{day_slip, day_of_date}
-use Rattle.text_fields.specs.declared.Stamp.{Stamp}
 use Rattle.text_read.specs.Meaning.{has_marks, stamp_in, in_limits, stamp_micro}
 use Rattle.text_read.specs.Digits.{has_digits, stamp_micro_lem}
 use Rattle.text_read.specs.Parse.{limited, body_marks, body_digits, body_limits, body_date, body_outside, body_at}
