@@ -1,4 +1,4 @@
-use Rattle.std.proofs.Common.{◌≡◌, rules, arith, ap, ◌∙◌, length, take, true, false}
+use Rattle.std.proofs.Common.{◌≡◌, arith, length, take, true, false}
 use Rattle.std.proofs.lemmas.List.Edits.{sets}
 use Rattle.text_write.specs.Meaning.{text_of, body_of}
 use Rattle.text_write.specs.Columns.{as_long, body_long, whole_long, short_laid, long_laid, filled}

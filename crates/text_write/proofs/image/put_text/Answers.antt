@@ -1,4 +1,4 @@
-use Rattle.std.proofs.Common.{◌≡◌, ◌≤◌, ℕ, List, Bool, Ok, sym, ap, ap₂, subst₂, ◌∙◌, length}
+use Rattle.std.proofs.Common.{◌≤◌, ℕ, List, Bool, Ok, sym, ap, ap₂, subst₂, ◌∙◌, length}
 use Rattle.octets.specs.Meaning.{onto}
 use Rattle.octets.specs.Place.{rest_lent, rest_back}
 use Rattle.scales.specs.Meaning.{wrote}
