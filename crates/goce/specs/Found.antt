@@ -1,5 +1,5 @@
--- What the code finds, and the meanings by it: one law for each way out of `date` and of `count_of`. Assumes nothing.
-use Rattle.std.specs.Prelude.{◌≡◌, Bool, true, false, cond, List, ℕ, ◌+◌, ◌*◌, ◌/◌, ◌≤◌, ◌<◌, ℤ, Some, None}
+-- What the code finds, and the meanings by it: one law for each way out of `dated` and of `count_of`. Assumes nothing.
+use Rattle.std.specs.Prelude.{◌≡◌, Bool, true, false, cond, List, ℕ, ◌+◌, ◌*◌, ◌/◌, ◌≤◌, ◌<◌, ℤ, Result, Option, Some, None}
 use Rattle.std.proofs.Math.Path.{refl, ap}
 use Rattle.std.proofs.Common.{sym, ◌∙◌, arith, mul-le-mul, lit<, lit≤, lt-ltb, le-ltb}
 use Rattle.axis.specs.Meaning.{day_at, micros_at, floor_z, Moment}
@@ -14,11 +14,17 @@ use Rattle.leap.specs.Whole.{offset_small}
 use Rattle.clock.specs.Meaning as K
 use Rattle.clock.specs.Places as C
 use Rattle.clock.specs.Places.{base_as}
-use Rattle.clock.specs.Stage.{covering, unaccepted_by, based_at, based_none}
+use Rattle.clock.specs.Dating.{date_found}
+use Rattle.clock.specs.declared.inner.Base.{Base}
+use Rattle.clock.specs.declared.inner.Ends.{Ends}
+use Rattle.scales.specs.declared.Refusal.{Refusal}
+use Rattle.clock.specs.declared.inner.Reckoned.{Reckoned}
+use Rattle.clock.specs.Stage.{judging, covering, landed, unaccepted_by, based_at, based_none}
 use Rattle.clock.specs.Turning as T
-use Rattle.goce.specs.Meaning.{day_counts, day_on, accepted, clock_of, date_of, obt_of}
-use Rattle.goce.specs.Places.{spot, place_of, shifted, base_of, base_at, Few, ends_at, last_at, obt_from, Windowed, Near}
-use Rattle.goce.specs.Accepted.{Sound, sound, reference_place, based}
+use Rattle.goce.specs.Meaning.{day_counts, day_on, accepted, clock_of, dating, date_of, obt_of}
+use Rattle.goce.specs.Places.{unmarked_of, spot, place_of, shifted, base_of, base_at, Few, reckoned_at, count_from, ends_at, last_at, obt_from, Windowed, Near}
+use Rattle.goce.specs.Accepted.{Sound, sound, reference_place}
+use Rattle.goce.specs.Accepted as A
 use Rattle.goce.specs.declared.Correlation.{Correlation}
 
 -- the UTC day of the reference, from its place
@@ -43,24 +49,30 @@ module _ (c : Correlation) where
       go true p = ap (λ (d : ℤ). Some (base_as (spot c + offset_on ds os d * 65536) (K.is_current S.Utc e d))) (day_at_lem c (sound c p))
       go false p = refl
 
+-- what was found of the reference in TAI
+pub based : (c : Correlation) (ds : List ℤ) (os : List ℕ) (e : ℤ) (p : Option ℕ) → p ≡ place_of c → (o : Option Base) → o ≡ base_at p ds os e →
+    (x : Option Base) → o ≡ x → base_of c ds os e ≡ x
+based c ds os e p f o g x q = sym (base_is c ds os e) ∙ ap (λ (y : Option ℕ). base_at y ds os e) (sym f) ∙ sym g ∙ q
+
 -- ---- a count too wide, and a list that is not accepted
 module _ (c : Correlation) (ds : List ℤ) (os : List ℕ) (e : ℤ) (t : ℕ) (d : ℤ) (u : ℕ) where
-  pub date_3 : 281474976710656 ≤ t → dated S.Utc (refused 3) ≡ date_of c t d u ds os e
-  unfolding date_of
+  pub date_3 : 281474976710656 ≤ t → dated S.Utc (refused 3) ≡ unmarked_of c t d u ds os e
+  unfolding unmarked_of
   date_3 l = rw (le-ltb t 281474976710656 l)
 
   pub date_at_lem : t < 281474976710656 → (o : Outcome Moment) → o ≡ outcome (K.dating (accepted c) (clock_of c ds os) t d u ds os e) →
-      remark (K.mark_of (clock_of c ds os)) (dated S.Utc o) ≡ date_of c t d u ds os e
-  unfolding date_of
-  date_at_lem l o q =
-      let k = clock_of c ds os in
-      ap (λ (x : Outcome Moment). remark (K.mark_of k) (dated S.Utc x)) q
-      ∙ remark_is (K.mark_of k) S.Utc (K.dating (accepted c) k t d u ds os e) refl
-      ∙ rw (lt-ltb t 281474976710656 l)
+      dated S.Utc o ≡ unmarked_of c t d u ds os e
+  unfolding unmarked_of
+  date_at_lem l o q = ap (dated S.Utc) q ∙ rw (lt-ltb t 281474976710656 l)
 
-  pub date_5 : t < 281474976710656 → Leap.accepted ds os e ≡ false → dated S.Utc (refused 5) ≡ date_of c t d u ds os e
-  unfolding date_of
+  pub date_5 : t < 281474976710656 → Leap.accepted ds os e ≡ false → dated S.Utc (refused 5) ≡ unmarked_of c t d u ds os e
+  unfolding unmarked_of
   date_5 l q = rw (lt-ltb t 281474976710656 l, q)
+
+  -- the mark is laid on the unmarked date
+  pub marked_is : remark (K.mark_of (clock_of c ds os)) (unmarked_of c t d u ds os e) ≡ date_of c t d u ds os e
+  unfolding date_of unmarked_of
+  marked_is = remark_is (K.mark_of (clock_of c ds os)) S.Utc (dating c t d u ds os e) refl
 
 pub count_listless : (c : Correlation) (ds : List ℤ) (os : List ℕ) (e : ℤ) → Leap.accepted ds os e ≡ false → (h : Handed) →
     valued 0 (refused (unaccepted_by h 5)) ≡ obt_of c h ds os e
@@ -73,8 +85,8 @@ module _ (c : Correlation) (ds : List ℤ) (os : List ℕ) (e : ℤ) (l : Leap.a
     not_accepted : accepted c ≡ false
     not_accepted = based_none (accepted c) (shifted c ds os) (K.is_current S.Utc e (day_on c)) q
 
-    pub date_6 : (t : ℕ) (d : ℤ) (u : ℕ) → t < 281474976710656 → dated S.Utc (refused 6) ≡ date_of c t d u ds os e
-    unfolding date_of
+    pub date_6 : (t : ℕ) (d : ℤ) (u : ℕ) → t < 281474976710656 → dated S.Utc (refused 6) ≡ unmarked_of c t d u ds os e
+    unfolding unmarked_of
     date_6 t d u k = rw (lt-ltb t 281474976710656 k, l, not_accepted)
 
     pub count_unaccepted : (h : Handed) → valued 0 (refused (unaccepted_by h 6)) ≡ obt_of c h ds os e
@@ -111,10 +123,25 @@ module _ (c : Correlation) (ds : List ℤ) (os : List ℕ) (e : ℤ) (l : Leap.a
         }
 
     pub clock_based : C.Based (clock_of c ds os) (s * 1000000000)
-    clock_based = rw (← known.1.0) (based c is_accepted_lem ds os)
+    clock_based = rw (← known.1.0) (A.based c is_accepted_lem ds os)
+
+    -- ---- the date, from what was reckoned
+    module _ (t : ℕ) (k : Reckoned) (f : k ≡ reckoned_at s c.gradient c.back c.ahead (count_from t c.obt0)) where
+      pub far : 10000000 ≤ k.at
+      far = omega (arith, ap (λ (x : Reckoned). x.at) f, C.time_far (clock_of c ds os) (s * 1000000000) clock_based (count_from t c.obt0))
+
+      pub dates : (d : ℤ) (u : ℕ) → t < 281474976710656 →
+          dated S.Utc (outcome (judging S.Utc n k.inside (C.cover_of k.ends) (micros_at k.at) d u ds os e)) ≡ unmarked_of c t d u ds os e
+      dates d u h =
+          date_at_lem c ds os e t d u h _
+          (date_found (accepted c) is_accepted_lem (clock_of c ds os) ds os e l (s * 1000000000) clock_based t n current_is k f d d refl u e refl)
 
     -- ---- the way back
     module _ (h : Handed) where
+      pub lands : (v : Ends) → v ≡ ends_at s c.gradient c.back c.ahead → (p : Result ℕ Refusal) → landed p ≡ outcome (covering S.Utc n (C.cover_of v) h ds os e) →
+          landed p ≡ outcome (covering S.Utc n (C.cover_of (ends_at s c.gradient c.back c.ahead)) h ds os e)
+      lands v g p f = f ∙ ap (λ (w : Ends). outcome (covering S.Utc n (C.cover_of w) h ds os e)) g
+
       pub count_not : (j : ℕ) → refused j ≡ outcome (covering S.Utc n (C.cover_of (ends_at s c.gradient c.back c.ahead)) h ds os e) →
           valued 0 (refused j) ≡ obt_of c h ds os e
       unfolding obt_of

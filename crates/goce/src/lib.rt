@@ -16,6 +16,9 @@ use scales::{Mark, Record, Refusal, Refused, Scale, Utc};
 // The counter has 48 bits.
 const COUNTS: u64 = 281_474_976_710_656;
 
+// The place of day 36525, in counts.
+const SPAN_END: u64 = 433_308_303_360_000;
+
 // UTC = Gradient x (OBT - OBT0) + Offset + UTC0, in counts of 1/65536 s and billionths, and the window: counts back and counts ahead.
 #[derive(Clone, Copy)]
 pub struct Correlation {
@@ -51,7 +54,7 @@ fn reference_of(c: Correlation) -> Option<u64>
         return None;
     }
     let s = c.utc0 + offset;
-    if 433_308_303_360_000 <= s {
+    if SPAN_END <= s {
         return None;
     }
     Some(s)

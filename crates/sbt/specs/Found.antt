@@ -1,11 +1,12 @@
 -- What the code finds, and the meanings by it: one law for each way out of the dates and of the ways back. Assumes nothing.
-use Rattle.std.specs.Prelude.{◌≡◌, Bool, true, false, List, ℕ, ◌+◌, ◌*◌, ◌/◌, ◌≤◌, ◌<◌, ℤ, Result, Ok, Err, Some, None}
+use Rattle.std.specs.Prelude.{◌≡◌, refl, Bool, true, false, List, ℕ, ◌+◌, ◌*◌, ◌/◌, ◌≤◌, ◌<◌, ℤ, Result, Ok, Err, Some, None}
 use Rattle.std.proofs.Common.{sym, ap₂, ◌∙◌, mul-le-mul}
 use Rattle.std.proofs.Math.Path.{ap}
 use native.Mathlib.Omega.{arith}
-use Rattle.axis.specs.Meaning.{day_at, place_of_day}
+use Rattle.axis.specs.Meaning.{day_at, micros_at, place_of_day}
 use Rattle.axis.specs.Axis.{day_place}
-use Rattle.scales.specs.Meaning.{dated, refused, outcome, valued, number_of}
+use Rattle.scales.specs.Meaning.{dated, remark, refused, outcome, valued, number_of}
+use Rattle.scales.specs.Marks.{remark_is}
 use Rattle.scales.specs.Place.{day_part}
 use Rattle.scales.specs.declared.Scale.{Scale}
 use Rattle.scales.specs.declared.Scale.TheVariants as S
@@ -14,13 +15,16 @@ use Rattle.leap.specs.Meaning as Leap
 use Rattle.leap.specs.Meaning.{offset_on}
 use Rattle.leap.specs.Whole.{offset_small}
 use Rattle.via_tai.specs.Meaning.{is_utc}
-use Rattle.clock.specs.Meaning.{list_serves, is_current}
+use Rattle.clock.specs.Meaning.{list_serves, is_current, mark_of}
+use Rattle.clock.specs.Dating.{date_found}
+use Rattle.clock.specs.declared.inner.Ends.{Ends}
+use Rattle.clock.specs.declared.inner.Reckoned.{Reckoned}
 use Rattle.clock.specs.Places as C
 use Rattle.clock.specs.Places.{base_as}
-use Rattle.clock.specs.Stage.{spot, seconds_in, covering, unaccepted_by, landed, found, none, based_at, based_none, serves_own, utc_is}
+use Rattle.clock.specs.Stage.{spot, seconds_in, judging, judging_own, judging_own_lem, covering, covering_own, covering_own_lem, current_own, unaccepted_by, landed, found, none, based_at, based_none, serves_own, utc_is}
 use Rattle.clock.specs.Turning as T
-use Rattle.sbt.specs.Meaning.{accepted, clock_of, tick_of}
-use Rattle.sbt.specs.Places.{unmarked_of, place_of, shifted, base_of, ends_at, covered_by, last_in, ticked_as, Windowed, Reached, Few}
+use Rattle.sbt.specs.Meaning.{accepted, clock_of, dating, date_of, tick_of}
+use Rattle.sbt.specs.Places.{unmarked_of, place_of, shifted, base_of, ends_at, covered_by, reckoned_at, count_from, last_at, ticked_as, Windowed, Near, Few}
 use Rattle.sbt.specs.Accepted.{sound, based}
 use Rattle.sbt.specs.declared.Correlation.{Correlation}
 use Rattle.scales.specs.declared.Refusal.{Refusal}
@@ -75,26 +79,45 @@ module _ (c : Correlation) (ds : List ℤ) (os : List ℕ) (e : ℤ) where
         windowed = windowed_at c a (shifted c ds os) (omega arith) (omega (arith, j));
       }
 
+  -- the date, from what was reckoned; n says whether the reference's day is not expired
+  module _ (r : ℕ) (s : Standing c ds os e r) (t : ℕ) (d : ℤ) (u : ℕ) (k : Reckoned)
+      (f : k ≡ reckoned_at r c.period c.back c.ahead (count_from t c.tick.0)) where
+    pub dates : (n : Bool) → n ≡ is_current c.scale e c.day →
+        dated c.scale (outcome (judging c.scale n k.inside (C.cover_of k.ends) (micros_at k.at) d u ds os e)) ≡ unmarked_of c t d u ds os e
+    unfolding unmarked_of
+    dates n g = ap (dated c.scale) (date_found (accepted c) s.accepts (clock_of c ds os) ds os e s.serves (r * 1000000) s.based t n g k f d d refl u e refl)
+
+    pub own_dates : is_utc c.scale ≡ false →
+        dated c.scale (outcome (judging_own c.scale k.inside (C.cover_of k.ends) (micros_at k.at) d u)) ≡ unmarked_of c t d u ds os e
+    own_dates i =
+        ap (dated c.scale) (judging_own_lem c.scale i ds os e k.inside (C.cover_of k.ends) (micros_at k.at) d u)
+        ∙ dates true (sym (current_own c.scale i ds os e c.day))
+
+    pub far : 10000000 ≤ k.at
+    far = omega (arith, ap (λ (x : Reckoned). x.at) f, C.time_far (clock_of c ds os) (r * 1000000) s.based (count_from t c.tick.0))
+
   -- the way back, from what was found in the cover
   module _ (r : ℕ) (s : Standing c ds os e r) (h : Handed) where
-    abbrev Lands : Result ℕ Refusal → Type 0
+    abbrev pub Lands : Result ℕ Refusal → Type 0
     Lands p = landed p ≡ outcome (covering c.scale (is_current c.scale e c.day) (C.cover_of (ends_at r c.period c.back c.ahead)) h ds os e)
 
-    pub reached : (p : Result ℕ Refusal) → Lands p → Reached r c.period p
-    reached (Ok w) f =
+    pub reached : (w : ℕ) → Lands (Ok w) → Near r c.period w
+    reached w f =
         let m = T.near (accepted c) s.accepts (clock_of c ds os) ds os e s.serves (r * 1000000) s.based h w f in
         let p : c.ahead * c.period ≤ 8389144870912000000 =
         mul-le-mul {n₂ = 2147483648} {m₂ = 3906500000} (omega (arith, s.windowed.ahead_to)) s.windowed.based.slow in
         record { based = s.windowed.based; low = m.low; high = omega (arith, m.high, p) }
-    reached (Err g) f = omega arith
 
-    pub lasts : (p : Result ℕ Refusal) → Lands p → Lasts c h ds os e (last_in r c.period p)
+    pub lasts : (w : ℕ) → Lands (Ok w) → Lasts c h ds os e (Ok (last_at r c.period w))
     unfolding tick_of
-    lasts (Ok w) f = (
+    lasts w f = (
       T.few (accepted c) s.accepts (clock_of c ds os) ds os e s.serves (r * 1000000) s.based h w f,
       ap (valued 0) (T.turn_is (accepted c) s.accepts (clock_of c ds os) ds os e s.serves (r * 1000000) s.based h w f),
     )
-    lasts (Err g) f =
+
+    pub lacks : (g : Refusal) → Lands (Err g) → Lasts c h ds os e (Err g)
+    unfolding tick_of
+    lacks g f =
         (omega arith, ap (valued 0) (T.turn_not (accepted c) s.accepts (clock_of c ds os) ds os e s.serves (r * 1000000) s.based h (number_of g) f))
 
   -- ---- not accepted, and a list that serves
@@ -134,9 +157,9 @@ module _ (c : Correlation) (ds : List ℤ) (os : List ℕ) (e : ℤ) where
       not_serves : list_serves c.scale ds os e ≡ false
       not_serves = rw (i, l)
 
-      pub date_5 : (t : ℕ) (d : ℤ) (u : ℕ) → dated c.scale (refused 5) ≡ unmarked_of c t d u ds os e
+      pub date_5 : (t : ℕ) (d : ℤ) (u : ℕ) → dated S.Utc (refused 5) ≡ unmarked_of c t d u ds os e
       unfolding unmarked_of
-      date_5 t d u = rw not_serves
+      date_5 t d u = utc_scale (λ (z : Scale). dated z (refused 5)) ∙ rw not_serves
 
       pub tick_listless : (h : Handed) → valued 0 (refused (unaccepted_by h 5)) ≡ tick_of c h ds os e
       unfolding tick_of
@@ -176,6 +199,9 @@ module _ (c : Correlation) (ds : List ℤ) (os : List ℕ) (e : ℤ) where
       pub utc_none : base_of c ds os e ≡ None → accepted c ≡ false
       utc_none q = based_none (accepted c) (shifted c ds os) (is_current c.scale e c.day) q
 
+      pub utc_date_6 : base_of c ds os e ≡ None → (t : ℕ) (d : ℤ) (u : ℕ) → dated S.Utc (refused 6) ≡ unmarked_of c t d u ds os e
+      utc_date_6 q t d u = utc_scale (λ (z : Scale). dated z (refused 6)) ∙ date_6 serves_utc (utc_none q) t d u
+
       module _ (r : ℕ) (n : Bool) (q : base_of c ds os e ≡ Some (base_as r n)) where
         told : (accepted c ≡ true) × ((shifted c ds os ≡ r) × (is_current c.scale e c.day ≡ n))
         told = based_at (accepted c) (shifted c ds os) r (is_current c.scale e c.day) n q
@@ -189,3 +215,29 @@ module _ (c : Correlation) (ds : List ℤ) (os : List ℕ) (e : ℤ) where
             let d = day_place c.day (omega (arith, s.day.from)) (omega (arith, s.day.to)) in
             standing r serves_utc told.0
             (omega (arith, seconds_is c.day, ap (offset_on ds os) d, offset_small ds os e l (place_of_day c.day))) told.1.0
+
+        pub utc_dates : (t : ℕ) (d : ℤ) (u : ℕ) (k : Reckoned) → k ≡ reckoned_at r c.period c.back c.ahead (count_from t c.tick.0) →
+            dated S.Utc (outcome (judging S.Utc n k.inside (C.cover_of k.ends) (micros_at k.at) d u ds os e)) ≡ unmarked_of c t d u ds os e
+        utc_dates t d u k f =
+            utc_scale (λ (z : Scale). dated z (outcome (judging z n k.inside (C.cover_of k.ends) (micros_at k.at) d u ds os e)))
+            ∙ dates r utc_stands t d u k f n current_is
+
+        -- the same of the way back
+        pub utc_lands : (h : Handed) (v : Ends) → v ≡ ends_at r c.period c.back c.ahead → (p : Result ℕ Refusal) →
+            landed p ≡ outcome (covering S.Utc n (C.cover_of v) h ds os e) → Lands r utc_stands h p
+        utc_lands h v g p f =
+            f ∙ ap₂ (λ (w : Ends) (x : Bool). outcome (covering S.Utc x (C.cover_of w) h ds os e)) g current_is
+            ∙ utc_scale (λ (z : Scale). outcome (covering z (is_current c.scale e c.day) (C.cover_of (ends_at r c.period c.back c.ahead)) h ds os e))
+
+pub own_lands : (c : Correlation) (ds : List ℤ) (os : List ℕ) (e : ℤ) (i : is_utc c.scale ≡ false) (r : ℕ) (s : Standing c ds os e r)
+    (h : Handed) (v : Ends) → v ≡ ends_at r c.period c.back c.ahead → (p : Result ℕ Refusal) →
+    landed p ≡ outcome (covering_own c.scale (C.cover_of v) h) → Lands c ds os e r s h p
+own_lands c ds os e i r s h v g p f =
+    f ∙ covering_own_lem c.scale i ds os e (C.cover_of v) h
+    ∙ ap₂ (λ (w : Ends) (x : Bool). outcome (covering c.scale x (C.cover_of w) h ds os e)) g (sym (current_own c.scale i ds os e c.day))
+
+-- the mark is laid on the unmarked date
+pub marked_is : (c : Correlation) (ds : List ℤ) (os : List ℕ) (e : ℤ) (t : ℕ) (d : ℤ) (u : ℕ) →
+    remark (mark_of (clock_of c ds os)) (unmarked_of c t d u ds os e) ≡ date_of c t d u ds os e
+unfolding date_of unmarked_of
+marked_is c ds os e t d u = remark_is (mark_of (clock_of c ds os)) c.scale (dating c t d u ds os e) refl
