@@ -1,12 +1,12 @@
 -- Bytes moved to the front of their slice. Assumes nothing.
-use Rattle.std.specs.Prelude.{◌≡◌, refl, Bool, true, false, ℕ, zero, suc, ◌+◌, ◌-◌, ◌≤◌, ◌<◌, min, leb, get_or, set}
+use Rattle.std.specs.Prelude.{◌≡◌, refl, Bool, true, false, ℕ, zero, suc, ◌+◌, ◌-◌, ◌≤◌, ◌<◌, min, leb}
 use Rattle.std.proofs.Math.Path.{sym, ap, ap₂}
-use Rattle.std.proofs.Common.{◌∙◌, arith, take_all, take-take, get_or-append-add, get_or-drop, leb-true, leb-false}
+use Rattle.std.proofs.Common.{◌∙◌, arith, take_all, take-take, leb-true, leb-false}
 use mathlib.Core.List.{List, [], ◌∷◌, ◌++◌}
 use Rattle.std.proofs.Math.ListN.{length, take, drop, length-drop, length-take, drop_of_length-le}
 use Rattle.std.proofs.Math.Seq.{slice, length-take-le}
 use Rattle.octets.specs.Meaning.{onto}
-use Rattle.octets.specs.Place.{onto_room, onto_next}
+use Rattle.octets.specs.Place.{onto_room}
 use Rattle.lines.specs.Meaning.{kept, moved, keep}
 
 -- a part that ends further on begins the same
