@@ -7,3 +7,4 @@ pub mod WritersWrong
 pub mod Wrong
 pub mod CountsWrong
 pub mod SeasonsWrong
+pub mod ConversionsWrong
