@@ -150,7 +150,12 @@ fn without_receipt(f: Refusal, place: u64, list: &Accepted) -> Refusal
 }
 
 // The date of a count under an accepted correlation; `current` says whether its reference is not expired.
-pub fn date_by_list(k: Reckoned, current: bool, receipt: Receipt, list: &Accepted) -> Result<Utc, Refusal>
+pub fn date_by_list(
+    k: Reckoned,
+    current: bool,
+    receipt: Receipt,
+    list: &Accepted,
+) -> Result<Utc, Refusal>
     requires { 10000000 ≤ k.at }
     ensures { slip_utc result ≡ dated Scale.Utc (outcome (judging Scale.Utc current k.inside (cover_of k.ends) (micros_at k.at) receipt.day receipt.micro list.now.days list.now.offsets list.now.last)) }
 {
