@@ -21,7 +21,8 @@ IMPORTS = "crates/promises/specs/All.antt"
 NUMBERS, NEVER = "crates/promises/specs/Refusals.antt", "crates/promises/specs/Never.antt"
 JUDGED = ("Judged", "crates/scales/specs/Meaning.antt")
 THEOREM = re.compile(r"`([a-z_]+\.[A-Z][A-Za-z]*\.[a-z][a-z0-9_]*)`")
-ROW = re.compile(r"^\| `([a-z_]+::[A-Za-z_:]+)` \|(.*)\|$", re.M)
+# A conversion is named by its types: low::<To as From<Result<u64, Of>>>::from.
+ROW = re.compile(r"^\| `([a-z_]+::[^`]+)` \|(.*)\|$", re.M)
 _SPECS = re.compile(r"crates/\w+/specs/.+")
 _LAWS = re.compile(r"crates/(?:\w+_laws|promises|marked)/(?:specs|proofs)/.+")
 

@@ -22,6 +22,7 @@ HEADER = ["Function", "Wrong program", "Theorem", "File"]
 WEAKER = ["Promise", *HEADER[1:]]
 EVIDENCE = "crates/evidence/specs/ShutOut.antt"
 LEAST = 2
+KNOWN = "known"  # the view of a fact that does not state what is handed back
 TOLD = [
     "refuses all",
     "day 0 for everything",
@@ -131,9 +132,20 @@ class Laws:
 
     def shut_out(self, function, path, name):
         """What is wrong with a theorem ShutOut for a function, or ''; or Unreadable."""
-        word, (right, *_) = self._said(path, name, SHUT_OUT)
+        word, (right, answer, *_) = self._said(path, name, SHUT_OUT)
         cited = self.names.cited(path, right if word == "ShutOut" else word, self._bodies)
-        about = any(cited.issuperset([fact.meaning, *fact.others]) for fact in self.public[function])
+        made = any(file.startswith(f"crates/{function.split('::')[0]}/specs/") for _, file in cited)
+
+        def states(fact):
+            term, file = fact.meaning
+            if file:
+                return cited.issuperset([fact.meaning, *fact.others])
+            # A field of an argument stands behind the right side; an argument itself is the answer too.
+            field = ".".join(["", *(part for part in term.split(".")[1:] if part != "now")])
+            return made and (right.endswith(field) if field else right == answer)
+
+        # What a contract tells besides is not handed back.
+        about = any(states(fact) for fact in self.public[function] if fact.view != KNOWN)
         return "" if about else f"the right side of {name} is not the meaning of {function}"
 
     def _about(self, path, text, more):

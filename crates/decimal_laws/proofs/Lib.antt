@@ -4,3 +4,4 @@ pub mod Nearer
 pub mod Trip
 pub mod Cases
 pub mod Wrong
+pub mod UntakenWrong

@@ -5,3 +5,4 @@ pub mod OctetsWrong
 pub mod ScalesExamples
 pub mod ScalesWrong
 pub mod MarksWrong
+pub mod AnswersWrong

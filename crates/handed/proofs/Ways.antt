@@ -31,15 +31,15 @@ use Rattle.handed.specs.declared.Unread.{Unread}
 use Rattle.handed.specs.declared.Unread.TheVariants as R
 use Rattle.handed.specs.declared.Untaken.TheVariants as K
 use Rattle.handed.specs.Meaning.{spans, nearest_moment, scale_of, is_finite, is_in_span, day_of, micro_of, taken_of, Took}
-use Rattle.handed.specs.Parts.{first_of, micros_in, inside, place_of, found, time_of, taken_as, place_read}
+use Rattle.handed.specs.Parts.{first_of, micros_in, inside, place_of, found, time_of}
 
 -- ---- from what is told back to the contract
 module _ (h : Handed) where
-  took_nothing : is_finite h ≡ false → Took h (Err (K.NotFinite (scale_of h)))
+  pub took_nothing : is_finite h ≡ false → Took h (Err (K.NotFinite (scale_of h)))
   unfolding taken_of
   took_nothing p = record { is = rw p; kept = lit≤ tt }
 
-  took_outside : is_finite h ≡ true → is_in_span h ≡ false → Took h (Err (K.Outside (scale_of h)))
+  pub took_outside : is_finite h ≡ true → is_in_span h ≡ false → Took h (Err (K.Outside (scale_of h)))
   unfolding taken_of
   took_outside p q = record { is = rw (p, q); kept = lit≤ tt }
 
@@ -138,11 +138,6 @@ module _ (x : Float) (s : Scale) where
   pub read_tells : {n : ℕ} {r : Result ℕ Unread} → n ≡ first_of s → r ≡ found n x → Found x s r
   read_tells e f = subst (Found x s) (sym (f ∙ ap (λ (k : ℕ). found k x) e)) (found_is x s)
 
-  pub read_small : (r : Result ℕ Unread) → Found x s r → place_read r < 2 ^ 62
-  read_small (Err R.NotFinite) k = lit< tt
-  read_small (Err R.Outside) k = lit< tt
-  read_small (Ok n) k = omega (arith, k.small)
-
   -- the time at place n is the one at the count of its moment
   read_time : (n : ℕ) → At x s n → time_of s n ≡ time_at s (count_in (H.Decimal x s))
   read_time n k =
@@ -151,10 +146,8 @@ module _ (x : Float) (s : Scale) where
       ∙ ap (λ (m : Moment). time_at s (count_of s m.day m.micro)) (sym k.moment)
 
   module _ (d : T (fits binary64 x)) where
-    pub read_took : (r : Result ℕ Unread) → Found x s r → Took (H.Decimal x s) (taken_as s r)
-    read_took (Err R.NotFinite) k = took_nothing (H.Decimal x s) k
-    read_took (Err R.Outside) k = took_outside (H.Decimal x s) k.0 k.1
-    read_took (Ok n) k =
+    pub read_took : (n : ℕ) → At x s n → Took (H.Decimal x s) (Ok (time_of s n))
+    read_took n k =
         took_at (H.Decimal x s) (time_of s n)
         (record { finite = k.ends; inside = k.inside; is = read_time n k; kept = kept_decimal x s d k.ends k.inside })
 

@@ -8,8 +8,6 @@ use Rattle.scales.specs.declared.Time.{Time}
 use Rattle.double.specs.Meaning.{Exact, up, down, over, under}
 use Rattle.handed.specs.declared.Unread.{Unread}
 use Rattle.handed.specs.declared.Unread.TheVariants.{NotFinite, Outside}
-use Rattle.handed.specs.declared.Untaken.{Untaken}
-use Rattle.handed.specs.declared.Untaken.TheVariants as K
 
 -- the days from a day on or before day 0 to day 0
 abbrev pub back_to : ℤ → ℕ
@@ -54,14 +52,3 @@ found back (fin s m e) = value_of back s (m * up e) (down e)
 -- the time of a scale at place n of the axis of microseconds
 abbrev pub time_of : Scale → ℕ → Time
 time_of s n = time_at s (n / day_micros * bound s + n % day_micros)
-
--- what a reading is taken for; and its place, 0 where it has none
-abbrev pub taken_as : Scale → Result ℕ Unread → Result Time Untaken
-taken_as s (Err NotFinite) = Err (K.NotFinite s)
-taken_as s (Err Outside) = Err (K.Outside s)
-taken_as s (Ok n) = Ok (time_of s n)
-
-abbrev pub place_read : Result ℕ Unread → ℕ
-place_read (Err NotFinite) = 0
-place_read (Err Outside) = 0
-place_read (Ok n) = n

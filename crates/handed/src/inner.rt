@@ -1,9 +1,8 @@
 // A handed time as a record, for those that judge a record by its day and microsecond; and a decimal day by itself, taken apart.
-ghost use Rattle.std.specs.Prelude.{◌≡◌, ◌/◌, ◌%◌, ◌^◌, ◌<◌};
+ghost use Rattle.std.specs.Prelude.{◌≡◌, ◌/◌, ◌%◌};
 ghost use Rattle.axis.specs.Meaning.{day_at, day_micros};
 ghost use Rattle.scales.specs.Meaning.{record_of};
 ghost use Rattle.handed.specs.Meaning.{Took};
-ghost use Rattle.handed.specs.Parts.{place_read, taken_as};
 ghost use Rattle.handed.specs.Laid.{outside_of, Lays, not_laid};
 
 use super::{Handed, Unread, Untaken, first_of, read_days, time_of};
@@ -61,12 +60,11 @@ pub fn lay(h: Handed) -> Result<Record, NotFinite>
 
 // ---- a decimal day by itself
 
-// What a decimal day is taken for, by what was read of it.
-fn take_reading(scale: Scale, r: Result<u64, Unread>) -> Result<Time, Untaken>
-    requires { place_read r < 2 ^ 62 }
-    ensures { result ≡ taken_as scale r }
+// A decimal day of a scale, taken apart.
+fn take_day(scale: Scale, day: f64) -> Result<Time, Untaken>
+    ensures { Took (Handed.Decimal day scale) result }
 {
-    match r {
+    match read_days(first_of(scale), day) {
         Ok(n) => Ok(time_of(scale, n)),
         Err(Unread::NotFinite) => Err(Untaken::NotFinite(scale)),
         Err(Unread::Outside) => Err(Untaken::Outside(scale)),
@@ -79,8 +77,8 @@ pub fn take_decimal(day: f64, scale: Scale) -> Result<Time, Untaken>
     ensures { Took (Handed.Decimal day scale) result }
 {
     match scale {
-        Scale::Tai => take_reading(Scale::Tai, read_days(first_of(Scale::Tai), day)),
-        Scale::Utc => take_reading(Scale::Utc, read_days(first_of(Scale::Utc), day)),
-        Scale::Gps => take_reading(Scale::Gps, read_days(first_of(Scale::Gps), day)),
+        Scale::Tai => take_day(Scale::Tai, day),
+        Scale::Utc => take_day(Scale::Utc, day),
+        Scale::Gps => take_day(Scale::Gps, day),
     }
 }

@@ -107,8 +107,8 @@ fn read_number(first: u64, neg: bool, q: u64, sh: u64) -> Result<u64, Unread>
     Err(Unread::Outside)
 }
 
-// What a bit pattern stands for: microseconds from day -40000 on, every day having 86,400 s. The exponent's field tells the ranges apart: infinite, 2^16 days or
-// more, less than half a microsecond, and the rest.
+// What a bit pattern stands for, in microseconds from day -40000 on, every day having 86,400 s. The exponent's field tells the
+// ranges apart: infinite, 2^16 days or more, less than half a microsecond, and the rest.
 fn read_bits(first: u64, bits: u64) -> Result<u64, Unread>
     requires { (0 < first) × (first ≤ 36525) }
     ensures { result ≡ found first (of_bits binary64 bits) }

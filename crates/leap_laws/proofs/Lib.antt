@@ -15,3 +15,4 @@ pub mod Wrong
 pub mod Outgrown
 pub mod Instances
 pub mod Asked
+pub mod ListWrong

@@ -17,56 +17,17 @@ use Rattle.lines.specs.Stage.{before_newline, Put}
 use Rattle.lines.specs.Told.{answer_small}
 use Rattle.lines.specs.declared.Progress.{Progress}
 
--- ---- the first newline, looked for from a place on
-module _ (s : List ℕ) (i : ℕ) (h : i < length s) where
-  pub newline_here : get_or s i 0 ≡ 10 → before_newline (drop i s) ≡ 0
-  unfolding before_newline
-  newline_here e = rw (drop-cons s i 0 h, eq-eqb (get_or s i 0) 10 e)
-
-  pub newline_later : (get_or s i 0 ≡ 10 → ⊥) → before_newline (drop i s) ≡ before_newline (drop (i + 1) s) + 1
-  unfolding before_newline
-  newline_later e = rw (drop-cons s i 0 h, ne_eqb (get_or s i 0) 10 e, add-one i) (omega arith)
-
-pub before_within : (s : List ℕ) → before_newline s ≤ length s
+-- ---- the first newline, by what no byte before it is
+pub newline_at : (s : List ℕ) (k : ℕ) → k < length s → ((i : ℕ) → i < k → get_or s i 0 ≡ 10 → ⊥) → get_or s k 0 ≡ 10 → before_newline s ≡ k
 unfolding before_newline
-before_within [] = omega arith
-before_within (b ∷ s) = go (eqb b 10) (before_within s)
-  where
-    go : (x : Bool) → before_newline s ≤ length s → cond x 0 (suc (before_newline s)) ≤ suc (length s)
-    go true h = omega arith
-    go false h = omega arith
+newline_at [] k h n e = absurd (omega arith)
+newline_at (b ∷ s) zero h n e = rw (eq-eqb b 10 e) refl
+newline_at (b ∷ s) (suc k) h n e = rw (ne_eqb b 10 (n 0 (omega arith))) (ap suc (newline_at s k (omega arith) (λ i l. n (suc i) (omega arith)) e))
 
--- any number of bytes that are no newline may be passed over
-passed : (k : ℕ) (s : List ℕ) → k ≤ before_newline s → k + before_newline (drop k s) ≡ before_newline s
+pub newline_none : (s : List ℕ) → ((i : ℕ) → i < length s → get_or s i 0 ≡ 10 → ⊥) → before_newline s ≡ length s
 unfolding before_newline
-passed zero s h = omega arith
-passed (suc k) [] h = absurd (omega arith)
-passed (suc k) (b ∷ s) h = go (eqb b 10) h (λ h. passed k s h)
-  where
-    go : (x : Bool) → suc k ≤ cond x 0 (suc (before_newline s)) → (k ≤ before_newline s → k + before_newline (drop k s) ≡ before_newline s)
-        → suc k + before_newline (drop k s) ≡ cond x 0 (suc (before_newline s))
-    go true h ih = absurd (omega arith)
-    go false h ih = omega (arith, ih (omega arith))
-
--- no newline stands from place i to place j
-pub record Passed (s : List ℕ) (i j : ℕ) : Type 0 where
-  pub from : i ≤ j
-  pub to : j ≤ i + before_newline (drop i s)
-
-module _ {s : List ℕ} {i j : ℕ} (p : Passed s i j) where
-  pub newline_same : j + before_newline (drop j s) ≡ i + before_newline (drop i s)
-  newline_same =
-      let e : i + (j - i) ≡ j = omega (arith, p.from) in
-      let q : j - i + before_newline (drop j s) ≡ before_newline (drop i s) =
-      ap (λ (n : ℕ). j - i + before_newline (drop n s)) (sym e) ∙ ap (λ (t : List ℕ). j - i + before_newline t) (sym (drop-drop (j - i) i s))
-      ∙ passed (j - i) (drop i s) (omega (arith, p.to)) in
-      omega arith
-
-  pub newline_at : get_or s j 0 ≡ 10 → j < length s → j ≡ i + before_newline (drop i s)
-  newline_at e h = omega (arith, newline_same, newline_here s j h e)
-
-  pub newline_after : (get_or s j 0 ≡ 10 → ⊥) → j < length s → (k : ℕ) → k ≡ j + 1 → Passed s i k
-  newline_after e h k q = record { from = omega (arith, p.from); to = omega (arith, newline_same, newline_later s j h e) }
+newline_none [] n = refl
+newline_none (b ∷ s) n = rw (ne_eqb b 10 (n 0 (omega arith))) (ap suc (newline_none s (λ i l. n (suc i) (omega arith))))
 
 -- ---- the whole lines
 pub whole_none : (s : List ℕ) → before_newline s ≡ length s → whole_in s ≡ []

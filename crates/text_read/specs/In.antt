@@ -1,8 +1,9 @@
 -- The time of a text in a scale that is wanted: a law for each way out. Assumes nothing.
 use Rattle.std.specs.Prelude.{◌≡◌, refl, Bool, true, false, not, List, ℕ, ℤ, ◌+ℤ◌, Result, Ok, Err}
-use Rattle.std.proofs.Common.{sym, ap, ap₂, subst, ◌∙◌}
+use Rattle.std.specs.Result.{MatchResult}
+use Rattle.std.proofs.Common.{sym, ap, ap₂, subst, ◌∙◌, arith}
 use Rattle.axis.specs.Meaning.{Moment, since}
-use Rattle.scales.specs.Meaning.{and_then, in_span, Judged, given, gives, Outcome, refused, outcome, dated, number_of, moment_at, time_scale, time_count, slip_timed, spanned, record_moment, refused_of}
+use Rattle.scales.specs.Meaning.{and_then, in_span, Judged, given, gives, Outcome, refused, outcome, dated, slip, number_of, moment_at, time_scale, time_count, slip_timed, spanned, record_moment, refused_of}
 use Rattle.scales.specs.Order.{onward, then_is}
 use Rattle.scales.specs.Place.{count_of, moment_of_lem}
 use Rattle.scales.specs.Counts.{timed_at, timed_no}
@@ -12,6 +13,7 @@ use Rattle.scales.specs.declared.Scale.TheVariants as S
 use Rattle.scales.specs.declared.Time.{Time}
 use Rattle.scales.specs.declared.Record.{Record}
 use Rattle.scales.specs.declared.Refusal.{Refusal}
+use Rattle.scales.specs.declared.Refused.{Refused}
 use Rattle.leap.specs.Meaning.{seconds, accepted, tai_of, has_micro, is_expired_day}
 use Rattle.via_tai.specs.Meaning.{of_count}
 use Rattle.changes.specs.Meaning.{settled, moving, asked}
@@ -59,10 +61,16 @@ module _ (to : Scale) (ds : List ℤ) (os : List ℕ) (e : ℤ) where
           ∙ ap (λ (m : Moment). outcome (into r.scale m)) (moment_of_lem r.scale r.day r.micro k.0)
           ∙ twice r.scale (record_moment r))
 
-      pub in_outside : (f : Refusal) (z : Scale) → slip_timed (Err (refused_of z f)) ≡ spanned r.scale r.day r.micro → dated to (refused (number_of f)) ≡ dated to (outcome (record_in r))
+      in_outside : (f : Refusal) (z : Scale) → slip_timed (Err (refused_of z f)) ≡ spanned r.scale r.day r.micro → dated to (refused (number_of f)) ≡ dated to (outcome (record_in r))
       in_outside f z q =
           let k = timed_no r.scale r.day r.micro f z q in
           ap (λ (g : Refusal). dated to (refused (number_of g))) k.1.0 ∙ sym (rw (list_passes ds os e r.scale (λ h. w), k.0))
+
+      -- a record outside its span, refused in the scale that is wanted
+      pub in_lacks : (t m : Result Time Refused) → slip_timed t ≡ spanned r.scale r.day r.micro → MatchResult t (λ x. m ≡ Ok x) (λ d. m ≡ Err (refused_of to d.refusal))
+          → (f : Refused) → m ≡ Err f → slip (Err f) ≡ dated to (outcome (record_in r))
+      in_lacks (Ok x) m q k f p = absurd (let z : ◌≡◌ {A = ℕ} 0 1 = cc in omega arith)
+      in_lacks (Err d) m q k f p = let z : f ≡ refused_of to d.refusal = cc in rw z (in_outside d.refusal d.scale q)
 
   -- ---- a text that was parsed
   module _ (s : List ℕ) (r : Result Record Refusal) (p : ParsesText s r) where

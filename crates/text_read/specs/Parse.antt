@@ -1,15 +1,16 @@
 -- The ways out of parsing a text. Assumes nothing.
-use Rattle.std.specs.Prelude.{◌≡◌, refl, Bool, true, false, cond, ◌||◌, ◌&&◌, List, ℕ, ◌≤◌, ◌<◌, eqb, leb, ltb, ℤ, drop, Result, Ok, Err}
+use Rattle.std.specs.Prelude.{◌≡◌, refl, Bool, true, false, cond, ◌||◌, ◌&&◌, List, ℕ, ◌<◌, eqb, leb, ltb, ℤ, drop, Result, Ok, Err}
 use Rattle.std.proofs.Math.Path.{sym}
 use Rattle.std.proofs.Common.{◌∙◌, arith, eqb-true, leb-true, ltb-true, ne_eqb}
 use Rattle.std.proofs.lemmas.Bool.{false≢true}
 use Rattle.axis.specs.Meaning.{Moment}
-use Rattle.scales.specs.Meaning.{Judged, refused, answer, outcome, record_of}
+use Rattle.scales.specs.Meaning.{Judged, refused, answer, outcome, number_of, record_of}
 use Rattle.scales.specs.Place.{and_false, and_both}
+use Rattle.scales.specs.Same.{no_zero, refusals}
 use Rattle.scales.specs.declared.Scale.{Scale}
 use Rattle.scales.specs.declared.Scale.TheVariants as S
 use Rattle.scales.specs.declared.Refusal.TheVariants as R
-use Rattle.calendar.specs.Meaning.{is_date, day_after, day_handed, day_of_date}
+use Rattle.calendar.specs.Meaning.{is_date, day_after, day_handed, day_slip, day_of_date}
 use Rattle.calendar.specs.Days.{days_to_date}
 use Rattle.calendar.specs.declared.Date.{Date}
 use Rattle.calendar.specs.Gregorian.{month_bounds}
@@ -22,15 +23,6 @@ use Rattle.text_read.specs.Stage.{Parses, body_chain, ParsesBody, ParsesText}
 use Rattle.text_fields.specs.declared.Stamp.{Stamp}
 use Rattle.scales.specs.declared.Record.{Record}
 use Rattle.scales.specs.declared.Refusal.{Refusal}
-
--- ---- the lengths
-pub either_from : (n a b : ℕ) → a ≤ b → (eqb n a || eqb n b) ≡ true → a ≤ n
-either_from n a b h e = go (eqb n a) refl (eqb n b) refl e
-  where
-    go : (x : Bool) → eqb n a ≡ x → (y : Bool) → eqb n b ≡ y → (x || y) ≡ true → a ≤ n
-    go true p y q k = omega (arith, eqb-true n a p)
-    go false p true q k = omega (arith, eqb-true n b q)
-    go false p false q k = absurd (false≢true k)
 
 -- ---- the limits
 pub record Limited (t : Stamp) : Type 0 where
@@ -116,19 +108,22 @@ module _ (z : Scale) (s : List ℕ) where
   abbrev date : Date
   date = (stamp_in s).date
 
-  pub body_date : (day_of_date date).number ≡ 3 → ParsesBody z s (Err R.FieldOver)
+  pub body_date : day_slip (Err R.FieldOver) ≡ day_of_date date → ParsesBody z s (Err R.FieldOver)
   unfolding is_body
-  body_date q = body_lacks (rw (lacks date q, and_false (in_limits z (stamp_in s))) (and_false (has_marks s)))
+  body_date q = body_lacks (rw (lacks date (λ i. (sym q i).number), and_false (in_limits z (stamp_in s))) (and_false (has_marks s)))
 
   module _ (m : has_marks s ≡ true) (l : in_limits z (stamp_in s) ≡ true) where
     is_body_lem : ((day_of_date date).number ≡ 3 → ⊥) → is_body z s ≡ true
     unfolding is_body
     is_body_lem q = rw (m, l, has date q)
 
-    pub body_outside : ((day_of_date date).number ≡ 3 → ⊥) → ((day_of_date date).number ≡ 0 → ⊥) → ParsesBody z s (Ok (outside_of z))
-    body_outside q r = record { is = (refl, λ ds os e. rw (outside_span_lem z, is_body_lem q, ne_eqb (day_of_date date).number 0 r)) }
+    -- a date that is no field over has no day, but is one of the rule
+    pub body_outside : (f : Refusal) → day_slip (Err f) ≡ day_of_date date → (f ≡ R.FieldOver → ⊥) → ParsesBody z s (Ok (outside_of z))
+    body_outside f q w =
+        let n : number_of f ≡ (day_of_date date).number = λ i. (q i).number in
+        record { is = (refl, λ ds os e. rw (outside_span_lem z, is_body_lem (λ k. w (refusals f R.FieldOver (n ∙ k))), ne_eqb (day_of_date date).number 0 (λ k. no_zero f (n ∙ k)))) }
 
-    pub body_at : (d : ℤ) → day_handed (answer d) ≡ day_of_date date → ParsesBody z s (Ok (record_of z d (stamp_micro (stamp_in s))))
+    pub body_at : (d : ℤ) → day_slip (Ok d) ≡ day_of_date date → ParsesBody z s (Ok (record_of z d (stamp_micro (stamp_in s))))
     body_at d q =
         let n : (day_of_date date).number ≡ 0 = λ i. (sym q i).number in
         record { is = (refl, λ ds os e. sym (rw (is_body_lem (λ k. omega arith), sym q))) }

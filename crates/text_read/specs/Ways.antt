@@ -1,5 +1,6 @@
 -- The ways out of reading: a law for each. Assumes nothing.
 use Rattle.std.specs.Prelude.{◌≡◌, true, not, ◌&&◌, List, ℕ, ℤ, Result, Ok, Err}
+use Rattle.std.specs.Result.{MatchResult}
 use Rattle.std.proofs.Common.{sym, ◌∙◌}
 use Rattle.std.proofs.Math.Path.{ap, ap₂, subst}
 use Rattle.axis.specs.Meaning.{Moment}
@@ -8,6 +9,7 @@ use Rattle.scales.specs.declared.Scale.{Scale}
 use Rattle.scales.specs.declared.Scale.TheVariants as S
 use Rattle.scales.specs.declared.Record.{Record}
 use Rattle.scales.specs.declared.Refusal.{Refusal}
+use Rattle.scales.specs.declared.Refused.{Refused}
 use Rattle.leap.specs.Meaning.{accepted}
 use Rattle.via_tai.specs.Meaning.{is_utc}
 use Rattle.changes.specs.Asked.{record_asked, list_lacks, slip_refused, lacking}
@@ -25,6 +27,12 @@ module _ (z : Scale) (o : Outcome Moment) where
 
   pub in_refused : (f : Refusal) (y : Scale) → slip (Err (refused_of y f)) ≡ dated z o → dated S.Tai (refused (number_of f)) ≡ dated_in z o
   in_refused f y q = ap (dated_in z) (sym (slip_refused z o f y q))
+
+-- what was judged in the text's scale, with TAI's in place of a refusal's scale
+pub in_tai : (z : Scale) (o : Outcome Moment) → (o ≡ refused 0 → ⊥) → (q m : Result Record Refused) → slip q ≡ dated z o
+    → MatchResult q (λ r. m ≡ Ok r) (λ e. m ≡ Err (refused_of S.Tai e.refusal)) → slip m ≡ dated_in z o
+in_tai z o w (Ok r) m q k = ap slip k ∙ in_answer z o w r q
+in_tai z o w (Err e) m q k = ap slip k ∙ in_refused z o e.refusal e.scale q
 
 module _ (s : List ℕ) (ds : List ℤ) (os : List ℕ) (e : ℤ) (r : Result Record Refusal) (w : ParsesText s r) where
   pub read_refused : (f : Refusal) → r ≡ Err f → dated S.Tai (refused (number_of f)) ≡ read_text s ds os e

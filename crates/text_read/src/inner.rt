@@ -64,8 +64,9 @@ pub fn read_time(r: Record, list: &List) -> Result<Record, Refused>
 fn record_in(r: Record, to: Scale, list: &Accepted) -> Result<Record, Refused>
     ensures { slip result ≡ dated to (outcome (record_in to list.now.days list.now.offsets list.now.last r)) }
 {
+    let list = list.list();
     let t = r.to_time().map_err(|e| e.refusal.of(to))?;
-    changes::inner::change(t, to, list.list())
+    changes::inner::change(t, to, list)
 }
 
 pub fn read_in(text: &[u8], to: Scale, list: &Accepted) -> Result<Record, Refused>

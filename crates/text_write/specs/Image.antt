@@ -1,10 +1,9 @@
 -- Laws of the image of a text: its bytes, and how it stands on a slice. Assumes nothing.
-use Rattle.std.specs.Prelude.{◌≡◌, refl, Bool, true, false, cond, ℕ, ◌+◌, ◌≤◌, ◌<◌, get_or, set, drop, Ok, Err}
+use Rattle.std.specs.Prelude.{◌≡◌, refl, Bool, true, false, cond, ℕ, ◌+◌, ◌≤◌, ◌<◌, drop, Ok, Err}
 use Rattle.std.proofs.Math.Path.{sym, ap, ap₂}
 use Rattle.std.proofs.Common.{◌∙◌, arith, length-append, length-drop, le-leb}
 use mathlib.Core.List.{List, [], ◌++◌}
 use Rattle.std.proofs.Math.ListN.{length, take}
-use Rattle.std.proofs.lemmas.List.Edits.{sets}
 use Rattle.std.proofs.lemmas.Bool.{lt-leb}
 use Rattle.octets.specs.Meaning.{onto}
 use Rattle.octets.specs.Place.{onto_room, length_onto, rest_onto}
@@ -16,7 +15,6 @@ use Rattle.text_fields.specs.declared.Stamp.{Stamp}
 use Rattle.text_fields.specs.Meaning.{prefix_of}
 use Rattle.text_write.specs.Meaning.{text_of, body_of, has_micros, shows_scale, full_text}
 use Rattle.text_write.specs.Stage.{putting}
-use Rattle.text_write.specs.Columns.{front_put}
 use Rattle.text_write.specs.declared.Form.{Form}
 use Rattle.text_write.specs.declared.Form.TheVariants as F
 

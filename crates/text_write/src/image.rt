@@ -45,6 +45,7 @@ fn put_two(v: u64, out: &mut [u8], at: usize)
 }
 
 // The three letters of a month as one number: as bytes they would be written more slowly.
+#[tactic(auto, unfolding(text_fields::specs::Meaning::letter, text_fields::specs::Meaning::names))]
 fn name_of(m: u64) -> u32
     requires { (1 ≤ m) × (m ≤ 12) }
     ensures { result ≡ name_of m }

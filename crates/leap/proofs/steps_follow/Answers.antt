@@ -24,9 +24,12 @@ loop-i-init c =
     let d = get_or ds (length ds - 1) (pos 0) in
     let f : lt_z a.end d ≡ false = search rules in
     let z : to_z w64 (of_z w64 a.end) ≡ a.end = search rules in
-    rw z
-    (omega (arith, c.requires.some), omega arith, place_le d a.end (le_not d a.end ∙ ap not f),
-    after_last ds a.offsets.now a.end c.requires (length ds - 1) (omega arith))
+    rw z (
+      omega (arith, c.requires.some),
+      omega arith,
+      place_le d a.end (le_not d a.end ∙ ap not f),
+      after_last ds a.offsets.now a.end c.requires (length ds - 1) (omega arith),
+    )
 
 pub returns-then-offsets-i : goal.returns-then-offsets-i
 returns-then-offsets-i c =
@@ -69,7 +72,10 @@ loop-i-preserved c =
     let to : place_of_day d ≤ place_of_day a.end = rw z at c.loop-i.invariant.2 in
     let g : after ds a.offsets.now a.end (i - 1) ≡ true = rw z at c.loop-i.invariant.3 in
     let l : lt_z s d ≡ true = not-false (lt_z s d) (sym (le_not d s) ∙ y) in
-    rw z
-    (omega (arith, c.loop-i-test.true), omega (arith, c.loop-i.invariant.1), omega (arith, to, place_lt s d l),
-    after_passed ds a.offsets.now a.end c.requires (i - 1 - 1) (i - 1) (omega (arith, c.loop-i-test.true)) (omega (arith, c.loop-i.invariant.1)) (omega (arith, c.if-offsets-i.false)) y f to
-    ∙ g)
+    rw z (
+      omega (arith, c.loop-i-test.true),
+      omega (arith, c.loop-i.invariant.1),
+      omega (arith, to, place_lt s d l),
+      after_passed ds a.offsets.now a.end c.requires (i - 1 - 1) (i - 1) (omega (arith, c.loop-i-test.true)) (omega (arith, c.loop-i.invariant.1)) (omega (arith, c.if-offsets-i.false)) y f to
+          ∙ g,
+    )

@@ -1,4 +1,4 @@
-use Rattle.std.proofs.Common.{rules, arith, ◌≡◌, ◌∙◌, Err}
+use Rattle.std.proofs.Common.{rules, ◌≡◌, ◌∙◌, Err}
 use Rattle.scales.specs.Meaning.{slip, slip_timed, spanned}
 use Rattle.changes.specs.Asked.{in_utc, judge_outside, judge_plain, judge_place, judge_expired, judge_lacking, judge_stands}
 use Rattle.changes.proofs.inner.judge.Goals as goal

@@ -54,8 +54,8 @@ returns c =
     let from = c.if-e-lt-FIRST.false in
     let to = c.if-e-gt-LAST.false in
     let n : c.day_at.result ≡ l.last +ℤ pos 1 =
-        c.day_at.ensures ∙ ap (λ (x : ℕ). day_at (x + 1)) e ∙ sym (day_next (place_of_day l.last))
-        ∙ ap (λ (d : ℤ). d +ℤ pos 1) (day_place l.last (omega (arith, e, from)) (omega (arith, e, to))) in
+    c.day_at.ensures ∙ ap (λ (x : ℕ). day_at (x + 1)) e ∙ sym (day_next (place_of_day l.last))
+    ∙ ap (λ (d : ℤ). d +ℤ pos 1) (day_place l.last (omega (arith, e, from)) (omega (arith, e, to))) in
     let some : 1 ≤ length l.days = search rules in
     let few : length l.days ≤ 64 = search rules in
     let even : length l.offsets ≡ length l.days = search rules in

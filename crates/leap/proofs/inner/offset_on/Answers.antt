@@ -19,9 +19,10 @@ loop-i-preserved c =
     let a = c.args in
     let l = a.list.now in
     let i = c.loop-i.i in
-    let f : a.place < place_of_day (get_or l.days (i - 1) (pos 0)) = search rules in
-    (omega (arith, c.loop-i.invariant.0),
-    offset_on_lem l.days l.offsets c.requires.0 i c.loop-i-test.true c.loop-i.invariant.0 a.place c.requires.1 f ∙ c.loop-i.invariant.1)
+    let f : a.place < place_of_day (get_or l.days (i - 1) (pos 0)) = search rules in (
+      omega (arith, c.loop-i.invariant.0),
+      offset_on_lem l.days l.offsets c.requires.0 i c.loop-i-test.true c.loop-i.invariant.0 a.place c.requires.1 f ∙ c.loop-i.invariant.1,
+    )
 
 pub returns : goal.returns
 returns c =

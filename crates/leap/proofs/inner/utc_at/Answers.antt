@@ -27,7 +27,7 @@ returns-then-start-c-2 c =
     let g : s * 86400000000 + p * 1000000 ≤ n + 1000000 = search rules in
     let e : c.step_day-s.result ≡ s = search rules in
     let k = ap (λ (x : ℕ). sixty_at x p n) e
-        ∙ utc_sixty l.days l.offsets c.requires.usable i c.loop-i-test.true c.loop-i.invariant.0 n f (omega (arith, g, low.0)) ∙ c.loop-i.invariant.1 in
+    ∙ utc_sixty l.days l.offsets c.requires.usable i c.loop-i-test.true c.loop-i.invariant.0 n f (omega (arith, g, low.0)) ∙ c.loop-i.invariant.1 in
     search rules
 
 pub loop-i-preserved : goal.loop-i-preserved
@@ -38,9 +38,10 @@ loop-i-preserved c =
     let s = place_of_day (get_or l.days (i - 1) (pos 0)) in
     let p = get_or l.offsets (i - 1) 0 in
     let low = c.requires.usable.small (i - 1) (omega (arith, c.loop-i-test.true, c.loop-i.invariant.0)) in
-    let g : n + 1000000 < s * 86400000000 + p * 1000000 = search rules in
-    (omega (arith, c.loop-i.invariant.0),
-    utc_on l.days l.offsets c.requires.usable i c.loop-i-test.true c.loop-i.invariant.0 n (omega (arith, g, low.0)) ∙ c.loop-i.invariant.1)
+    let g : n + 1000000 < s * 86400000000 + p * 1000000 = search rules in (
+      omega (arith, c.loop-i.invariant.0),
+      utc_on l.days l.offsets c.requires.usable i c.loop-i-test.true c.loop-i.invariant.0 n (omega (arith, g, low.0)) ∙ c.loop-i.invariant.1,
+    )
 
 pub returns : goal.returns
 returns c =

@@ -1,6 +1,5 @@
-use Rattle.std.proofs.Common.{◌≡◌, ℕ, refl, arith}
+use Rattle.std.proofs.Common.{refl, arith}
 use Rattle.text_fields.specs.Meaning.{names, letter}
-use Rattle.text_fields.specs.Names.{number_of, name_of}
 use Rattle.text_read.specs.Meaning.{is_named, seek, month_named}
 use Rattle.text_read.specs.Months.{month_named_lem, not_named}
 use Rattle.text_read.proofs.columns.month_of.Goals as goal

@@ -1,6 +1,4 @@
-use Rattle.std.proofs.Common.{rules, ◌≡◌, true, false, ◌≤◌, length, arith, take, length-take-le}
-use Rattle.text_fields.specs.Meaning.{prefix_of}
-use Rattle.text_write.specs.Meaning.{shows_scale}
+use Rattle.std.proofs.Common.{rules}
 use Rattle.text_write.specs.Image.{prefix_none, prefix_room, prefix_put}
 use Rattle.text_write.proofs.image.put_prefix.Goals as goal
 

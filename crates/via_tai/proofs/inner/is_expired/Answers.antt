@@ -1,5 +1,4 @@
-use Rattle.std.proofs.Common.{rules, ◌+◌}
-use Rattle.axis.specs.Meaning.{place_of_day}
+use Rattle.std.proofs.Common.{rules}
 use Rattle.leap.specs.Steps.{steps, usable}
 use Rattle.leap.specs.Whole.{offset_small}
 use Rattle.via_tai.specs.Ways.{expires}
@@ -12,11 +11,11 @@ offset_on-offset-requires c =
     search rules
 
 pub overflow_mul-result-2 : goal.overflow_mul-result-2
-overflow_mul-result-2 c = let k = offset_small _ _ _ c.list-list.ensures.accepted (place_of_day c.args.list.now.last + 1) in search rules
+overflow_mul-result-2 c = let k = offset_small _ _ _ c.list-list.ensures.accepted in search rules
 
 pub overflow_add-result : goal.overflow_add-result
 overflow_add-result c =
-    let k = offset_small _ _ _ c.list-list.ensures.accepted (place_of_day c.args.list.now.last + 1) in
+    let k = offset_small _ _ _ c.list-list.ensures.accepted in
     let s = (steps _ _ _ c.list-list.ensures.accepted).to in
     search rules
 
