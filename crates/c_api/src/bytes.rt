@@ -80,6 +80,7 @@ pub fn vrk_sbt_read(bytes: &[u8]) -> VrkCount
     layout_fields::sbt::read(bytes).into()
 }
 
+#[tactic(auto, using(crate::proofs::Ways::handed_three))]
 pub fn vrk_cuc_write(time: VrkHanded, out: &mut [u8]) -> VrkWritten
     ensures { wrote_of result out.new ≡ writes (handed_writing cuc_writing time) out.old }
 {
@@ -89,6 +90,7 @@ pub fn vrk_cuc_write(time: VrkHanded, out: &mut [u8]) -> VrkWritten
     layout_times::cuc::write(h, out).into()
 }
 
+#[tactic(auto, using(crate::proofs::Ways::handed_three))]
 pub fn vrk_cryosat_write(time: VrkHanded, out: &mut [u8]) -> VrkWritten
     ensures { wrote_of result out.new ≡ writes (handed_writing cryosat_writing time) out.old }
 {
@@ -98,6 +100,7 @@ pub fn vrk_cryosat_write(time: VrkHanded, out: &mut [u8]) -> VrkWritten
     layout_times::cryosat::write(h, out).into()
 }
 
+#[tactic(auto, using(crate::proofs::Ways::handed_three))]
 pub fn vrk_siral_write(time: VrkHanded, out: &mut [u8]) -> VrkWritten
     ensures { wrote_of result out.new ≡ writes (handed_writing siral_writing time) out.old }
 {
@@ -131,6 +134,7 @@ pub fn vrk_proteus_read(bytes: &[u8]) -> VrkTime
     layout_times::proteus::read(bytes).into()
 }
 
+#[tactic(auto, using(crate::proofs::Ways::handed_three))]
 pub fn vrk_proteus_write(time: VrkHanded, out: &mut [u8]) -> VrkWritten
     ensures { wrote_of result out.new ≡ writes (handed_writing proteus_writing time) out.old }
 {

@@ -35,6 +35,7 @@ impl From<VrkGoceCorrelation> for Correlation {
     }
 }
 
+#[tactic(auto, unfolding(crate::specs::Counts::goce_date))]
 pub fn vrk_goce_date(
     obt: u64,
     correlation: VrkGoceCorrelation,
@@ -54,6 +55,7 @@ pub fn vrk_goce_date(
     goce::date(correlation.into(), obt, receipt, &list).into()
 }
 
+#[tactic(auto, using(crate::proofs::Ways::count_unknown))]
 pub fn vrk_goce_count(
     time: VrkHanded,
     correlation: VrkGoceCorrelation,

@@ -73,6 +73,7 @@ pub struct VrkCount {
 }
 
 // The scale of a code.
+#[tactic(auto, unfolding(crate::specs::Meaning::named_by))]
 fn scale_named(code: u32) -> Option<Scale>
     ensures { result ≡ named_by code }
 {
@@ -85,6 +86,7 @@ fn scale_named(code: u32) -> Option<Scale>
 }
 
 // A record that a caller in C hands in: of a known scale, its mark by code and source.
+#[tactic(auto, using(crate::proofs::Ways::record_known, crate::proofs::Ways::record_unknown))]
 fn hand_record(scale: Scale, day: i64, micro: u64, code: u32, source: u64) -> Option<Handed>
     ensures { result ≡ record_given scale day micro code source }
 {
@@ -98,6 +100,7 @@ impl TryFrom<VrkHanded> for Handed {
 
     ghost try_from_gives = { λ h r. r ≡ given_of h };
 
+    #[tactic(auto, using(crate::proofs::Ways::unnamed, crate::proofs::Ways::unkind, crate::proofs::Ways::given_decimal, crate::proofs::Ways::given_record))]
     fn try_from(h: VrkHanded) -> Result<Handed, Refusal> {
         let scale = scale_named(h.scale).ok_or(Refusal::FieldOver)?;
         match h.kind {
@@ -176,6 +179,7 @@ impl From<Result<Tick, Refusal>> for VrkCount {
 
 // ---- the functions
 
+#[tactic(auto, using(crate::proofs::Ways::read_known, crate::proofs::Ways::read_unknown))]
 pub fn vrk_decimal_read(day: f64, scale: u32) -> VrkTime
     ensures { result ≡ decimal_read day scale }
 {
@@ -185,6 +189,7 @@ pub fn vrk_decimal_read(day: f64, scale: u32) -> VrkTime
     decimal::read(day, scale).into()
 }
 
+#[tactic(auto, using(crate::proofs::Ways::write_known, crate::proofs::Ways::write_unknown))]
 pub fn vrk_decimal_write(time: VrkHanded) -> VrkDecimal
     ensures { DecimalWrote time result }
 {
@@ -215,6 +220,7 @@ impl From<VrkSbtCorrelation> for Correlation {
     }
 }
 
+#[tactic(auto, unfolding(crate::specs::Meaning::sbt_date))]
 pub fn vrk_sbt_date(
     tick: u32,
     correlation: VrkSbtCorrelation,
@@ -234,6 +240,7 @@ pub fn vrk_sbt_date(
     sbt::date(correlation.into(), Tick(tick), receipt, &list).into()
 }
 
+#[tactic(auto, using(crate::proofs::Ways::tick_unknown))]
 pub fn vrk_sbt_tick(
     time: VrkHanded,
     correlation: VrkSbtCorrelation,
@@ -256,6 +263,7 @@ pub fn vrk_list_accepted(days: &[i64], offsets: &[u64], last: i64) -> u32
     u32::from(List::new(days, offsets, last).is_accepted())
 }
 
+#[tactic(auto, using(crate::proofs::Ways::change_unknown, crate::proofs::Ways::change_unnamed))]
 pub fn vrk_change(
     time: VrkHanded,
     to_scale: u32,

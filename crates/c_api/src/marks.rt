@@ -4,6 +4,7 @@ ghost use Rattle.c_api.specs.Marks.{marked_by, mark_code, mark_source};
 
 use scales::Mark;
 
+#[tactic(auto, unfolding(crate::specs::Marks::marked_by))]
 pub(crate) fn mark_named(code: u32, source: u64) -> Option<Mark>
     ensures { result ≡ marked_by code source }
 {

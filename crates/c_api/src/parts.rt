@@ -63,6 +63,7 @@ pub fn vrk_cuc_fields_read(bytes: &[u8]) -> VrkCucFields
     }
 }
 
+#[tactic(auto, unfolding(crate::specs::Bytes::writes, layout_fields::specs::Cuc::write))]
 pub fn vrk_cuc_fields_write(seconds: u32, fraction: u32, out: &mut [u8]) -> VrkWritten
     ensures { wrote_of result out.new ≡ writes (cuc_fields_writing seconds fraction) out.old }
 {
@@ -93,6 +94,7 @@ pub fn vrk_proteus_fields_read(bytes: &[u8]) -> VrkProteusFields
     }
 }
 
+#[tactic(auto, unfolding(crate::specs::Bytes::writes, layout_fields::specs::Proteus::write))]
 pub fn vrk_proteus_fields_write(
     week: u32,
     h3: u32,
@@ -136,6 +138,7 @@ pub fn vrk_cryosat_fields_read(bytes: &[u8]) -> VrkCryosatFields
     }
 }
 
+#[tactic(auto, unfolding(crate::specs::Bytes::writes, layout_fields::specs::Cryosat::write))]
 pub fn vrk_cryosat_fields_write(
     day: u32,
     millisecond: u32,
@@ -176,6 +179,7 @@ pub fn vrk_siral_fields_read(bytes: &[u8]) -> VrkSiralFields
     }
 }
 
+#[tactic(auto, unfolding(crate::specs::Bytes::writes, layout_fields::specs::Siral::write))]
 pub fn vrk_siral_fields_write(
     day: u32,
     millisecond: u32,

@@ -30,6 +30,7 @@ pub fn vrk_text_read(text: &[u8], days: &[i64], offsets: &[u64], last: i64) -> V
     text_read::read(text, &List::new(days, offsets, last)).into()
 }
 
+#[tactic(auto, using(crate::proofs::Ways::text_unformed, crate::proofs::Ways::handed_three))]
 pub fn vrk_text_write(
     time: VrkHanded,
     days: &[i64],
