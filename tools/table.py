@@ -60,7 +60,8 @@ def cited(report):
     for function, facts in report.rows:
         if not function.inner:
             for fact in facts:
-                for definition in (*fact.viewed, fact.meaning):
+                # An argument that the answer is said to be stands in no file.
+                for definition in filter(lambda one: one[1], (*fact.viewed, fact.meaning)):
                     found.setdefault(definition, function.title)
     return found
 

@@ -1,5 +1,5 @@
 -- The ways out of the private functions that test a span, and what a receipt tells that is in its span. Assumes nothing.
-use Rattle.std.proofs.Common.{◌≡◌, sym, ◌∙◌, ◌/◌, ◌%◌, ◌<◌, true, List, ℕ, ℤ, ap, Result, Option, Ok, Err, Some, None, arith, lt-ltb}
+use Rattle.std.proofs.Common.{◌≡◌, sym, ◌∙◌, ◌/◌, ◌%◌, ◌<◌, true, List, ℕ, ℤ, ap, Result, Ok, Err, Some, None, arith, lt-ltb}
 use Rattle.std.specs.Result.{result_ok}
 use Rattle.axis.specs.Meaning.{day_at, Moment}
 use Rattle.scales.specs.Meaning.{in_span, spanned, slip_timed, slip_utc, slip, dated, refused, outcome, moment_at, record_of}

@@ -8,7 +8,7 @@ use Rattle.axis.specs.Meaning.{place_of_day, day_at, micros_at, Moment, day_micr
 use Rattle.axis.specs.Axis.{day_place, micros_le, micros_add}
 use Rattle.axis.specs.Diff.{sub_mul}
 use Rattle.axis.specs.Shift.{number_add}
-use Rattle.scales.specs.Meaning.{same_scale, first, last, in_span, Judged, given, gives, Outcome, refused, answer, outcome, Slip, dated, moment_at, number_of, resulting}
+use Rattle.scales.specs.Meaning.{first, last, in_span, Judged, given, gives, Outcome, refused, answer, outcome, Slip, dated, moment_at, number_of, resulting}
 use Rattle.scales.specs.Order.{passed}
 use Rattle.scales.specs.Place.{apart, placed}
 use Rattle.scales.specs.declared.Scale.{Scale}
@@ -185,11 +185,6 @@ pub utc_is : (s : Scale) → is_utc s ≡ true → s ≡ S.Utc
 utc_is S.Tai i = absurd (false≢true i)
 utc_is S.Utc i = refl
 utc_is S.Gps i = absurd (false≢true i)
-
-pub not_utc : (s : Scale) → same_scale s S.Utc ≡ false → is_utc s ≡ false
-not_utc S.Tai e = refl
-not_utc S.Utc e = absurd (false≢true (sym e))
-not_utc S.Gps e = refl
 
 -- ---- what the place of a UTC time tells
 module _ (m : Moment) (ds : List ℤ) (os : List ℕ) (e : ℤ) where

@@ -26,6 +26,7 @@ fn digit(n: u32) -> u8
     (48 + n % 10) as u8
 }
 
+// Put as bytes: `write!` takes five times as long.
 fn refuse(f: Refusal, out: &mut [u8]) -> usize
     ensures { Put (refused_line (number_of f)) out.old out.new result }
 {
@@ -48,7 +49,7 @@ fn refuse(f: Refusal, out: &mut [u8]) -> usize
     11
 }
 
-// A TAI time with prefix and microseconds: 31 bytes.
+// A TAI time with prefix and microseconds: 31 bytes. Writing them cannot fail: there is room, and each time in its span has this text.
 fn print(t: Record, out: &mut [u8]) -> usize
     requires micro_value { in_span t.scale t.day t.micro ≡ true }
     requires in_bounds { 32 ≤ length out.old }

@@ -91,8 +91,8 @@ fn six(a: u8, b: u8, c: u8, d: u8, e: u8, f: u8) -> u64
 
 // ---- the fields
 
-// The month that three letters name, the letters as one number; and 0 where they name none, which the calendar refuses as the text
-// must be.
+// The month that three letters name, the letters as one number, which is faster than as bytes; and 0 where they name none, which
+// the calendar refuses as the text must be.
 fn month_of(a: u8, b: u8, c: u8) -> u64
     ensures { result ≡ month_named a b c }
 {

@@ -17,9 +17,9 @@ returns-then-offset-lt226486753689600 c =
     let l : in_limits k ≡ true = search rules in
     let o : c.place_of_counts-offset.result ≡ place_of_counts k.offset = search rules in
     elim c.then-offset-lt226486753689600.branch [
-      then-offset-lt226486753689600-via-then-offset-lt226486753689600 w ↦ too_early k l (omega (arith, o, w.if-offset-lt226486753689600.true))
-    | then-offset-lt226486753689600-via-else-offset-lt226486753689600+then-offset-gt226498078310400 w ↦
-        too_late k l (omega (arith, o, w.if-offset-lt226486753689600.false)) (omega (arith, o, w.if-offset-gt226498078310400.true))
+      | then-offset-lt226486753689600-via-then-offset-lt226486753689600 w ↦ too_early k l (omega (arith, o, w.if-offset-lt226486753689600.true))
+      | then-offset-lt226486753689600-via-else-offset-lt226486753689600+then-offset-gt226498078310400 w ↦
+          too_late k l (omega (arith, o, w.if-offset-lt226486753689600.false)) (omega (arith, o, w.if-offset-gt226498078310400.true))
     ]
 
 pub overflow_add-s : goal.overflow_add-s

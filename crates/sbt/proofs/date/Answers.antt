@@ -1,4 +1,4 @@
-use Rattle.std.proofs.Common.{◌≡◌, rules, ap, ◌∙◌, Ok, Err, Result}
+use Rattle.std.proofs.Common.{◌≡◌, rules, ap, ◌∙◌, Ok, Err}
 use Rattle.scales.specs.Meaning.{slip, remark}
 use Rattle.scales.specs.Marks.{remark_refused}
 use Rattle.scales.specs.declared.Record.{Record}

@@ -1,13 +1,12 @@
 use Rattle.std.proofs.Common.{◌≡◌, rules, sym, ap, ◌∙◌, Ok, Err, Some}
 use Rattle.std.specs.Option.{ok_or}
-use Rattle.scales.specs.Meaning.{slip_utc, dated, refused, number_of}
+use Rattle.scales.specs.Meaning.{slip_utc}
 use Rattle.scales.specs.declared.Refusal.{Refusal}
 use Rattle.scales.specs.declared.Refusal.TheVariants as R
-use Rattle.scales.specs.declared.Scale.TheVariants as S
 use Rattle.leap.specs.Meaning.{accepted_or}
 use Rattle.clock.specs.Same.{listed, unlisted, lacking}
 use Rattle.sbt.specs.Places.{base_of}
-use Rattle.sbt.specs.Found.{Standing, date_5, utc_date_6, utc_stands, utc_dates, far}
+use Rattle.sbt.specs.Found.{date_5, utc_date_6, utc_stands, utc_dates, far}
 use Rattle.sbt.proofs.date_by_list.Goals as goal
 
 pub returns-in_err-list : goal.returns-in_err-list

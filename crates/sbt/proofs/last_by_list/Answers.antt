@@ -3,7 +3,7 @@ use Rattle.scales.specs.Meaning.{refused, valued}
 use Rattle.clock.specs.Same.{listed, unlisted}
 use Rattle.clock.specs.Stage.{landed}
 use Rattle.sbt.specs.Places.{base_of}
-use Rattle.sbt.specs.Found.{Standing, serves_utc, utc_none, utc_stands, utc_lands, reached, lasts, lacks, tick_listless, tick_unaccepted}
+use Rattle.sbt.specs.Found.{serves_utc, utc_none, utc_stands, utc_lands, reached, lasts, lacks, tick_listless, tick_unaccepted}
 use Rattle.sbt.proofs.last_by_list.Goals as goal
 
 pub returns-in_default : goal.returns-in_default

@@ -1,15 +1,15 @@
-use Rattle.std.proofs.Common.{◌≡◌, rules, sym, ap, ◌∙◌, false, Ok, Err, Some, None}
+use Rattle.std.proofs.Common.{◌≡◌, rules, sym, ap, ◌∙◌, Ok, Err, Some}
 use Rattle.std.specs.Option.{ok_or}
-use Rattle.scales.specs.Meaning.{same_scale, slip, slip_utc, refused_of}
+use Rattle.scales.specs.Meaning.{slip, slip_utc, refused_of}
 use Rattle.scales.specs.declared.Record.{Record}
 use Rattle.scales.specs.declared.Refused.{Refused}
 use Rattle.scales.specs.declared.Scale.{Scale}
 use Rattle.scales.specs.declared.Scale.TheVariants as S
 use Rattle.via_tai.specs.Meaning.{is_utc}
 use Rattle.clock.specs.Same.{lacking}
-use Rattle.clock.specs.Stage.{not_utc}
 use Rattle.sbt.specs.Places.{place_of}
-use Rattle.sbt.specs.Found.{Standing, serves_it, own_none, own_stands, date_6, own_dates}
+use Rattle.sbt.specs.Found.{serves_it, own_none, own_stands, date_6, own_dates}
+use Rattle.sbt.proofs.Own.{not_utc}
 use Rattle.sbt.proofs.unmarked.Goals as goal
 
 pub date_by_list-requires : goal.date_by_list-requires
@@ -35,8 +35,7 @@ pub returns-in_err-r : goal.returns-in_err-r
 returns-in_err-r c =
     let a = c.args in
     let l = a.list.now in
-    let d : same_scale a.c.scale S.Utc ≡ false = search rules in
-    let i = not_utc a.c.scale d in
+    let i = not_utc a.c.scale (sym c.eq.ensures ∙ c.if-eq.false) in
     let f = c.in_err-r.field-0.0 in
     let y : ok_or c.reference_of.result c.of.result ≡ Err f = search rules in
     let o = lacking c.reference_of.result c.of.result f y in
@@ -49,8 +48,7 @@ pub reckon-requires : goal.reckon-requires
 reckon-requires c =
     let a = c.args in
     let l = a.list.now in
-    let d : same_scale a.c.scale S.Utc ≡ false = search rules in
-    let i = not_utc a.c.scale d in
+    let i = not_utc a.c.scale (sym c.eq.ensures ∙ c.if-eq.false) in
     let q : place_of a.c ≡ Some c.in_ok-r.r = search rules in
     (own_stands a.c l.days l.offsets l.last i c.in_ok-r.r q).windowed
 
@@ -58,8 +56,7 @@ pub returns : goal.returns
 returns c =
     let a = c.args in
     let l = a.list.now in
-    let d : same_scale a.c.scale S.Utc ≡ false = search rules in
-    let i = not_utc a.c.scale d in
+    let i = not_utc a.c.scale (sym c.eq.ensures ∙ c.if-eq.false) in
     let q : place_of a.c ≡ Some c.in_ok-r.r = search rules in
     c.date.ensures
     ∙ own_dates a.c l.days l.offsets l.last c.in_ok-r.r (own_stands a.c l.days l.offsets l.last i c.in_ok-r.r q) a.tick.0 a.receipt.day a.receipt.micro c.reckon.result c.reckon.ensures i

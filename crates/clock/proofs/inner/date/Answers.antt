@@ -1,4 +1,4 @@
-use Rattle.std.proofs.Common.{◌≡◌, rules, true, false, Some, None}
+use Rattle.std.proofs.Common.{◌≡◌, rules, true, Some, None}
 use Rattle.clock.specs.Stage.{place_in}
 use Rattle.clock.specs.Places.{within_at}
 use Rattle.clock.specs.Dating.{own_7, own_out, own_8, own_17, own_at}

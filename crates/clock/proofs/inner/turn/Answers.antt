@@ -1,7 +1,5 @@
-use Rattle.std.proofs.Common.{◌≡◌, rules, true, subst, sym, Ok, Err}
-use Rattle.scales.specs.Meaning.{in_span}
-use Rattle.scales.specs.declared.Record.{Record}
-use Rattle.handed.specs.Told.{told_at, told_record}
+use Rattle.std.proofs.Common.{◌≡◌, rules, Ok, Err}
+use Rattle.handed.specs.Told.{told_at}
 use Rattle.clock.specs.Places.{cover_of}
 use Rattle.clock.specs.Turning.{own_untaken, own_at}
 use Rattle.clock.proofs.inner.turn.Goals as goal

@@ -1,4 +1,4 @@
-use Rattle.std.proofs.Common.{◌≡◌, rules, true, false, sym, ap, ◌∙◌, eq-eqb, refl}
+use Rattle.std.proofs.Common.{◌≡◌, rules, true, false, ap, ◌∙◌, eq-eqb}
 use Rattle.scales.specs.Meaning.{same_scale, code_of, time_scale, time_count}
 use Rattle.via_tai.specs.Meaning.{is_utc}
 use Rattle.clock.specs.Places.{within_at}

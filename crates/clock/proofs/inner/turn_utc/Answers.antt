@@ -1,9 +1,7 @@
-use Rattle.std.proofs.Common.{◌≡◌, rules, true, false, refl, sym, ap, ◌∙◌, Result, Ok}
+use Rattle.std.proofs.Common.{◌≡◌, rules, true, false, refl, sym, ap, ◌∙◌, Ok}
 use Rattle.axis.specs.Meaning.{micros_at}
 use Rattle.scales.specs.Meaning.{answer, outcome, moment_at}
 use Rattle.scales.specs.declared.Scale.TheVariants as S
-use Rattle.scales.specs.declared.Refusal.{Refusal}
-use Rattle.scales.specs.declared.Tai.{Tai}
 use Rattle.via_tai.specs.Ways.{counted}
 use Rattle.clock.specs.Places.{within_at}
 use Rattle.clock.specs.Stage.{placing, left_placing}
