@@ -1,6 +1,6 @@
 -- What the functions of the C interface share: what a code, a mark or a handed time that is found or refused tells, and 3 before
 -- what a library judges. Assumes nothing.
-use Rattle.std.proofs.Common.{◌≡◌, refl, sym, ap, subst, ◌∙◌, Bool, true, false, cond, ◌&&◌, List, ℕ, ◌<◌, ℤ, Float, Option, Some, None, Result, Ok, Err, arith, ok_or, le-leb, leb-false, eq-eqb, ne_eqb}
+use Rattle.std.proofs.Common.{◌≡◌, refl, sym, ap, subst, ◌∙◌, Bool, true, false, cond, List, ℕ, ◌<◌, ℤ, Float, Option, Some, None, Result, Ok, Err, arith, ok_or, le-leb, leb-false, eq-eqb, ne_eqb}
 use Rattle.std.proofs.lemmas.Bool.{lt-leb}
 use Rattle.std.proofs.lemmas.Option.{cond_some, none-some}
 use Rattle.scales.specs.declared.Scale.{Scale}
@@ -8,7 +8,7 @@ use Rattle.scales.specs.declared.Scale.TheVariants as S
 use Rattle.scales.specs.declared.Refusal.{Refusal}
 use Rattle.scales.specs.declared.Refusal.TheVariants as R
 use Rattle.scales.specs.declared.Mark.{Mark}
-use Rattle.scales.specs.Meaning.{Judged, given, refused, outcome, written, wrote, slip, count_slip, refused_of, scale_at, record_of, marked_record}
+use Rattle.scales.specs.Meaning.{Judged, refused, outcome, written, wrote, slip, count_slip, refused_of, scale_at, record_of, marked_record}
 use Rattle.scales.specs.Place.{and_false}
 use Rattle.handed.specs.declared.Handed.{Handed}
 use Rattle.handed.specs.declared.Handed.TheVariants as H

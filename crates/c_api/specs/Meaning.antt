@@ -1,6 +1,6 @@
 -- What the structs and codes of the C interface stand for. A code that stands for nothing is refused 3, before all else. The
 -- header's words are quoted. Assumes nothing.
-use Rattle.std.specs.Prelude.{Bool, cond, not, ◌&&◌, ◌||◌, List, ℕ, eqb, leb, ℤ, pos, Float, Option, Some, None, Result, Ok, Err}
+use Rattle.std.specs.Prelude.{Bool, cond, not, ◌&&◌, ◌||◌, List, ℕ, eqb, leb, ℤ, Float, Option, Some, None, Result, Ok, Err}
 use Rattle.axis.specs.Meaning.{Moment}
 use Rattle.handed.specs.Meaning.{mark_of}
 use Rattle.handed.specs.declared.Handed.{Handed}

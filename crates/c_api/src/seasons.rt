@@ -28,11 +28,7 @@ pub fn vrk_season_write(words: &[i64], out: &mut [u8]) -> VrkWritten
     season::writer::write(words, out).into()
 }
 
-pub fn vrk_season_covering(
-    bytes: &[u8],
-    receipt_day: i64,
-    receipt_micro: u64,
-) -> VrkCover
+pub fn vrk_season_covering(bytes: &[u8], receipt_day: i64, receipt_micro: u64) -> VrkCover
     ensures { result ≡ cover_out (covering bytes.now receipt_day receipt_micro) }
 {
     let receipt = Receipt {

@@ -11,8 +11,9 @@ returns c =
     let h = c.args.c in
     let p = c.match-scale_named.scale in
     let e : p ≡ (scale_at h.scale, cond (known_scale h.scale) h.period 0) =
-    elim c.match-scale_named.branch
-    [ in-Some w ↦ picked h p w.in-Some.scale (sym c.scale_named.ensures ∙ w.in-Some.is) w.scale-is
-    | in-None w ↦ unpicked h p (sym c.scale_named.ensures ∙ w.in-None.is) w.scale-is ] in
+    elim c.match-scale_named.branch [
+      | in-Some w ↦ picked h p w.in-Some.scale (sym c.scale_named.ensures ∙ w.in-Some.is) w.scale-is
+      | in-None w ↦ unpicked h p (sym c.scale_named.ensures ∙ w.in-None.is) w.scale-is
+    ] in
     let d : to_z w64 (of_z w64 h.day) ≡ h.day = search rules in
     rw (e, d) refl
