@@ -12,13 +12,13 @@ use Rattle.leap.specs.Meaning as Leap
 use Rattle.leap.specs.Published.{published}
 use Rattle.clock.specs.Meaning.{in_window, within, clock}
 use Rattle.goce.specs.Meaning.{accepted, date_of, turning}
-use Rattle.c_api.specs.Meaning.{handed_of, empty_out, count_out}
+use Rattle.c_api.specs.Meaning.{handed_of, count_out}
 use Rattle.c_api.specs.Counts.{goce_of, goce_date, goce_count}
 use Rattle.c_api.specs.declared.VrkCount.{VrkCount}
 use Rattle.c_api.specs.declared.VrkTime.{VrkTime}
 use Rattle.c_api.specs.declared.VrkHanded.{VrkHanded}
 use Rattle.c_api.specs.declared.counts.VrkGoceCorrelation.{VrkGoceCorrelation}
-use Rattle.c_api_laws.proofs.Desks.{answered, refusal_in, micro_in}
+use Rattle.c_api_laws.proofs.Desks.{empty_out, answered, refusal_in, micro_in}
 
 abbrev correlated : ℕ → ℕ → VrkGoceCorrelation
 correlated obt0 utc0 = record { obt0 = obt0; utc0 = utc0; offset = pos 0; gradient = 1000000000; back = 65536; ahead = 65536 }

@@ -1,7 +1,7 @@
 -- Times that right and wrong covers for C hand out, what tells them apart, and covers that are wrong in any function. Assumes nothing.
 use mathlib.Core.Bool.{cond}
 use Prim.Native.Nat.{ℕ}
-use lib.IntN.{ℤ}
+use lib.IntN.{ℤ, pos}
 use Rattle.c_api.specs.Marks.{known_mark}
 use Rattle.c_api.specs.declared.VrkHanded.{VrkHanded}
 use Rattle.c_api.specs.declared.VrkTime.{VrkTime}
@@ -13,6 +13,10 @@ answered s d u m x = record { refusal = 0; scale = s; day = d; micro = u; mark =
 
 abbrev pub plain : ℕ → ℤ → ℕ → VrkTime
 plain s d u = answered s d u 0 0
+
+-- a refusal, by its number and scale: the empty record
+abbrev pub empty_out : ℕ → ℕ → VrkTime
+empty_out n c = record { refusal = n; scale = c; day = pos 0; micro = 0; mark = 0; source = 0 }
 
 abbrev pub refusal_in : VrkTime → ℕ
 refusal_in t = t.refusal

@@ -7,6 +7,7 @@ use Prim.Native.Nat.{ℕ}
 use lib.Dec.{leb}
 use lib.IntN.{ℤ, pos, negsuc}
 use lib.Ieee.{Float, nan}
+use Rattle.std.specs.Prelude.{Ok}
 use Rattle.axis.specs.Meaning.{Moment}
 use Rattle.octets.specs.Meaning.{number, field}
 use Rattle.scales.specs.Meaning.{code_of, scale_at, Judged, given, gives, Outcome, refused, answer, outcome, Slip, slip, dated_as, dated, valued, written, record_of, marked_record}

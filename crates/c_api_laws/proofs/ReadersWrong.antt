@@ -18,7 +18,7 @@ use Rattle.layout_times.specs.Cuc as Cuc
 use Rattle.layout_times.specs.Proteus as Proteus
 use Rattle.layout_times.specs.Cryosat as Cryosat
 use Rattle.layout_times.specs.Siral as Siral
-use Rattle.c_api.specs.Meaning.{empty_out, time_out, count_out}
+use Rattle.c_api.specs.Meaning.{time_out, count_out}
 use Rattle.c_api.specs.Parts.{cuc_fields, proteus_fields, cryosat_fields, siral_fields}
 use Rattle.c_api.specs.declared.VrkTime.{VrkTime}
 use Rattle.c_api.specs.declared.VrkCount.{VrkCount}
@@ -27,7 +27,7 @@ use Rattle.c_api.specs.declared.parts.VrkProteusFields.{VrkProteusFields}
 use Rattle.c_api.specs.declared.parts.VrkCryosatFields.{VrkCryosatFields}
 use Rattle.c_api.specs.declared.parts.VrkSiralFields.{VrkSiralFields}
 use Rattle.c_api_laws.proofs.Marks.{with_h3}
-use Rattle.c_api_laws.proofs.Desks.{answered, plain, refusal_in, scale_in, micro_in, mark_in, source_in, remarked, source_lost}
+use Rattle.c_api_laws.proofs.Desks.{empty_out, answered, plain, refusal_in, scale_in, micro_in, mark_in, source_in, remarked, source_lost}
 
 -- ---- wrong in any layout
 -- the bytes read from the last to the first

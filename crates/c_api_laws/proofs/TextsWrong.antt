@@ -15,11 +15,11 @@ use Rattle.text_read.specs.Meaning.{digit_of, two_of, four_of, is_named, seek, m
 use Rattle.text_write.specs.Meaning.{text_of, writing}
 use Rattle.text_laws.specs.Computed.{reads}
 use Rattle.text_laws.specs.Wrong.{capitals, own_scale, before_gps}
-use Rattle.c_api.specs.Meaning.{empty_out, time_out}
+use Rattle.c_api.specs.Meaning.{time_out}
 use Rattle.c_api.specs.Bytes.{writes, handed_writing}
 use Rattle.c_api.specs.Texts.{form_at, text_writing}
 use Rattle.c_api.specs.declared.VrkHanded.{VrkHanded}
-use Rattle.c_api_laws.proofs.Desks.{plain, refusal_in, scale_in as code_in}
+use Rattle.c_api_laws.proofs.Desks.{empty_out, plain, refusal_in, scale_in as code_in}
 
 -- ---- texts read: a refused text in the scale of its prefix, GPS=01-JAN-1972 00:00:00
 pub read_own_scale : ShutOut (time_out (reads before_gps)) (empty_out 7 0) (time_out (own_scale before_gps)) (empty_out 7 2)

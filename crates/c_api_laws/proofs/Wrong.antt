@@ -18,7 +18,7 @@ use Rattle.double.specs.Meaning.{plus_zero}
 use Rattle.leap.specs.Meaning as L
 use Rattle.leap.specs.Meaning.{begins, rises_from, rises, counts_from, counts_up}
 use Rattle.changes.specs.Meaning.{changing}
-use Rattle.c_api.specs.Meaning.{known_scale, known, list_accepted, changed, handed_of, correlation_of, empty_out, time_out, count_out, decimal_read, DecimalWrote, sbt_date, sbt_tick}
+use Rattle.c_api.specs.Meaning.{known_scale, known, list_accepted, changed, handed_of, correlation_of, time_out, count_out, decimal_read, DecimalWrote, sbt_date, sbt_tick}
 use Rattle.c_api.specs.declared.VrkSbtCorrelation.{VrkSbtCorrelation}
 use Rattle.c_api.specs.declared.VrkCount.{VrkCount}
 use Rattle.c_api.specs.declared.VrkTime.{VrkTime}
@@ -26,7 +26,7 @@ use Rattle.c_api.specs.declared.VrkHanded.{VrkHanded}
 use Rattle.c_api.specs.declared.VrkDecimal.{VrkDecimal}
 use Rattle.c_api_laws.proofs.One.{decimal_one}
 use Rattle.c_api_laws.proofs.Marks.{marked_with}
-use Rattle.c_api_laws.proofs.Desks.{answered, plain, refusal_in, scale_in, mark_in, source_in, remarked, source_lost, unknown_is_plain}
+use Rattle.c_api_laws.proofs.Desks.{empty_out, answered, plain, refusal_in, scale_in, mark_in, source_in, remarked, source_lost, unknown_is_plain}
 
 -- ---- vrk_decimal_read
 -- an unknown scale taken for TAI

@@ -1,6 +1,6 @@
 -- "Order and comparison of times ignore it": two handed records that differ in the mark alone get the same of every function, but for
 -- H3 among the bytes of Proteus, and a change and a judging give the same number and time with the mark handed in. Assumes nothing.
-use Rattle.std.specs.Prelude.{◌≡◌, refl, true, List, ℕ, ℤ, pos, Result}
+use Rattle.std.specs.Prelude.{Float, ◌≡◌, refl, true, List, ℕ, ℤ, pos, Result}
 use Rattle.scales.specs.Meaning.{remark, spanned_as, record_of, marked_record}
 use Rattle.scales.specs.declared.Scale.{Scale}
 use Rattle.scales.specs.declared.Scale.TheVariants as S

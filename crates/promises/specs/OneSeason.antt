@@ -1,12 +1,12 @@
 -- Demand 1 of the functions on the season's file, and of the question for C. Assumes nothing.
-use Rattle.std.specs.Prelude.{◌≡◌, refl, Bool, true, List, ℕ, ℤ, pos}
-use Rattle.scales.specs.Meaning.{Judged, Outcome, outcome, numbers, order, stands_in, valued}
+use Rattle.std.specs.Prelude.{refl, Bool, List, ℕ, ℤ, pos}
+use Rattle.scales.specs.Meaning.{Judged, Outcome, valued}
 use Rattle.clock.specs.Meaning.{Cover}
 use Rattle.season.specs.Meaning as Season
 use Rattle.season.specs.Meaning.{Entered, entered}
 use Rattle.c_api.specs.Seasons.{cover_out}
 use Rattle.c_api.specs.declared.seasons.VrkCover.{VrkCover}
-use Rattle.promises.specs.Meaning.{tests, Promise}
+use Rattle.promises.specs.Meaning.{Promise}
 use Rattle.promises.specs.First.{promised}
 use Rattle.promises.specs.Rows as Rows
 use Rattle.promises.specs.One.{Writes, writes, Values, values}
