@@ -1,5 +1,5 @@
 use Rattle.std.proofs.Common.{◌≡◌, rules, sym, ap, ◌∙◌, Ok, Err}
-use Rattle.scales.specs.Meaning.{slip, slip_utc, remark, refused_of, record_at, marked_record}
+use Rattle.scales.specs.Meaning.{slip, slip_utc, remark, refused_of, marked_record}
 use Rattle.scales.specs.Marks.{remark_refused}
 use Rattle.scales.specs.declared.Record.{Record}
 use Rattle.scales.specs.declared.Mark.TheVariants as M
