@@ -2,7 +2,7 @@
 """Holds the section "What is trusted" of docs/PROMISES.md to what the checker prints: trusted.py LOG [ROOT]
 
 LOG is what `rt ci` said and, behind it, tools/assumed. Of a program the page names the C functions whose contracts are assumed,
-and counts them; no other crate, and not the library that C links, may reach any. The words behind a verdict's sum, on what the
+and counts them; no other crate, not one that names a crate of the kit, and not the library that C links, may reach any. The words behind a verdict's sum, on what the
 checker itself takes on trust, stand on the page as printed. Of a crate that an earlier run proved, `rt ci` says only that it is
 kept; rt lets no verdict of other words pass."""
 
@@ -37,7 +37,7 @@ class Verdict:
 
 @dataclass
 class Listed:
-    """What tools/assumed lists of a crate that is linked."""
+    """What tools/assumed lists of a crate that is linked, or names one of the kit."""
 
     names: list = field(default_factory=list)  # the C functions that are assumed
     counts: list = field(default_factory=list)  # how many, library by library
@@ -75,8 +75,8 @@ def printed(log):
     return said, listed
 
 
-def _wrong(name, told, said, listed, page):
-    """What is wrong with the row of a crate, or ''. Of one that is not linked nothing is listed."""
+def _wrong(name, told, said, listed, linked, page):
+    """What is wrong with the row of a crate, or ''. Of one that is not linked, and names none of the kit, nothing is listed."""
     if name not in said:
         return "the checker's log has no verdict that can be read"
     if len(told) != 1:
@@ -86,7 +86,7 @@ def _wrong(name, told, said, listed, page):
         return f"{PAGE} counts {number}, and names {len(names)}"
     verdicts = [said[name]] if said[name] else []
     if listed:
-        if not listed.verdict or not listed.counts:
+        if not listed.verdict or linked and not listed.counts:
             return "what it assumes is not listed"
         verdicts.append(listed.verdict)
         if sum(listed.counts) != len(listed.names):
@@ -121,9 +121,8 @@ def tell(root, log, tally):
         is_program = os.path.isfile(os.path.join(root, "crates", name, "src", "main.rt"))
         programs += [name] if is_program else []
         told = [row for known, row in rows if known == (name if is_program else "")]
-        wrong = _wrong(name, told, said, listed.get(name, Listed()) if is_program or is_static else None, page)
-        if kit and not is_program:
-            wrong = f"it is no program, and names {', '.join(sorted(kit))}, of the kit"
+        linked = is_program or is_static
+        wrong = _wrong(name, told, said, listed.get(name, Listed()) if linked or kit else None, linked, page)
         tally.expect(f"what {name} assumes", not wrong, wrong)
     for name in filter(None, (name for name, _ in rows)):
         tally.expect(f"{PAGE}: the row of {name}", name in programs, "it is no program")
