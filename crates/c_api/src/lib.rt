@@ -173,7 +173,7 @@ impl From<Result<Tick, Refusal>> for VrkCount {
     ghost from_gives = { λ t r. r ≡ count_out (tick_slip t) };
 
     fn from(t: Result<Tick, Refusal>) -> VrkCount {
-        t.map(|tick| tick.0 as u64).into()
+        t.map(|tick| u64::from(tick.0)).into()
     }
 }
 

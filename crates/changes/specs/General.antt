@@ -17,10 +17,18 @@ use Rattle.handed.specs.declared.Handed.{Handed}
 use Rattle.handed.specs.Told.{Told, told_scale, told_moment}
 use Rattle.handed.specs.Meaning.{scale_of, mark_of, is_finite, is_in_span, moment_in}
 use Rattle.leap.specs.Meaning.{accepted}
-use Rattle.via_tai.specs.Meaning.{from_scale, to_scale, of_count}
+use Rattle.leap.specs.Walk.{or_true}
+use Rattle.via_tai.specs.Meaning.{from_scale, to_scale, is_utc, of_count}
 use Rattle.via_tai.specs.Ways.{Left, way_on, way_out}
 use Rattle.changes.specs.Meaning.{change_uses_list, settled, moving, change_of}
 use Rattle.changes.specs.Asked.{lacking}
+
+-- ---- the list is used where UTC stands on either side
+pub uses_from : (s to : Scale) → is_utc s ≡ true → change_uses_list s to ≡ true
+uses_from s to e = rw e
+
+pub uses_to : (s to : Scale) → is_utc to ≡ true → change_uses_list s to ≡ true
+uses_to s to e = rw e (or_true (is_utc s))
 
 -- ---- to its own scale, or to another
 module _ (s : Scale) (n : ℕ) (ds : List ℤ) (os : List ℕ) (e : ℤ) {r : Result Tai Refusal} (w : Left (of_count s n (from_scale s ds os e)) r) (to : Scale) where

@@ -1,20 +1,47 @@
 -- The ways out of a change that uses a list: the list is judged before the time. Assumes nothing.
 use Rattle.std.specs.Prelude.{◌≡◌, refl, Bool, true, false, cond, List, ℕ, ℤ, Result, Ok, Err}
-use Rattle.std.proofs.Common.{sym, ap, ◌∙◌, arith}
+use Rattle.std.proofs.Common.{sym, ap, subst, ◌∙◌, arith}
 use Rattle.axis.specs.Meaning.{micros_at, Moment}
-use Rattle.scales.specs.Meaning.{and_then, Judged, refused, outcome, Slip, dated, number_of}
+use Rattle.scales.specs.Meaning.{and_then, Judged, given, refused, answer, outcome, Slip, dated, number_of}
+use Rattle.scales.specs.Order.{no_answer}
 use Rattle.scales.specs.declared.Scale.{Scale}
 use Rattle.scales.specs.declared.Refusal.{Refusal}
 use Rattle.scales.specs.declared.Refusal.TheVariants as R
 use Rattle.scales.specs.declared.Tai.{Tai}
 use Rattle.leap.specs.Meaning.{LeapList, accepted, accepted_or}
 use Rattle.via_tai.specs.Meaning.{of_count, from_scale, to_scale}
-use Rattle.via_tai.specs.Ways.{Left, way_on, way_out}
+use Rattle.via_tai.specs.Ways.{OnTheWay, counted, Left, way_held, way_on, way_out}
 use Rattle.changes.specs.Meaning.{with_list}
 
 -- ---- the list is judged before
 pub list_in : (to : Scale) (ds : List ℤ) (os : List ℕ) (e : ℤ) (j : Judged Moment) → accepted ds os e ≡ true → dated to (outcome j) ≡ dated to (outcome (with_list ds os e j))
 list_in to ds os e j h = sym (rw h)
+
+-- the way to the TAI count in a change that uses a list
+abbrev by_list : Scale → ℕ → List ℤ → List ℕ → ℤ → Judged ℤ
+by_list s n ds os e = given (accepted ds os e) 5 (of_count s n (from_scale s ds os e))
+
+pub record ByList (s : Scale) (n : ℕ) (ds : List ℤ) (os : List ℕ) (e : ℤ) (r : Result Tai Refusal) : Type 0 where
+  pub left : Left (by_list s n ds os e) r
+
+-- the last day is e, which may be spelled z
+module _ {s : Scale} {n : ℕ} {ds : List ℤ} {os : List ℕ} {z e : ℤ} (q : z ≡ e) where
+  pub list_lacks : accepted ds os z ≡ false → ByList s n ds os e (Err R.ListNotAccepted)
+  list_lacks h = record { left = record { is = sym (rw (← q, h)); held = omega arith } }
+
+  pub list_there : {r : Result Tai Refusal} → accepted ds os z ≡ true → Left (of_count s n (from_scale s ds os z)) r → ByList s n ds os e r
+  list_there {r} h w = subst (λ (y : ℤ). ByList s n ds os y r) q (record { left = record { is = w.is ∙ sym (rw h); held = w.held } })
+
+module _ {s : Scale} {n : ℕ} {ds : List ℤ} {os : List ℕ} {z : ℤ} {r : Result Tai Refusal} (w : ByList s n ds os z r) {t : Tai} (g : r ≡ Ok t) where
+  pub list_held : OnTheWay t.0
+  list_held = way_held w.left g
+
+  pub list_known : accepted ds os z ≡ true
+  list_known = go (accepted ds os z) (ap counted (sym g) ∙ w.left.is)
+    where
+      go : (b : Bool) → answer (micros_at t.0) ≡ outcome (given b 5 (of_count s n (from_scale s ds os z))) → b ≡ true
+      go true h = refl
+      go false h = absurd (no_answer (sym h))
 
 -- a list that is handed on is the one that was lent, and it is accepted
 handed_on : {l m : LeapList} (b : Bool) → cond b (Ok l) (Err R.ListNotAccepted) ≡ Ok m → (m ≡ l) × (b ≡ true)

@@ -26,6 +26,12 @@ use Rattle.clock.specs.declared.inner.Ends.{Ends}
 
 -- ---- under a TAI or GPS correlation: a handed time that was not taken, and one that was
 module _ (s : Scale) (v : Cover) (h : Handed) where
+  pub own_4 : is_finite h ≡ false → refused 4 ≡ outcome (covering_own s v h)
+  own_4 f = rw f
+
+  pub own_7 : is_finite h ≡ true → is_in_span h ≡ false → refused 7 ≡ outcome (covering_own s v h)
+  own_7 f g = rw (f, g)
+
   pub own_untaken : (t : Result Time Untaken) → Took h t → (e : Untaken) → t ≡ Err e → refused (number_of (refusal_by e)) ≡ outcome (covering_own s v h)
   own_untaken t w e q =
       sym (untaken_lem h t w e q
@@ -50,6 +56,12 @@ module _ (s : Scale) (v : Ends) (z : Scale) (n : ℕ) (i : Spanned z n) where
 
 -- ---- under a UTC correlation: the same
 module _ (n : Bool) (v : Cover) (h : Handed) (ds : List ℤ) (os : List ℕ) (e : ℤ) where
+  pub turn_4 : is_finite h ≡ false → refused 4 ≡ outcome (covering S.Utc n v h ds os e)
+  turn_4 f = rw f
+
+  pub turn_7 : is_finite h ≡ true → is_in_span h ≡ false → refused 7 ≡ outcome (covering S.Utc n v h ds os e)
+  turn_7 f g = rw (f, g)
+
   pub turn_untaken : (t : Result Time Untaken) → Took h t → (u : Untaken) → t ≡ Err u → refused (number_of (refusal_by u)) ≡ outcome (covering S.Utc n v h ds os e)
   turn_untaken t w u q =
       sym (untaken_lem h t w u q

@@ -175,6 +175,7 @@ pub fn date_by_list(
                 return Err(Refusal::ResultLater);
             }
             // The list is accepted and the receipt is not expired, so that what is not later is not.
+            // What it ensures is wanted: that the list is accepted.
             let _ = list.list();
             via_tai::inner::unexpired_to_utc(Tai(k.at), list)
         }

@@ -2,7 +2,7 @@
 // a block is said and proved in `lines`; here bytes are only moved.
 #![tactic(auto)]
 
-ghost use Rattle.std.specs.Prelude.{◌≤◌, length, IfOk, IfSome};
+ghost use Rattle.std.specs.Prelude.{◌≤◌, length, IfOk};
 
 use std::env::{Env, FillError};
 use std::io::{ErrorKind, Read, Write};
@@ -56,54 +56,55 @@ fn print_all<R: Print>(rt: &R, part: &[u8], out: &mut [u8]) -> Result<usize, Fai
     Ok(dated)
 }
 
-// Prints the whole lines of the first n bytes, and keeps the line that has begun behind them: as many bytes as it gives, at the
-// front of the block.
-fn print_lines<R: Print>(
-    rt: &R,
-    block: &mut [u8],
-    n: usize,
-    out: &mut [u8],
-) -> Result<usize, Failure>
-    requires { n ≤ length block.old }
-    ensures { IfOk result (λ kept. kept ≤ 32) }
-{
-    let dated = print_all(rt, &block[..n], out)?;
-    Ok(lines::keep(block, dated, n))
-}
-
-// A last line without a newline counts.
-fn end<R: Print>(rt: &R, block: &mut [u8], kept: usize, out: &mut [u8]) -> Result<(), Failure>
-    requires kept_bound { kept ≤ 32 }
-    requires in_bounds { 65536 ≤ length block.old }
-{
-    if 0 < kept {
-        block[kept] = b'\n';
-        print_lines(rt, block, kept + 1, out)?;
-    }
-    Ok(())
-}
-
-// Reads behind the bytes that were kept, and gives how many are kept now; none where the input has ended.
-fn read_block<R: Print, I: Read>(
-    rt: &R,
-    input: &mut I,
-    block: &mut [u8],
+// What is read, and how many bytes of a line that has begun are kept at its front.
+#[derive(Drop)]
+struct Block {
+    bytes: [u8; 65536],
     kept: usize,
-    out: &mut [u8],
-) -> Result<Option<usize>, Failure>
-    requires kept_bound { kept ≤ 32 }
-    requires in_bounds { 65536 ≤ length block.old }
-    ensures { IfOk result (λ goes_on. IfSome goes_on (λ kept. kept ≤ 32)) }
-{
-    match input.read(&mut block[kept..]) {
-        Ok(0) => {
-            end(rt, block, kept, out)?;
-            Ok(None)
+    ghost few: { kept ≤ 32 },
+}
+
+impl Block {
+    // Prints the whole lines of the first n bytes, and keeps the line that has begun behind them.
+    fn print_lines<R: Print>(&mut self, rt: &R, n: usize, out: &mut [u8]) -> Result<(), Failure>
+        requires { n ≤ 65536 }
+    {
+        let dated = print_all(rt, &self.bytes[..n], out)?;
+        self.kept = lines::keep(&mut self.bytes, dated, n);
+        Ok(())
+    }
+
+    // A last line without a newline counts.
+    fn end<R: Print>(&mut self, rt: &R, out: &mut [u8]) -> Result<(), Failure> {
+        let kept = self.kept;
+        if 0 < kept {
+            self.bytes[kept] = b'\n';
+            self.print_lines(rt, kept + 1, out)?;
         }
-        Ok(got) => Ok(Some(print_lines(rt, block, kept + got, out)?)),
-        // A signal came before any byte did.
-        Err(error) if error.kind() == ErrorKind::Interrupted => Ok(Some(kept)),
-        Err(error) => Err(Failure::Read(error)),
+        Ok(())
+    }
+
+    // Reads behind the bytes that were kept: whether the input goes on.
+    fn read<R: Print, I: Read>(
+        &mut self,
+        rt: &R,
+        input: &mut I,
+        out: &mut [u8],
+    ) -> Result<bool, Failure> {
+        let kept = self.kept;
+        match input.read(&mut self.bytes[kept..]) {
+            Ok(0) => {
+                self.end(rt, out)?;
+                Ok(false)
+            }
+            Ok(got) => {
+                self.print_lines(rt, kept + got, out)?;
+                Ok(true)
+            }
+            // A signal came before any byte did.
+            Err(error) if error.kind() == ErrorKind::Interrupted => Ok(true),
+            Err(error) => Err(Failure::Read(error)),
+        }
     }
 }
 
@@ -111,17 +112,13 @@ fn read_block<R: Print, I: Read>(
 fn run<R: Print, I: Read>(
     rt: &R,
     input: &mut I,
-    block: &mut [u8],
+    block: &mut Block,
     out: &mut [u8],
-) -> Result<(), Failure>
-    requires { 65536 ≤ length block.old }
-{
-    let mut kept = 0;
+) -> Result<(), Failure> {
     for _ in 0..u64::MAX {
-        let Some(n) = read_block(rt, input, block, kept, out)? else {
+        if !block.read(rt, input, out)? {
             break;
-        };
-        kept = n;
+        }
     }
     Ok(())
 }
@@ -136,7 +133,10 @@ fn main(rt: HostRuntime) {
         let _ = eprintln!(rt; "usage: desk < LINES (it takes no arguments)");
         return;
     }
-    let mut block = [0u8; 65536];
+    let mut block = Block {
+        bytes: [0; 65536],
+        kept: 0,
+    };
     let mut out = [0u8; 65536];
     if let Err(failure) = run(&rt, &mut rt.stdin(), &mut block, &mut out) {
         let _ = eprintln!(rt; "desk: {failure}");

@@ -4,7 +4,7 @@ use Rattle.std.proofs.Math.Path.{refl, ap}
 use Rattle.std.proofs.Common.{sym, ◌∙◌, arith, mul-le-mul, lit<, lit≤, lt-ltb, le-ltb}
 use Rattle.axis.specs.Meaning.{day_at, micros_at, floor_z, Moment}
 use Rattle.axis.specs.Diff.{sub_floor}
-use Rattle.scales.specs.Meaning.{dated, remark, refused, answer, Outcome, outcome, valued}
+use Rattle.scales.specs.Meaning.{dated, remark, refused, answer, Outcome, outcome, Slip, valued}
 use Rattle.scales.specs.Marks.{remark_is}
 use Rattle.scales.specs.declared.Scale.TheVariants as S
 use Rattle.handed.specs.declared.Handed.{Handed}
@@ -74,6 +74,20 @@ module _ (c : Correlation) (ds : List ℤ) (os : List ℕ) (e : ℤ) (t : ℕ) (
   unfolding date_of unmarked_of
   marked_is = remark_is (K.mark_of (clock_of c ds os)) S.Utc (dating c t d u ds os e) refl
 
+  -- the same of the marked date: a refusal bears no mark
+  abbrev marks : Slip → Slip
+  marks x = remark (K.mark_of (clock_of c ds os)) x
+
+  pub dated_3 : 281474976710656 ≤ t → dated S.Utc (refused 3) ≡ date_of c t d u ds os e
+  dated_3 l = ap marks (date_3 l) ∙ marked_is
+
+  pub dated_at_lem : t < 281474976710656 → (o : Outcome Moment) → o ≡ outcome (K.dating (accepted c) (clock_of c ds os) t d u ds os e) →
+      remark (K.mark_of (clock_of c ds os)) (dated S.Utc o) ≡ date_of c t d u ds os e
+  dated_at_lem l o q = ap marks (date_at_lem l o q) ∙ marked_is
+
+  pub dated_5 : t < 281474976710656 → Leap.accepted ds os e ≡ false → dated S.Utc (refused 5) ≡ date_of c t d u ds os e
+  dated_5 l q = ap marks (date_5 l q) ∙ marked_is
+
 pub count_listless : (c : Correlation) (ds : List ℤ) (os : List ℕ) (e : ℤ) → Leap.accepted ds os e ≡ false → (h : Handed) →
     valued 0 (refused (unaccepted_by h 5)) ≡ obt_of c h ds os e
 unfolding obt_of
@@ -88,6 +102,9 @@ module _ (c : Correlation) (ds : List ℤ) (os : List ℕ) (e : ℤ) (l : Leap.a
     pub date_6 : (t : ℕ) (d : ℤ) (u : ℕ) → t < 281474976710656 → dated S.Utc (refused 6) ≡ unmarked_of c t d u ds os e
     unfolding unmarked_of
     date_6 t d u k = rw (lt-ltb t 281474976710656 k, l, not_accepted)
+
+    pub dated_6 : (t : ℕ) (d : ℤ) (u : ℕ) → t < 281474976710656 → dated S.Utc (refused 6) ≡ date_of c t d u ds os e
+    dated_6 t d u k = ap (λ (x : Slip). remark (K.mark_of (clock_of c ds os)) x) (date_6 t d u k) ∙ marked_is c ds os e t d u
 
     pub count_unaccepted : (h : Handed) → valued 0 (refused (unaccepted_by h 6)) ≡ obt_of c h ds os e
     unfolding obt_of

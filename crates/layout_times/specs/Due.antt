@@ -12,6 +12,7 @@ use Rattle.scales.specs.declared.Time.{Time}
 use Rattle.handed.specs.declared.Handed.{Handed}
 use Rattle.handed.specs.Told.{Loose, loose, Told, untaken_lem, told_scale, told_count}
 use Rattle.handed.specs.declared.Untaken.{Untaken}
+use Rattle.handed.specs.declared.Untaken.TheVariants as K
 use Rattle.handed.specs.Meaning.{scale_of, is_finite, is_in_span, day_of, micro_of, Took, refusal_by}
 use Rattle.layout_times.specs.Chain.{then_refused, told_answer, told_refused}
 use Rattle.layout_times.specs.Meaning.{micros_from}
@@ -42,6 +43,13 @@ module _ (s : Scale) (h : Handed) where
   pub due_untaken : (t : Result Time Untaken) → Took h t → (e : Untaken) → t ≡ Err e → value_slip 0 (Err (refusal_by e)) ≡ valued 0 (outcome (due_in s h))
   due_untaken t w e q =
       ap (valued 0) (sym (untaken_lem h t w e q (given (same_scale s (scale_of h)) 12 (gives (count_of s (day_of h) (micro_of h))))))
+
+  module _ (t : Result Time Untaken) (w : Took h t) (x : Scale) where
+    pub due_nothing : t ≡ Err (K.NotFinite x) → value_slip 0 (Err R.DecimalNotFinite) ≡ valued 0 (outcome (due_in s h))
+    due_nothing e = due_untaken t w (K.NotFinite x) e
+
+    pub due_outside : t ≡ Err (K.Outside x) → value_slip 0 (Err R.OutsideSpan) ≡ valued 0 (outcome (due_in s h))
+    due_outside e = due_untaken t w (K.Outside x) e
 
   module _ (t : Time) (w : Told h t) where
     pub due_other : (time_scale t ≡ s → ⊥) → value_slip 0 (Err R.NoImage) ≡ valued 0 (outcome (due_in s h))

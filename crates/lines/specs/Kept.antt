@@ -1,12 +1,12 @@
 -- Bytes moved to the front of their slice. Assumes nothing.
-use Rattle.std.specs.Prelude.{◌≡◌, refl, Bool, true, false, ℕ, zero, suc, ◌+◌, ◌-◌, ◌≤◌, ◌<◌, min, leb}
+use Rattle.std.specs.Prelude.{◌≡◌, refl, Bool, true, false, ℕ, zero, suc, ◌+◌, ◌-◌, ◌≤◌, ◌<◌, min, leb, get_or, set}
 use Rattle.std.proofs.Math.Path.{sym, ap, ap₂}
-use Rattle.std.proofs.Common.{◌∙◌, arith, take_all, take-take, leb-true, leb-false}
+use Rattle.std.proofs.Common.{◌∙◌, arith, take_all, take-take, get_or-append-add, get_or-drop, leb-true, leb-false}
 use mathlib.Core.List.{List, [], ◌∷◌, ◌++◌}
 use Rattle.std.proofs.Math.ListN.{length, take, drop, length-drop, length-take, drop_of_length-le}
 use Rattle.std.proofs.Math.Seq.{slice, length-take-le}
 use Rattle.octets.specs.Meaning.{onto}
-use Rattle.octets.specs.Place.{onto_room}
+use Rattle.octets.specs.Place.{onto_room, onto_next}
 use Rattle.lines.specs.Meaning.{kept, moved, keep}
 
 -- a part that ends further on begins the same
@@ -51,6 +51,21 @@ module _ (l : List ℕ) (from to : ℕ) where
         (ap (λ (x : List ℕ). onto x l) kept_is
         ∙ onto_room (take n (drop from l)) l (omega (arith, length-drop from l))
         ∙ ap (λ (j : ℕ). take n (drop from l) ++ drop j l) t))
+
+    -- before the turn i the first i bytes are moved
+    pub next : (i : ℕ) → i < n → set (take i (drop from l) ++ drop i l) i (get_or (take i (drop from l) ++ drop i l) (from + i) 0) ≡ take (i + 1) (drop from l) ++ drop (i + 1) l
+    next i k =
+        let d = drop from l in
+        let t : length (take i d) ≡ i = length-take-le i d (omega (arith, length-drop from l)) in
+        let g : get_or (take i d ++ drop i l) (from + i) 0 ≡ get_or d i 0 =
+        ap (λ (j : ℕ). get_or (take i d ++ drop i l) j 0) (moved t) ∙ get_or-append-add (take i d) (drop i l) from 0 ∙ get_or-drop i l from 0 ∙ ap (λ (j : ℕ). get_or l j 0) (swap i) ∙ sym (get_or-drop from l i 0) in
+        ap (λ (b : ℕ). set (take i d ++ drop i l) i b) g ∙ onto_next l d 0 i (omega (arith, length-drop from l)) (omega (arith, length-drop from l))
+      where
+        moved : {t : ℕ} → t ≡ i → from + i ≡ t + from
+        moved e = omega arith
+
+        swap : (i : ℕ) → i + from ≡ from + i
+        swap i = omega arith
 
 -- no more than 32 bytes are kept
 pub kept_small : (l : List ℕ) (from to n : ℕ) (after : List ℕ) → moved n after ≡ keep l from to → n ≤ 32

@@ -1,10 +1,11 @@
 -- Laws of lines: the first newline, the whole lines from a place on, and how far a block is done. Assumes nothing.
 use Rattle.std.specs.Prelude.{◌≡◌, Bool, cond, ℕ, zero, suc, ◌+◌, ◌-◌, ◌≤◌, ◌<◌, eqb, ℤ, take, drop, get_or}
 use Rattle.std.proofs.Math.Path.{refl, sym, ap}
-use Rattle.std.proofs.Common.{ap₂, ◌∙◌, length-drop, drop-drop, length-take-le}
+use Rattle.std.proofs.Common.{ap₂, ◌∙◌, length-drop, drop-cons, drop-drop, length-take-le}
 use Rattle.std.proofs.Math.Bool.{true, false}
 use mathlib.Core.List.{List, [], ◌∷◌, ◌++◌, append-nil, append_assoc}
 use native.Mathlib.Omega.{arith}
+use Rattle.std.proofs.Math.Numerals.{add-one}
 use Rattle.std.proofs.Math.Dec.{ltb}
 use Rattle.std.proofs.Math.ListN.{length, length-append}
 use borrow.Author.Tests.{eq-eqb, ne_eqb, lt-ltb, le-ltb, ltb-false}
@@ -27,6 +28,57 @@ pub newline_none : (s : List ℕ) → ((i : ℕ) → i < length s → get_or s i
 unfolding before_newline
 newline_none [] n = refl
 newline_none (b ∷ s) n = rw (ne_eqb b 10 (n 0 (omega arith))) (ap suc (newline_none s (λ i l. n (suc i) (omega arith))))
+
+-- ---- the first newline, looked for from a place on
+module _ (s : List ℕ) (i : ℕ) (h : i < length s) where
+  pub newline_here : get_or s i 0 ≡ 10 → before_newline (drop i s) ≡ 0
+  unfolding before_newline
+  newline_here e = rw (drop-cons s i 0 h, eq-eqb (get_or s i 0) 10 e)
+
+  pub newline_later : (get_or s i 0 ≡ 10 → ⊥) → before_newline (drop i s) ≡ before_newline (drop (i + 1) s) + 1
+  unfolding before_newline
+  newline_later e = rw (drop-cons s i 0 h, ne_eqb (get_or s i 0) 10 e, add-one i) (omega arith)
+
+pub before_within : (s : List ℕ) → before_newline s ≤ length s
+unfolding before_newline
+before_within [] = omega arith
+before_within (b ∷ s) = go (eqb b 10) (before_within s)
+  where
+    go : (x : Bool) → before_newline s ≤ length s → cond x 0 (suc (before_newline s)) ≤ suc (length s)
+    go true h = omega arith
+    go false h = omega arith
+
+-- any number of bytes that are no newline may be passed over
+passed : (k : ℕ) (s : List ℕ) → k ≤ before_newline s → k + before_newline (drop k s) ≡ before_newline s
+unfolding before_newline
+passed zero s h = omega arith
+passed (suc k) [] h = absurd (omega arith)
+passed (suc k) (b ∷ s) h = go (eqb b 10) h (λ h. passed k s h)
+  where
+    go : (x : Bool) → suc k ≤ cond x 0 (suc (before_newline s)) → (k ≤ before_newline s → k + before_newline (drop k s) ≡ before_newline s)
+        → suc k + before_newline (drop k s) ≡ cond x 0 (suc (before_newline s))
+    go true h ih = absurd (omega arith)
+    go false h ih = omega (arith, ih (omega arith))
+
+-- no newline stands from place i to place j
+pub record Passed (s : List ℕ) (i j : ℕ) : Type 0 where
+  pub from : i ≤ j
+  pub to : j ≤ i + before_newline (drop i s)
+
+module _ {s : List ℕ} {i j : ℕ} (p : Passed s i j) where
+  pub newline_same : j + before_newline (drop j s) ≡ i + before_newline (drop i s)
+  newline_same =
+      let e : i + (j - i) ≡ j = omega (arith, p.from) in
+      let q : j - i + before_newline (drop j s) ≡ before_newline (drop i s) =
+      ap (λ (n : ℕ). j - i + before_newline (drop n s)) (sym e) ∙ ap (λ (t : List ℕ). j - i + before_newline t) (sym (drop-drop (j - i) i s))
+      ∙ passed (j - i) (drop i s) (omega (arith, p.to)) in
+      omega arith
+
+  pub newline_from_at : get_or s j 0 ≡ 10 → j < length s → j ≡ i + before_newline (drop i s)
+  newline_from_at e h = omega (arith, newline_same, newline_here s j h e)
+
+  pub newline_after : (get_or s j 0 ≡ 10 → ⊥) → j < length s → (k : ℕ) → k ≡ j + 1 → Passed s i k
+  newline_after e h k q = record { from = omega (arith, p.from); to = omega (arith, newline_same, newline_later s j h e) }
 
 -- ---- the whole lines
 pub whole_none : (s : List ℕ) → before_newline s ≡ length s → whole_in s ≡ []

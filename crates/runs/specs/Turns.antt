@@ -51,6 +51,11 @@ module _ (s : List ℕ) (n i : ℕ) where
             ≡ unroll_from (n - (i + 1)) front (ahead total (part s (10 * i + 8) 2)) (drop (10 * (i + 1)) s)
         unroll_on h = step ∙ rw (eq-eqb (part s (10 * i) 8) front e, le-leb (ahead total (part s (10 * i + 8) 2)) 484848 h)
 
+    pub limits_on : limits_in (n - i) (drop (10 * i) s) ≡ (is_in_limits (fields_of (packet_at s i)) && limits_in (n - (i + 1)) (drop (10 * (i + 1)) s))
+    limits_on =
+        ap (λ (k : ℕ). limits_in k (drop (10 * i) s)) left
+        ∙ ap (λ (l : List ℕ). is_in_limits (fields_of (packet_at s i)) && limits_in (n - (i + 1)) l) after
+
     pub last_on : (total : ℕ) → last_from (n - i) total (drop (10 * i) s) ≡ last_from (n - (i + 1)) (ahead total (part s (10 * i + 8) 2)) (drop (10 * (i + 1)) s)
     last_on total =
         ap (λ (k : ℕ). last_from k total (drop (10 * i) s)) left

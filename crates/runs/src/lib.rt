@@ -44,13 +44,34 @@ fn extra_of(bytes: &[u8], i: usize) -> u64
     octets::inner::part(bytes, 10 * i + 8, 2)
 }
 
-// The least total not below the one before that leads to an extra counter. `before` is the counter that the one before led to: so a
-// total waits for nothing but the one before and its own step.
-fn next(total: u64, before: u64, extra: u64) -> u64
-    requires { (total ≤ 484848) × (before ≡ total % 65536) × (extra < 65536) }
-    ensures { result ≡ ahead total extra }
-{
-    total + (extra + 65536 - before) % 65536
+// A total, and the extra counter that it leads to: so the next total waits for nothing but this one and its own step.
+#[derive(Clone, Copy)]
+struct Total {
+    units: u64,
+    extra: u64,
+    ghost leads: { extra ≡ units % 65536 },
+}
+
+impl Total {
+    fn new(units: u64) -> Self
+        ensures { result.units ≡ units }
+    {
+        Total {
+            units,
+            extra: units % 65536,
+        }
+    }
+
+    // The least total not below this one that leads to an extra counter.
+    fn next(self, extra: u64) -> Self
+        requires { (self.units ≤ 484848) × (extra < 65536) }
+        ensures { result.units ≡ ahead self.units extra }
+    {
+        Total {
+            units: self.units + (extra + 65536 - self.extra) % 65536,
+            extra,
+        }
+    }
 }
 
 // The last total of packets whose three fields are the same and whose totals are not above the most.
@@ -62,20 +83,17 @@ fn unroll(bytes: &[u8], n: usize, told: u64) -> Option<u64>
         return None;
     }
     let first = front(bytes, 0);
-    let mut total = told;
-    let mut before = told % 65536;
+    let mut total = Total::new(told);
     for i in 0..n {
         if front(bytes, i) != first {
             return None;
         }
-        let extra = extra_of(bytes, i);
-        total = next(total, before, extra);
-        if 484_848 < total {
+        total = total.next(extra_of(bytes, i));
+        if 484_848 < total.units {
             return None;
         }
-        before = extra;
     }
-    Some(total)
+    Some(total.units)
 }
 
 // Are the fields of packet i below their limits?
@@ -128,13 +146,10 @@ fn fill(bytes: &[u8], n: usize, from: u64, told: u64, dates: &mut [i64])
     requires { Filling bytes.now n from told (length dates.old) }
     ensures { dates.new ≡ dates_from n from told bytes.now ++ drop n dates.old }
 {
-    let mut total = told;
-    let mut before = told % 65536;
+    let mut total = Total::new(told);
     for i in 0..n {
-        let extra = extra_of(bytes, i);
-        total = next(total, before, extra);
-        dates[i] = axis::micros_at(from + total * 33 / 16);
-        before = extra;
+        total = total.next(extra_of(bytes, i));
+        dates[i] = axis::micros_at(from + total.units * 33 / 16);
     }
 }
 

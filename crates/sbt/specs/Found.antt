@@ -24,7 +24,7 @@ use Rattle.clock.specs.Places.{base_as}
 use Rattle.clock.specs.Stage.{spot, seconds_in, judging, judging_own, judging_own_lem, covering, covering_own, covering_own_lem, current_own, unaccepted_by, landed, found, none, based_at, based_none, serves_own, utc_is}
 use Rattle.clock.specs.Turning as T
 use Rattle.sbt.specs.Meaning.{accepted, clock_of, dating, date_of, tick_of}
-use Rattle.sbt.specs.Places.{unmarked_of, place_of, shifted, base_of, ends_at, covered_by, reckoned_at, count_from, last_at, ticked_as, Windowed, Near, Few}
+use Rattle.sbt.specs.Places.{unmarked_of, place_of, shifted, base_of, ends_at, covered_by, reckoned_at, count_from, last_at, last_in, ticked_as, Windowed, Near, Reached, Few}
 use Rattle.sbt.specs.Accepted.{sound, based}
 use Rattle.sbt.specs.declared.Correlation.{Correlation}
 use Rattle.scales.specs.declared.Refusal.{Refusal}
@@ -119,6 +119,15 @@ module _ (c : Correlation) (ds : List ℤ) (os : List ℕ) (e : ℤ) where
     unfolding tick_of
     lacks g f =
         (omega arith, ap (valued 0) (T.turn_not (accepted c) s.accepts (clock_of c ds os) ds os e s.serves (r * 1000000) s.based h (number_of g) f))
+
+    -- the same of a place that was found or not
+    pub reached_in : (p : Result ℕ Refusal) → Lands p → Reached r c.period p
+    reached_in (Ok w) f = reached w f
+    reached_in (Err g) f = omega arith
+
+    pub lasts_in : (p : Result ℕ Refusal) → Lands p → Lasts c h ds os e (last_in r c.period p)
+    lasts_in (Ok w) f = lasts w f
+    lasts_in (Err g) f = lacks g f
 
   -- ---- not accepted, and a list that serves
   module _ (l : list_serves c.scale ds os e ≡ true) (a : accepted c ≡ false) where

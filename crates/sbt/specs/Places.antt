@@ -50,6 +50,11 @@ last_at r p w = C.last_at (r * 1000000) p 1000000 2147483648 w
 abbrev pub tick_from : ℕ → ℕ → ℕ
 tick_from r k = C.shown_at 2147483648 r k
 
+-- and where a place was found
+abbrev pub last_in : ℕ → ℕ → Result ℕ Refusal → Result ℕ Refusal
+last_in r p (Ok w) = Ok (last_at r p w)
+last_in r p (Err f) = Err f
+
 abbrev pub ticked_as : ℕ → Result ℕ Refusal → Valued ℕ
 ticked_as t (Ok k) = valued 0 (answer (tick_from t k))
 ticked_as t (Err f) = valued 0 (refused (number_of f))
@@ -71,6 +76,11 @@ pub record Near (r p w : ℕ) : Type 0 where
   pub based : Based r p
   pub low : r * 1000000 < (w + 1) * 1000000 + 2147483648 * p
   pub high : w ≤ r + 8389144870912
+
+-- where it was found
+abbrev pub Reached : ℕ → ℕ → Result ℕ Refusal → Type 0
+Reached r p (Ok w) = Near r p w
+Reached r p (Err f) = 0 ≤ 0
 
 -- a count of the window
 abbrev pub Few : Result ℕ Refusal → Type 0

@@ -89,7 +89,7 @@ fn ends_of(r: u64, p: u64, back: u64, ahead: u64) -> Ends
 fn count(tick: u32, reference: u32) -> u64
     ensures { result ≡ count_from tick reference }
 {
-    ((tick as u64) + 6_442_450_944 - (reference as u64)) % 4_294_967_296
+    (u64::from(tick) + 6_442_450_944 - u64::from(reference)) % 4_294_967_296
 }
 
 // What is reckoned of a tick, for the reference at r.
@@ -133,7 +133,7 @@ pub fn date(c: Correlation, tick: Tick, receipt: Receipt, list: &List) -> Result
     ensures { slip result ≡ date_of c tick.0 receipt.day receipt.micro list.now.days list.now.offsets list.now.last }
 {
     let r = unmarked(c, tick, receipt, list)?;
-    Ok(r.with_mark(Mark::Correlated(c.tick.0 as u64)))
+    Ok(r.with_mark(Mark::Correlated(u64::from(c.tick.0))))
 }
 
 // ---- the tick of a time
@@ -153,7 +153,7 @@ fn tick_from(reference: u32, k: u64) -> u32
     requires { k < 4294967296 }
     ensures { result ≡ tick_from reference k }
 {
-    (((reference as u64) + k + 2_147_483_648) % 4_294_967_296) as u32
+    ((u64::from(reference) + k + 2_147_483_648) % 4_294_967_296) as u32
 }
 
 // The last count of a handed time under a UTC correlation, by the list.

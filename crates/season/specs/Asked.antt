@@ -1,5 +1,5 @@
 -- The question by what the code sees: one law for each way out. Assumes nothing.
-use Rattle.std.specs.Prelude.{◌≡◌, Bool, cond, List, ℕ, zero, suc, ◌+◌, ◌*◌, ◌≤◌, leb, ltb, ℤ, pos, length, Option, Some, None, Ok, Err}
+use Rattle.std.specs.Prelude.{◌≡◌, Bool, cond, List, ℕ, zero, suc, ◌+◌, ◌*◌, ◌≤◌, ◌<◌, leb, ltb, ℤ, pos, length, Option, Some, None, Ok, Err}
 use Rattle.std.proofs.Math.Path.{refl, ap₂}
 use Rattle.std.proofs.Common.{sym, ap, subst, ◌∙◌, add-one, arith, lt-ltb}
 use Rattle.std.proofs.Math.Bool.{true, false, ◌&&◌}
@@ -48,6 +48,12 @@ module _ (d : ℤ) (u : ℕ) where
         i,
         since_place d u (held S.Tai d u i) ∙ sub_eq (spot d u) 3456000000000000 (p + 9219916036854775808) 9223372036854775808 (omega (arith, f.1)),
       )
+
+  pub spot_lt : (p : ℕ) → place_in S.Tai d u ≡ Some p → p < 6611760000000000
+  spot_lt p q =
+      let f = found (in_span S.Tai d u && ltb u day_micros) (spot d u) p q in
+      let i = (and_both (in_span S.Tai d u) (ltb u day_micros) f.0).0 in
+      omega (arith, f.1, (held S.Tai d u i).to, (placed S.Tai d u i).under)
 
   pub spot_out : place_in S.Tai d u ≡ None → in_span S.Tai d u ≡ false
   spot_out q = go (in_span S.Tai d u) refl
@@ -108,13 +114,17 @@ module _ (s : List ℕ) (d : ℤ) (u : ℕ) where
             rw (e, kept_is true e, i.0, ← f.count)
             (ap (valued none_seen) (agrees s b (p + 9219916036854775808) (since d u) i.1 n (omega (arith, f.length_is))))
 
+    scan_kept : (t : Bool) (x y : Option Entry) → cond t (Ok x) (Err R.SeasonBroken) ≡ Ok y → t ≡ true
+    scan_kept true x y e = refl
+    scan_kept false x y e = absurd (let z : ◌≡◌ {A = ℕ} 0 1 = cc in omega arith)
+
+    scan_broken : (t : Bool) (x : Option Entry) → cond t (Ok x) (Err R.SeasonBroken) ≡ Err R.SeasonBroken → t ≡ false
+    scan_broken true x e = absurd (let z : ◌≡◌ {A = ℕ} 0 1 = cc in omega arith)
+    scan_broken false x e = refl
+
     pub ask_outside : place_in S.Tai d u ≡ None → (x : Option Entry) → scanned s n 0 ≡ Ok x → valued none_seen (refused 7) ≡ covering s d u
     unfolding covering
-    ask_outside q x e = rw (kept_is true (scan_kept (all (entry_kept s) n) x e), spot_out d u q)
-      where
-        scan_kept : (t : Bool) (x : Option Entry) → cond t (Ok (seen_in s 0 n)) (Err R.SeasonBroken) ≡ Ok x → t ≡ true
-        scan_kept true x e = refl
-        scan_kept false x e = absurd (let z : ◌≡◌ {A = ℕ} 0 1 = cc in omega arith)
+    ask_outside q x e = rw (kept_is true (scan_kept (all (entry_kept s) n) (seen_in s 0 n) x e), spot_out d u q)
 
     pub ask_broken : (g : Refusal) → scanned s n 0 ≡ Err g → valued none_seen (refused (number_of g)) ≡ covering s d u
     unfolding covering

@@ -60,7 +60,7 @@ module _ (ws : List ℤ) (out : List ℕ) where
         filed h q =
             rw (writable, le-leb (length (file_of ws)) (length out) (omega (arith, file_length ws)), file_length ws, q)
 
--- ---- the count of n, laid first, and the contents and the bodies behind it
+-- ---- the count of n, laid first, and the contents and the bodies behind it, as one part or as two
 module _ (n : ℕ) (out p : List ℕ) (h : end_of n ≤ length out) (e : p ≡ field (length (take 2 out)) n) where
   count_laid : Filled 2 (field 2 n) out (p ++ drop 2 out)
   count_laid = fill_field 0 2 2 n [] out out p (fill_none out) (omega arith) refl e
@@ -79,3 +79,23 @@ module _ (n : ℕ) (out p : List ℕ) (h : end_of n ≤ length out) (e : p ≡ f
       ∙ ap₂ ◌+◌ (length_each (entry_bytes n ws) 20 (entry_length n ws) n) (length_each (body_bytes ws) 28 (body_length ws) n) ∙ omega arith in
       (fill_part 2 (end_of n) (field 2 n) out (p ++ drop 2 out) count_laid q (omega arith)).is
       ∙ ap (λ (x : List ℕ). x ++ drop (end_of n) out) (ap (λ (x : List ℕ). field 2 n ++ x) f ∙ sym (append_assoc (field 2 n) a b))
+
+  pub contents_length : length (lent_part 2 (entry_at n) (p ++ drop 2 out)) ≡ 20 * n
+  contents_length = part_length 2 (entry_at n) (field 2 n) out (p ++ drop 2 out) count_laid (omega arith) ∙ omega arith
+
+  module _ (q : List ℕ) (ws : List ℤ) (f : q ≡ each (entry_bytes n ws) n) where
+    contents_laid : Filled (entry_at n) (field 2 n ++ q) out (with_part 2 (entry_at n) q (p ++ drop 2 out))
+    contents_laid =
+        fill_part 2 (entry_at n) (field 2 n) out (p ++ drop 2 out) count_laid q (omega (arith, ap length f, length_each (entry_bytes n ws) 20 (entry_length n ws) n))
+
+    pub bodies_length : length (lent_part (entry_at n) (end_of n) (with_part 2 (entry_at n) q (p ++ drop 2 out))) ≡ 28 * n
+    bodies_length =
+        part_length (entry_at n) (end_of n) (field 2 n ++ q) out (with_part 2 (entry_at n) q (p ++ drop 2 out)) contents_laid h ∙ omega arith
+
+    pub parts_laid : (r : List ℕ) → r ≡ each (body_bytes ws) n
+        → with_part (entry_at n) (end_of n) r (with_part 2 (entry_at n) q (p ++ drop 2 out))
+        ≡ field 2 n ++ each (entry_bytes n ws) n ++ each (body_bytes ws) n ++ drop (end_of n) out
+    parts_laid r g =
+        (fill_part (entry_at n) (end_of n) (field 2 n ++ q) out (with_part 2 (entry_at n) q (p ++ drop 2 out)) contents_laid r
+        (omega (arith, ap length g, length_each (body_bytes ws) 28 (body_length ws) n))).is
+        ∙ ap₂ (λ (x y : List ℕ). field 2 n ++ x ++ y ++ drop (end_of n) out) f g

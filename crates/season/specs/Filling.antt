@@ -18,6 +18,9 @@ module _ {A : Type 0} where
   fill_all a f out s h e =
       h.is ∙ ap (λ (l : List A). f ++ l) (drop_of_length-le out {i = a} (omega arith)) ∙ append-nil f
 
+  pub filled_length : (a : ℕ) (f out s : List A) → Filled a f out s → a ≤ length out → length s ≡ length out
+  filled_length a f out s h k = ap length h.is ∙ length-append f (drop a out) ∙ omega (arith, length-drop a out, h.long)
+
   -- the part from a to e is lent, and comes back as q: the checker's forms
   abbrev pub lent_part : ℕ → ℕ → List A → List A
   lent_part a e s = take (e - a) (drop a s)
@@ -61,6 +64,9 @@ module _ {A : Type 0} (m : ℕ) (f : ℕ → List A) (k : ℕ) (out s : List A) 
   -- the part that is lent
   pub turn_length : m * k + m ≤ length out → length (lent_part (m * k) (m * k + m) s) ≡ m
   turn_length l = part_length (m * k) (m * k + m) (each f k) out s h l ∙ omega arith
+
+  pub turn_room : m * k ≤ length out → length s ≡ length out
+  turn_room l = filled_length (m * k) (each f k) out s h l
 
   -- all of them
   pub fill_turns : (n : ℕ) → k ≡ n → length out ≡ m * n → s ≡ each f n

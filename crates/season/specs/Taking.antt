@@ -1,7 +1,7 @@
 -- The writer takes correlations off their numbers' bits, and their covers on the places of the axis: what its functions answer of one, and
 -- what is taken is the meaning's. Assumes nothing.
 use Rattle.std.specs.Prelude.{◌≡◌, refl, Bool, true, false, cond, ◌&&◌, ◌||◌, List, ℕ, ◌+◌, ◌*◌, ◌%◌, ◌≤◌, ◌<◌, min, ltb, eqb, ℤ, pos, negsuc, nat_abs, Option, Some, None}
-use Rattle.std.proofs.Common.{sym, ap, ◌∙◌, mod-eq_of_lt, arith, of_z, to_z, to_z-of_z, le-leb, lt-ltb, ltb-true}
+use Rattle.std.proofs.Common.{sym, ap, ◌∙◌, mod-eq_of_lt, arith, of_z, to_z, to_z-of_z, le-leb, lt-ltb, le-ltb, ltb-true, eq-eqb, ne_eqb}
 use Rattle.std.proofs.lemmas.Bool.{false≢true}
 use Rattle.std.specs.Int.Signed.{mag, le_z, lt_z}
 use Rattle.std.specs.Int.{w64}
@@ -127,7 +127,24 @@ module _ (ws : List ℤ) (k : ℕ) where
         bits_plain (word_in ws (7 * k + 6)) h.ahead,
       )
 
-  -- ---- the cover of what was taken
+  -- ---- the ways out of a cover: a tick too wide, another scale, and the cover of what was taken
+  pub not_tick : 4294967295 < bits_in ws (7 * k) → None ≡ cover_at ws k
+  not_tick l = go (is_accepted ws k) refl
+    where
+      go : (t : Bool) → is_accepted ws k ≡ t → None ≡ cond t (Some (ends_of (correlation_at ws k))) None
+      go true e =
+          absurd (omega (arith, field_bits 4294967296 (word_in ws (7 * k)) (kept (and_both (words_kept ws k) (accepted (correlation_at ws k)) e).0).tick))
+      go false e = refl
+
+  pub not_tai : (bits_in ws (7 * k + 1) ≡ 0 → ⊥) → None ≡ cover_at ws k
+  not_tai l = go (is_accepted ws k) refl
+    where
+      go : (t : Bool) → is_accepted ws k ≡ t → None ≡ cond t (Some (ends_of (correlation_at ws k))) None
+      go true e =
+          let z = field_bits 1 (word_in ws (7 * k + 1)) (kept (and_both (words_kept ws k) (accepted (correlation_at ws k)) e).0).code in
+          absurd (l (omega arith))
+      go false e = refl
+
   module _ (c : Correlation) (h : Taken ws k c) (m : mag (word_in ws (7 * k)) < 9223372036854775808) (n : mag (word_in ws (7 * k + 1)) < 9223372036854775808)
       (l : bits_in ws (7 * k) ≤ 4294967295) (i : bits_in ws (7 * k + 1) ≡ 0) where
     -- what is accepted has small numbers, so none is negative
@@ -161,8 +178,29 @@ module _ (ws : List ℤ) (k : ℕ) where
 
 -- ---- the cover after the one before it
 module _ (ws : List ℤ) (k before : ℕ) where
+  pub next_none : cover_at ws k ≡ None → None ≡ next_at ws k before
+  next_none e = rw (covered_none (is_accepted ws k) (ends_of (correlation_at ws k)) e)
+
   pub may_next : (v : Ends) → next_at ws k before ≡ Some v → (may_come ws k before ≡ true) × (ends_of (correlation_at ws k) ≡ v)
   may_next v e = covered_at (may_come ws k before) (ends_of (correlation_at ws k)) v e
 
   pub may_not : next_at ws k before ≡ None → may_come ws k before ≡ false
   may_not e = covered_none (may_come ws k before) (ends_of (correlation_at ws k)) e
+
+  module _ (v : Ends) (e : cover_at ws k ≡ Some v) where
+    pub next_first : k ≡ 0 → Some v ≡ next_at ws k before
+    next_first z =
+        let f = covered_at (is_accepted ws k) (ends_of (correlation_at ws k)) v e in rw (f.0, eq-eqb k 0 z) (ap Some (sym f.1))
+
+    module _ (z : k ≡ 0 → ⊥) where
+      pub next_early : v.from ≤ before → None ≡ next_at ws k before
+      next_early h =
+          let f = covered_at (is_accepted ws k) (ends_of (correlation_at ws k)) v e in
+          let l : ltb before (ends_of (correlation_at ws k)).from ≡ false = ap (λ (x : Ends). ltb before x.from) f.1 ∙ le-ltb before v.from h in
+          rw (f.0, ne_eqb k 0 z, l)
+
+      pub next_later : before < v.from → Some v ≡ next_at ws k before
+      next_later h =
+          let f = covered_at (is_accepted ws k) (ends_of (correlation_at ws k)) v e in
+          let l : ltb before (ends_of (correlation_at ws k)).from ≡ true = ap (λ (x : Ends). ltb before x.from) f.1 ∙ lt-ltb before v.from h in
+          rw (f.0, ne_eqb k 0 z, l) (ap Some (sym f.1))

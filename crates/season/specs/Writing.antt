@@ -1,5 +1,5 @@
 -- What the writer judges and what it writes, from places to the meaning: covers that rise, an entry, a body. Assumes nothing.
-use Rattle.std.specs.Prelude.{◌≡◌, refl, Bool, true, false, ◌&&◌, ◌||◌, List, [], ◌++◌, ℕ, zero, suc, ◌+◌, ◌*◌, ◌<◌, min, ltb, eqb, ℤ, length, take, drop, Some}
+use Rattle.std.specs.Prelude.{◌≡◌, refl, Bool, true, false, ◌&&◌, ◌||◌, List, [], ◌++◌, ℕ, zero, suc, ◌+◌, ◌*◌, ◌<◌, min, ltb, eqb, ℤ, length, take, drop, Some, None}
 use Rattle.std.proofs.Common.{sym, ap, ap₂, ◌∙◌, arith, length-append, lt-ltb, le-ltb}
 use Rattle.std.proofs.Math.Bool.{and-true}
 use Rattle.std.proofs.Math.Dec.{eqb-suc-zero}
@@ -72,6 +72,12 @@ module _ (ws : List ℤ) (k : ℕ) (w : Writes ws k) where
   found_is v q =
       let r : Some v ≡ Some (ends_of (correlation_at ws k)) = q ∙ rw (keeps ws k w.kept, w.accepts) in cc
 
+  pub found_none : None ≡ cover_at ws k → ⊥
+  found_none q =
+      let r : None ≡ Some (ends_of (correlation_at ws k)) = q ∙ rw (keeps ws k w.kept, w.accepts) in
+      let z : ◌≡◌ {A = ℕ} 0 1 = cc in
+      omega arith
+
   pub from_is : held_micros_at (ends_of (correlation_at ws k)).from ≡ (cover_of (correlation_at ws k)).from
   from_is =
       let c = correlation_at ws k in
@@ -101,6 +107,9 @@ module _ (ws : List ℤ) (k : ℕ) (w : Writes ws k) where
   -- ---- a body: what was taken is the meaning's correlation
   pub taken_same : (c : Correlation) → Taken ws k c → c ≡ correlation_at ws k
   taken_same c t = t.is ∙ taken_is ws k w.kept
+
+  pub taken_under : (c : Correlation) → Taken ws k c → c.micro < 86400000000
+  taken_under c t = rw (taken_same c t) (sound (correlation_at ws k) w.accepts).under
 
   -- its reference's microsecond, by its place
   since_is : held_micros_at (spot (correlation_at ws k).day (correlation_at ws k).micro) ≡ since (correlation_at ws k).day (correlation_at ws k).micro

@@ -1,5 +1,5 @@
 -- The ways out of parsing a text. Assumes nothing.
-use Rattle.std.specs.Prelude.{◌≡◌, refl, Bool, true, false, cond, ◌||◌, ◌&&◌, List, ℕ, ◌<◌, eqb, leb, ltb, ℤ, drop, Result, Ok, Err}
+use Rattle.std.specs.Prelude.{◌≡◌, refl, Bool, true, false, cond, ◌||◌, ◌&&◌, List, ℕ, ◌≤◌, ◌<◌, eqb, leb, ltb, ℤ, drop, Result, Ok, Err}
 use Rattle.std.proofs.Math.Path.{sym}
 use Rattle.std.proofs.Common.{◌∙◌, arith, eqb-true, leb-true, ltb-true, ne_eqb}
 use Rattle.std.proofs.lemmas.Bool.{false≢true}
@@ -23,6 +23,15 @@ use Rattle.text_read.specs.Stage.{Parses, body_chain, ParsesBody, ParsesText}
 use Rattle.text_fields.specs.declared.Stamp.{Stamp}
 use Rattle.scales.specs.declared.Record.{Record}
 use Rattle.scales.specs.declared.Refusal.{Refusal}
+
+-- ---- the lengths
+pub either_from : (n a b : ℕ) → a ≤ b → (eqb n a || eqb n b) ≡ true → a ≤ n
+either_from n a b h e = go (eqb n a) refl (eqb n b) refl e
+  where
+    go : (x : Bool) → eqb n a ≡ x → (y : Bool) → eqb n b ≡ y → (x || y) ≡ true → a ≤ n
+    go true p y q k = omega (arith, eqb-true n a p)
+    go false p true q k = omega (arith, eqb-true n b q)
+    go false p false q k = absurd (false≢true k)
 
 -- ---- the limits
 pub record Limited (t : Stamp) : Type 0 where

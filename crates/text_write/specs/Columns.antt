@@ -1,6 +1,6 @@
 -- The columns of a text: what a stamp must hold to be written there, and what stands in a slice piece after piece. Assumes nothing.
 use Rattle.std.specs.Prelude.{◌≡◌, refl, Bool, true, false, ltb, length, set, take, drop}
-use Rattle.std.proofs.Common.{sym, ap, ◌∙◌, add-zero, zero-add, ltb-true}
+use Rattle.std.proofs.Common.{sym, ap, ◌∙◌, add-zero, zero-add, length-set, ltb-true, lt-ltb, le-ltb}
 use mathlib.Core.List.{List, [], ◌∷◌, ◌++◌}
 use Prim.Native.Nat.{ℕ, suc, ◌+◌, ◌/◌, ◌%◌, ◌≤◌, ◌<◌}
 use native.Mathlib.Omega.{arith}
@@ -45,11 +45,17 @@ after xs ys l at m e = ap (λ (x : List ℕ). sets x (at + length xs) ys) e ∙ 
 pub front_put : (xs l : List ℕ) → length xs ≤ length l → sets l 0 xs ≡ onto xs l
 front_put xs l h = sets-eq xs l 0 (omega arith) ∙ rw zero-add (sym (onto_room xs l h))
 
--- a slice keeps its length where a piece is put
+-- a slice keeps its length: a piece put, also after one byte
 pub as_long : (xs l m : List ℕ) (at : ℕ) → m ≡ sets l at xs → length m ≡ length l
 as_long xs l m at e = ap length e ∙ length-sets l at xs
 
+pub marked_long : (xs l m : List ℕ) (i b at : ℕ) → m ≡ sets (set l i b) at xs → length m ≡ length l
+marked_long xs l m i b at e = as_long xs (set l i b) m at e ∙ length-set l i b
+
 module _ (out : List ℕ) (at : ℕ) where
+  pub pair_laid : (v : ℕ) → v < 100 → set (set out at (48 + v / 10)) (at + 1) (48 + v % 10) ≡ sets out at (pair v)
+  pair_laid v h = let e : 48 + v / 10 ≡ tens v = omega arith in rw e (next (tens v ∷ []) (units v ∷ []) out at)
+
   pub name_laid : (m n : ℕ) → n ≡ name_of m → set (set (set out at (n / 65536 % 256)) (at + 1) (n / 256 % 256)) (at + 2) (n % 256) ≡ sets out at (letters_of m)
   name_laid m n e =
       let a : n / 65536 % 256 ≡ letter m 0 = omega (arith, e, letter_small m 0, letter_small m 1, letter_small m 2) in
@@ -115,6 +121,16 @@ module _ (out : List ℕ) (at : ℕ) where
 
 -- ---- the fields of a time
 module _ (d : Date) (u : ℕ) where
+  pub stamp_day : u / 1000000 < 86400
+      → record { date = d; hour = u / 1000000 / 60 / 60; minute = u / 1000000 / 60 % 60; second = u / 1000000 % 60; micro = u % 1000000 } ≡ stamp_of d u
+  stamp_day h =
+      let a : u / 1000000 / 60 / 60 ≡ u / 3600000000 = omega arith in
+      let b : u / 1000000 / 60 ≡ u / 60000000 = omega arith in
+      rw (lt-ltb u 86400000000 (omega arith), a, b)
+
+  pub stamp_second : 86400 ≤ u / 1000000 → record { date = d; hour = 23; minute = 59; second = 60; micro = u % 1000000 } ≡ stamp_of d u
+  stamp_second h = rw (le-ltb u 86400000000 (omega arith))
+
   -- those of a date of the calendar fit their columns
   pub stamp_fits : d.year < 10000 → (1 ≤ d.month) × (d.month ≤ 12) → d.day < 100 → u < 86401000000 → Fits (stamp_of d u)
   stamp_fits y m k l = go (ltb u 86400000000) refl

@@ -1,9 +1,10 @@
 -- Laws of the image of a text: its bytes, and how it stands on a slice. Assumes nothing.
-use Rattle.std.specs.Prelude.{◌≡◌, refl, Bool, true, false, cond, ℕ, ◌+◌, ◌≤◌, ◌<◌, drop, Ok, Err}
+use Rattle.std.specs.Prelude.{◌≡◌, refl, Bool, true, false, cond, ℕ, ◌+◌, ◌≤◌, ◌<◌, get_or, set, drop, Ok, Err}
 use Rattle.std.proofs.Math.Path.{sym, ap, ap₂}
 use Rattle.std.proofs.Common.{◌∙◌, arith, length-append, length-drop, le-leb}
 use mathlib.Core.List.{List, [], ◌++◌}
 use Rattle.std.proofs.Math.ListN.{length, take}
+use Rattle.std.proofs.lemmas.List.Edits.{sets}
 use Rattle.std.proofs.lemmas.Bool.{lt-leb}
 use Rattle.octets.specs.Meaning.{onto}
 use Rattle.octets.specs.Place.{onto_room, length_onto, rest_onto}
@@ -51,6 +52,13 @@ full_is f z t = go (shows_scale f)
     go false = refl
 
 -- ---- the prefix, as it was put
+copied : (z : Scale) (out p : List ℕ) → p ≡ prefix_of z
+    → set (set (set (set out 0 (get_or p 0 0)) 1 (get_or p 1 0)) 2 (get_or p 2 0)) 3 (get_or p 3 0) ≡ sets out 0 (prefix_of z)
+unfolding prefix_of
+copied S.Tai out p e = rw e
+copied S.Utc out p e = rw e
+copied S.Gps out p e = rw e
+
 module _ (f : Form) (z : Scale) (out : List ℕ) where
   pub prefix_none : shows_scale f ≡ false → (0 ≡ length (prefix_in f z)) × (out ≡ onto (prefix_in f z) out)
   prefix_none q =

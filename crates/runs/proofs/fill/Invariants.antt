@@ -1,10 +1,6 @@
-use Rattle.std.proofs.Common.{◌≡◌, ◌%◌}
 use Rattle.runs.specs.Filling.{Filled}
 use Rattle.runs.proofs.fill.Given as goal
 
 -- before packet i the dates before it are written, and the rest is as it was
 abbrev pub invariant-loop-i : goal.invariant-loop-i
-invariant-loop-i l = record {
-  leads : l.before ≡ l.total % 65536;
-  filled : Filled l.bytes l.n l.from l.told l.initial.dates l.dates l.total l.i;
-}
+invariant-loop-i l = Filled l.bytes l.n l.from l.told l.initial.dates l.dates l.total.units l.i

@@ -1,4 +1,4 @@
-use Rattle.std.proofs.Common.{◌≡◌, rules, ap, ◌∙◌, Ok, Err}
+use Rattle.std.proofs.Common.{◌≡◌, ℕ, rules, ap, ◌∙◌, Ok, Err}
 use Rattle.scales.specs.Meaning.{slip, remark}
 use Rattle.scales.specs.Marks.{remark_refused}
 use Rattle.scales.specs.declared.Record.{Record}
@@ -21,5 +21,7 @@ returns c =
     let a = c.args in
     let l = a.list.now in
     let f : slip (Ok c.in_ok-r.r) ≡ unmarked_of a.c a.tick.0 a.receipt.day a.receipt.micro l.days l.offsets l.last = search rules in
+    let t : c.from.result ≡ a.c.tick.0 = search rules in
     ap (λ (r : Record). slip (Ok r)) c.with_mark.ensures
+    ∙ ap (λ (n : ℕ). remark (M.Correlated n) (slip (Ok c.in_ok-r.r))) t
     ∙ ap (remark (M.Correlated a.c.tick.0)) f ∙ marked_is a.c l.days l.offsets l.last a.tick.0 a.receipt.day a.receipt.micro
