@@ -54,6 +54,16 @@ def _param(text):
     return Param(found[1], rest, "holds" if "&" in rest or "'" in rest else kind)
 
 
+def _behind(text, at):
+    """The place behind the type parameters that stand at `at`, or `at` where there are none."""
+    depth = 0
+    for found in re.compile(r"->|[<>]").finditer(text, at) if text[at] == "<" else ():
+        depth += {"<": 1, ">": -1}.get(found[0], 0)
+        if depth == 0:
+            return found.end()
+    return at
+
+
 def _bring(tree, imports):
     """Adds what a `ghost use` brings by name."""
     found = re.fullmatch(r"\s*([^{]*?)\.\{(.*)\}\s*", tree, re.S)
@@ -180,7 +190,7 @@ class Crate:
         path, line, modules, owner = place
         name = re.compile(r"\w+").match(text, at)[0]
         try:
-            at = seek(text, at, _OPEN)
+            at = seek(text, _behind(text, at + len(name)), _OPEN)
             shut = closing(text, at)
             inside = re.sub(r"<[^<>]*>", lambda lifetimes: lifetimes[0].replace(",", " "), text[at + 1 : shut])
             params = [_param(part) for part in parts(inside)]

@@ -1,5 +1,6 @@
 // Times, counts and ticks in bytes, for C.
-ghost use Rattle.std.specs.Prelude.{◌≡◌};
+ghost use Rattle.std.specs.Prelude.{◌≡◌, List, ℕ};
+ghost use Rattle.scales.specs.Meaning.{Judged, outcome, written, wrote};
 ghost use Rattle.layout_fields.specs.Goce.{read as goce_read, write as goce_write};
 ghost use Rattle.layout_fields.specs.Obet.{read as obet_read, write as obet_write};
 ghost use Rattle.layout_fields.specs.Sbt.{read as sbt_read, write as sbt_write};
@@ -80,34 +81,39 @@ pub fn vrk_sbt_read(bytes: &[u8]) -> VrkCount
     layout_fields::sbt::read(bytes).into()
 }
 
-#[tactic(auto, using(crate::proofs::Ways::handed_three))]
+// A handed time by its layout's writer, or 3: for each meaning m that the writer has, the bytes are those of m.
+fn write_by<W: FnOnce(Handed, &mut [u8]) -> Result<usize, Refusal>>(
+    time: VrkHanded,
+    out: &mut [u8],
+    write: W,
+) -> VrkWritten
+    requires { W.IsAlwaysCallable write }
+    ensures { (m : Handed → List ℕ → Judged (List ℕ)) →
+        ((h : _) (b : _) (r : _) (a : _) → W.post write h b r a → wrote r a.now ≡ written b.now (outcome (m h b.now))) →
+        wrote_of result out.new ≡ writes (handed_writing m time) out.old }
+{
+    match Handed::try_from(time) {
+        Ok(h) => write(h, out).into(),
+        Err(_) => REFUSED,
+    }
+}
+
 pub fn vrk_cuc_write(time: VrkHanded, out: &mut [u8]) -> VrkWritten
     ensures { wrote_of result out.new ≡ writes (handed_writing cuc_writing time) out.old }
 {
-    let Ok(h) = Handed::try_from(time) else {
-        return REFUSED;
-    };
-    layout_times::cuc::write(h, out).into()
+    write_by(time, out, layout_times::cuc::write)
 }
 
-#[tactic(auto, using(crate::proofs::Ways::handed_three))]
 pub fn vrk_cryosat_write(time: VrkHanded, out: &mut [u8]) -> VrkWritten
     ensures { wrote_of result out.new ≡ writes (handed_writing cryosat_writing time) out.old }
 {
-    let Ok(h) = Handed::try_from(time) else {
-        return REFUSED;
-    };
-    layout_times::cryosat::write(h, out).into()
+    write_by(time, out, layout_times::cryosat::write)
 }
 
-#[tactic(auto, using(crate::proofs::Ways::handed_three))]
 pub fn vrk_siral_write(time: VrkHanded, out: &mut [u8]) -> VrkWritten
     ensures { wrote_of result out.new ≡ writes (handed_writing siral_writing time) out.old }
 {
-    let Ok(h) = Handed::try_from(time) else {
-        return REFUSED;
-    };
-    layout_times::siral::write(h, out).into()
+    write_by(time, out, layout_times::siral::write)
 }
 
 pub fn vrk_goce_write(count: u64, out: &mut [u8]) -> VrkWritten
@@ -134,12 +140,8 @@ pub fn vrk_proteus_read(bytes: &[u8]) -> VrkTime
     layout_times::proteus::read(bytes).into()
 }
 
-#[tactic(auto, using(crate::proofs::Ways::handed_three))]
 pub fn vrk_proteus_write(time: VrkHanded, out: &mut [u8]) -> VrkWritten
     ensures { wrote_of result out.new ≡ writes (handed_writing proteus_writing time) out.old }
 {
-    let Ok(h) = Handed::try_from(time) else {
-        return REFUSED;
-    };
-    layout_times::proteus::write(h, out).into()
+    write_by(time, out, layout_times::proteus::write)
 }
