@@ -5,6 +5,7 @@
 ghost use Rattle.std.specs.Prelude.{◌≤◌};
 
 use calendar::Date;
+use itoa::{Buffer, Integer};
 use std::env::Env;
 use std::fmt::{self, Write};
 
@@ -23,41 +24,78 @@ impl<P: Print> Page<'_, P> {
         let _ = self.to.write_all(&self.bytes[..self.used]);
         self.used = 0;
     }
+
+    // There is room for a line where one begins.
+    fn put(&mut self, b: u8) {
+        if self.used < 4096 {
+            self.bytes[self.used] = b;
+            self.used += 1;
+        }
+    }
+
+    fn end(&mut self) {
+        self.put(b'\n');
+        if 4000 < self.used {
+            self.flush();
+        }
+    }
+
+    // By itself, since `write!` takes twice as long for a date.
+    fn number(&mut self, n: impl Integer) {
+        for b in Buffer::new().format(n).as_bytes() {
+            self.put(*b);
+        }
+    }
+
+    fn date(&mut self, date: Date) {
+        self.number(date.year);
+        self.put(b' ');
+        self.number(date.month);
+        self.put(b' ');
+        self.number(date.day);
+    }
 }
 
 impl<P: Print> Write for Page<'_, P> {
     fn write_str(&mut self, s: &str) -> fmt::Result {
-        if self.bytes.len() - self.used < s.len() {
-            self.flush();
+        for b in s.as_bytes() {
+            self.put(*b);
         }
-        let end = self.used + s.len();
-        self.bytes
-            .get_mut(self.used..end)
-            .ok_or(fmt::Error)?
-            .copy_from_slice(s.as_bytes());
-        self.used = end;
         Ok(())
     }
 }
 
 // The date of a day.
-fn dated(page: &mut impl Write, day: i64) -> fmt::Result {
+fn dated(page: &mut Page<impl Print>, day: i64) -> fmt::Result {
+    page.number(day);
     match calendar::date_of(day) {
-        Ok(t) => writeln!(page, "{day} {} {} {}", t.year, t.month, t.day),
-        Err(f) => writeln!(page, "{day} refused {}", f.number()),
+        Ok(t) => {
+            page.put(b' ');
+            page.date(t);
+        }
+        Err(f) => write!(page, " refused {}", f.number())?,
     }
+    page.end();
+    Ok(())
 }
 
 // The day of a date.
-fn counted(page: &mut impl Write, year: u64, month: u64, day: u64) -> fmt::Result {
-    match calendar::day_of(Date { year, month, day }) {
-        Ok(n) => writeln!(page, "{year} {month} {day} {n}"),
-        Err(f) => writeln!(page, "{year} {month} {day} refused {}", f.number()),
+fn counted(page: &mut Page<impl Print>, year: u64, month: u64, day: u64) -> fmt::Result {
+    let date = Date { year, month, day };
+    page.date(date);
+    match calendar::day_of(date) {
+        Ok(n) => {
+            page.put(b' ');
+            page.number(n);
+        }
+        Err(f) => write!(page, " refused {}", f.number())?,
     }
+    page.end();
+    Ok(())
 }
 
 // Whether each of the days is the first of a month.
-fn firsts(page: &mut impl Write, days: &[i64]) -> fmt::Result {
+fn firsts(page: &mut Page<impl Print>, days: &[i64]) -> fmt::Result {
     write!(page, "firsts")?;
     for day in days {
         write!(page, " {day}")?;
@@ -67,11 +105,13 @@ fn firsts(page: &mut impl Write, days: &[i64]) -> fmt::Result {
     } else {
         "no"
     };
-    writeln!(page, " {told}")
+    write!(page, " {told}")?;
+    page.end();
+    Ok(())
 }
 
 // The span and two days before and after it.
-fn every(page: &mut impl Write) -> fmt::Result {
+fn every(page: &mut Page<impl Print>) -> fmt::Result {
     for day in -10_229..36_527 {
         dated(page, day)?;
     }
@@ -79,7 +119,7 @@ fn every(page: &mut impl Write) -> fmt::Result {
 }
 
 // The ends of the span, the first day of GPS, and the leap days of 1972 and 2000.
-fn some_days(page: &mut impl Write) -> fmt::Result {
+fn some_days(page: &mut Page<impl Print>) -> fmt::Result {
     for day in [
         -10_228, -10_227, -10_168, -10_167, -7_300, -1, 0, 59, 60, 36_524, 36_525,
     ] {
@@ -89,7 +129,7 @@ fn some_days(page: &mut impl Write) -> fmt::Result {
 }
 
 // Dates of the rule, within the span and outside it.
-fn some_dates(page: &mut impl Write) -> fmt::Result {
+fn some_dates(page: &mut Page<impl Print>) -> fmt::Result {
     for (year, month, day) in [
         (0, 2, 29),
         (1971, 12, 31),
@@ -107,7 +147,7 @@ fn some_dates(page: &mut impl Write) -> fmt::Result {
 }
 
 // What the rule lacks.
-fn no_dates(page: &mut impl Write) -> fmt::Result {
+fn no_dates(page: &mut Page<impl Print>) -> fmt::Result {
     for (year, month, day) in [
         (1900, 2, 29),
         (2000, 2, 30),
@@ -124,14 +164,14 @@ fn no_dates(page: &mut impl Write) -> fmt::Result {
     Ok(())
 }
 
-fn some_firsts(page: &mut impl Write) -> fmt::Result {
+fn some_firsts(page: &mut Page<impl Print>) -> fmt::Result {
     firsts(page, &[-10_227, 0, 36_525])?;
     firsts(page, &[0, 1])?;
     firsts(page, &[-10_258])?;
     firsts(page, &[36_556])
 }
 
-fn some(page: &mut impl Write) -> fmt::Result {
+fn some(page: &mut Page<impl Print>) -> fmt::Result {
     some_days(page)?;
     some_dates(page)?;
     no_dates(page)?;
