@@ -178,7 +178,9 @@ pub fn has_prefix(z: Scale, s: &[u8]) -> bool
     requires { 4 ≤ length s.now }
     ensures { result ≡ has_prefix z s.now }
 {
-    s.starts_with(&text_fields::inner::prefix(z))
+    // Byte by byte, which is faster than `starts_with`.
+    let p = text_fields::inner::prefix(z);
+    s[0] == p[0] && s[1] == p[1] && s[2] == p[2] && s[3] == p[3]
 }
 
 // The scale of a prefix, UTC where it is none of the three.
