@@ -56,8 +56,12 @@ module _ (ds : List ℤ) (os : List ℕ) (e : ℤ) where
         let k = timed_no r.scale r.day r.micro f y q in
         q ∙ spanned_out r.scale r.day r.micro k.0 ∙ sym (rw (list_passes r.scale w, k.0))
 
-    pub judge_plain : (t : Time) → slip_timed (Ok t) ≡ spanned r.scale r.day r.micro → is_utc r.scale ≡ false → Judges (dated r.scale (answer (record_moment r)))
-    judge_plain t q u = sym (rw ((timed_at r.scale r.day r.micro t q).0, u))
+    pub judge_plain : in_span r.scale r.day r.micro ≡ true → is_utc r.scale ≡ false → Judges (dated r.scale (answer (record_moment r)))
+    judge_plain i u = sym (rw (i, u))
+
+    -- of a record that was taken as a time
+    pub judge_taken : (t : Time) → slip_timed (Ok t) ≡ spanned r.scale r.day r.micro → is_utc r.scale ≡ false → Judges (dated r.scale (answer (record_moment r)))
+    judge_taken t q u = judge_plain (timed_at r.scale r.day r.micro t q).0 u
 
     -- of UTC also 9 and 10, by the place of the day
     pub record InUtc (p : ℕ) : Type 0 where

@@ -32,6 +32,16 @@ module _ {s : Scale} {n : ℕ} {ds : List ℤ} {os : List ℕ} {z e : ℤ} (q : 
   pub list_there : {r : Result Tai Refusal} → accepted ds os z ≡ true → Left (of_count s n (from_scale s ds os z)) r → ByList s n ds os e r
   list_there {r} h w = subst (λ (y : ℤ). ByList s n ds os y r) q (record { left = record { is = w.is ∙ sym (rw h); held = w.held } })
 
+  module _ {r : Result Tai Refusal} (w : ByList s n ds os z r) (to : Scale) where
+    abbrev by : ℤ → Slip
+    by y = dated to (outcome (and_then (by_list s n ds os y) (to_scale to ds os y)))
+
+    pub list_on : {t : Tai} {x : Slip} → r ≡ Ok t → x ≡ dated to (outcome (to_scale to ds os z (micros_at t.0))) → x ≡ by e
+    list_on g h = way_on w.left to (to_scale to ds os z) g h ∙ ap by q
+
+    pub list_out : {f : Refusal} → r ≡ Err f → dated to (refused (number_of f)) ≡ by e
+    list_out g = way_out w.left to (to_scale to ds os z) g ∙ ap by q
+
 module _ {s : Scale} {n : ℕ} {ds : List ℤ} {os : List ℕ} {z : ℤ} {r : Result Tai Refusal} (w : ByList s n ds os z r) {t : Tai} (g : r ≡ Ok t) where
   pub list_held : OnTheWay t.0
   list_held = way_held w.left g
@@ -59,11 +69,15 @@ module _ (s to : Scale) (n : ℕ) where
     known : (m ≡ l) × (accepted l.days l.offsets l.last ≡ true)
     known = handed_on (accepted l.days l.offsets l.last) h
 
-    changed : {x : Slip} → x ≡ dated to (outcome (way m)) → Changes l x
-    changed g = g ∙ ap (λ (k : LeapList). dated to (outcome (way k))) known.0 ∙ list_in to l.days l.offsets l.last (way l) known.1
+    -- the way is the one that the list, judged before, leaves open
+    there : ByList s n m.days m.offsets m.last r
+    there = list_there refl (rw known.0 known.1) w
 
-    pub list_on : {t : Tai} {x : Slip} → r ≡ Ok t → x ≡ dated to (outcome (to_scale to m.days m.offsets m.last (micros_at t.0))) → Changes l x
-    list_on g i = changed (way_on w to (to_scale to m.days m.offsets m.last) g i)
+    lent : {x : Slip} → x ≡ dated to (outcome (with_list m.days m.offsets m.last (way m))) → Changes l x
+    lent g = g ∙ ap (λ (k : LeapList). dated to (outcome (with_list k.days k.offsets k.last (way k)))) known.0
 
-    pub list_out : {f : Refusal} → r ≡ Err f → Changes l (dated to (refused (number_of f)))
-    list_out g = changed (way_out w to (to_scale to m.days m.offsets m.last) g)
+    pub changed_on : {t : Tai} {x : Slip} → r ≡ Ok t → x ≡ dated to (outcome (to_scale to m.days m.offsets m.last (micros_at t.0))) → Changes l x
+    changed_on g i = lent (list_on refl there to g i)
+
+    pub changed_out : {f : Refusal} → r ≡ Err f → Changes l (dated to (refused (number_of f)))
+    changed_out g = lent (list_out refl there to g)

@@ -61,6 +61,9 @@ module _ (s : Scale) (h : Handed) where
         let q = sym (told_scale h t w) ∙ e in
         rw (w.finite, w.inside, eq-eqb (code_of s) (code_of (scale_of h)) (ap code_of (sym q)), told_count h t w, q)
 
+    pub due_at_code : code_of (time_scale t) ≡ code_of s → value_slip 0 (Ok (time_count t)) ≡ valued 0 (outcome (due_in s h))
+    due_at_code e = due_at (scales_same (time_scale t) s e)
+
 -- ---- what a number that was taken tells
 pub record Held (h : Handed) (has : Bool) (m n : ℕ) : Type 0 where
   pub finite : is_finite h ≡ true

@@ -81,6 +81,12 @@ module _ {A Y : Type 0} (number : Y → ℕ) (slip_of : Result A Refusal → Y)
   same_valued (Err f) (Ok b) e = absurd (no_zero f (sym (none f) ∙ ap number e ∙ some b))
   same_valued (Err f) (Err g) e = ap Err (refusals f g (sym (none f) ∙ ap number e ∙ none g))
 
+-- an answer that is made of its reply is known by its slip, whatever the slip shows of the reply
+module _ {A X Y : Type 0} (slip_of : Result A Refusal → Y) (one : (a b : Result A Refusal) → slip_of a ≡ slip_of b → a ≡ b)
+    (reply : X → Result A Refusal) (make : Result A Refusal → X) (back : (x : X) → make (reply x) ≡ x) where
+  pub same_made : (x y : X) → slip_of (reply x) ≡ slip_of (reply y) → x ≡ y
+  same_made x y e = sym (back x) ∙ ap make (one (reply x) (reply y) e) ∙ back y
+
 pub same_reply : {A : Type 0} (z : A) (a b : Result A Refusal) → value_slip z a ≡ value_slip z b → a ≡ b
 same_reply z = same_valued (λ (v : Valued _). v.number) (value_slip z) (λ a. refl) (λ f. refl) (λ a b e i. (e i).value)
 

@@ -61,7 +61,7 @@ module _ (to : Scale) (ds : List ℤ) (os : List ℕ) (e : ℤ) where
           ∙ ap (λ (m : Moment). outcome (into r.scale m)) (moment_of_lem r.scale r.day r.micro k.0)
           ∙ twice r.scale (record_moment r))
 
-      in_outside : (f : Refusal) (z : Scale) → slip_timed (Err (refused_of z f)) ≡ spanned r.scale r.day r.micro → dated to (refused (number_of f)) ≡ dated to (outcome (record_in r))
+      pub in_outside : (f : Refusal) (z : Scale) → slip_timed (Err (refused_of z f)) ≡ spanned r.scale r.day r.micro → dated to (refused (number_of f)) ≡ dated to (outcome (record_in r))
       in_outside f z q =
           let k = timed_no r.scale r.day r.micro f z q in
           ap (λ (g : Refusal). dated to (refused (number_of g))) k.1.0 ∙ sym (rw (list_passes ds os e r.scale (λ h. w), k.0))

@@ -117,20 +117,26 @@ module _ (z : Scale) (s : List ℕ) where
   abbrev date : Date
   date = (stamp_in s).date
 
-  pub body_date : day_slip (Err R.FieldOver) ≡ day_of_date date → ParsesBody z s (Err R.FieldOver)
+  pub body_date_number : (day_of_date date).number ≡ 3 → ParsesBody z s (Err R.FieldOver)
   unfolding is_body
-  body_date q = body_lacks (rw (lacks date (λ i. (sym q i).number), and_false (in_limits z (stamp_in s))) (and_false (has_marks s)))
+  body_date_number q = body_lacks (rw (lacks date q, and_false (in_limits z (stamp_in s))) (and_false (has_marks s)))
+
+  pub body_date : day_slip (Err R.FieldOver) ≡ day_of_date date → ParsesBody z s (Err R.FieldOver)
+  body_date q = body_date_number (λ i. (sym q i).number)
 
   module _ (m : has_marks s ≡ true) (l : in_limits z (stamp_in s) ≡ true) where
     is_body_lem : ((day_of_date date).number ≡ 3 → ⊥) → is_body z s ≡ true
     unfolding is_body
     is_body_lem q = rw (m, l, has date q)
 
+    pub body_outside_number : ((day_of_date date).number ≡ 3 → ⊥) → ((day_of_date date).number ≡ 0 → ⊥) → ParsesBody z s (Ok (outside_of z))
+    body_outside_number q r = record { is = (refl, λ ds os e. rw (outside_span_lem z, is_body_lem q, ne_eqb (day_of_date date).number 0 r)) }
+
     -- a date that is no field over has no day, but is one of the rule
     pub body_outside : (f : Refusal) → day_slip (Err f) ≡ day_of_date date → (f ≡ R.FieldOver → ⊥) → ParsesBody z s (Ok (outside_of z))
     body_outside f q w =
         let n : number_of f ≡ (day_of_date date).number = λ i. (q i).number in
-        record { is = (refl, λ ds os e. rw (outside_span_lem z, is_body_lem (λ k. w (refusals f R.FieldOver (n ∙ k))), ne_eqb (day_of_date date).number 0 (λ k. no_zero f (n ∙ k)))) }
+        body_outside_number (λ k. w (refusals f R.FieldOver (n ∙ k))) (λ k. no_zero f (n ∙ k))
 
     pub body_at : (d : ℤ) → day_slip (Ok d) ≡ day_of_date date → ParsesBody z s (Ok (record_of z d (stamp_micro (stamp_in s))))
     body_at d q =

@@ -16,6 +16,7 @@ use Rattle.text_fields.specs.declared.Stamp.{Stamp}
 use Rattle.text_fields.specs.Meaning.{prefix_of}
 use Rattle.text_write.specs.Meaning.{text_of, body_of, has_micros, shows_scale, full_text}
 use Rattle.text_write.specs.Stage.{putting}
+use Rattle.text_write.specs.Columns.{front_put}
 use Rattle.text_write.specs.declared.Form.{Form}
 use Rattle.text_write.specs.declared.Form.TheVariants as F
 
@@ -76,6 +77,13 @@ module _ (f : Form) (z : Scale) (out : List ℕ) where
     prefix_put h p e =
         let n : 4 ≡ length (prefix_in f z) = omega (arith, ap length prefix_is, prefix_length z) in
         (n, ap₂ (λ (s : List ℕ) (k : ℕ). s ++ drop k out) (e ∙ sym prefix_is) n ∙ sym (onto_room (prefix_in f z) out h))
+
+    -- the same of a prefix that is laid byte by byte
+    pub prefix_set : length (prefix_in f z) ≤ length out → (p : List ℕ) → p ≡ prefix_of z →
+        (4 ≡ length (prefix_in f z)) × (set (set (set (set out 0 (get_or p 0 0)) 1 (get_or p 1 0)) 2 (get_or p 2 0)) 3 (get_or p 3 0) ≡ onto (prefix_in f z) out)
+    prefix_set h p e =
+        let l : length (prefix_of z) ≤ length out = omega (arith, ap length prefix_is) in
+        (omega (arith, ap length prefix_is, prefix_length z), copied z out p e ∙ front_put (prefix_of z) out l ∙ ap (λ (x : List ℕ). onto x out) (sym prefix_is))
 
 -- ---- the whole text
 module _ (f : Form) (z : Scale) (t : Stamp) (out : List ℕ) (n : ℕ) (size : n ≡ size_of f) where

@@ -3,7 +3,7 @@ use Rattle.scales.specs.Meaning.{slip_utc}
 use Rattle.scales.specs.declared.Scale.TheVariants as S
 use Rattle.leap.specs.Meaning.{accepted_or}
 use Rattle.changes.specs.Meaning.{gps_to_utc}
-use Rattle.changes.specs.Ways.{list_on, list_out}
+use Rattle.changes.specs.Ways.{changed_on, changed_out}
 use Rattle.changes.proofs.gps_to_utc.Goals as goal
 
 pub returns-in_err-list : goal.returns-in_err-list
@@ -15,10 +15,10 @@ unfolding gps_to_utc
 returns-in_err-from_gps c =
     let h : accepted_or c.args.list.now ≡ Ok c.in_ok-list.list = search rules in
     let f : slip_utc c.from_residual-in_err-from_gps.result ≡ slip_utc (Err c.in_err-from_gps.field-0.0) = search rules in
-    f ∙ list_out S.Gps S.Utc c.args.t.0 _ _ h c.from_gps.ensures c.in_err-from_gps.was
+    f ∙ changed_out S.Gps S.Utc c.args.t.0 _ _ h c.from_gps.ensures c.in_err-from_gps.was
 
 pub returns : goal.returns
 unfolding gps_to_utc
 returns c =
     let h : accepted_or c.args.list.now ≡ Ok c.in_ok-list.list = search rules in
-    list_on S.Gps S.Utc c.args.t.0 _ _ h c.from_gps.ensures c.in_ok-from_gps.was c.to_utc.ensures
+    changed_on S.Gps S.Utc c.args.t.0 _ _ h c.from_gps.ensures c.in_ok-from_gps.was c.to_utc.ensures

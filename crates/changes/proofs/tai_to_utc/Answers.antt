@@ -3,7 +3,7 @@ use Rattle.scales.specs.Meaning.{slip_utc}
 use Rattle.scales.specs.declared.Scale.TheVariants as S
 use Rattle.leap.specs.Meaning.{accepted_or}
 use Rattle.changes.specs.Meaning.{tai_to_utc}
-use Rattle.changes.specs.Ways.{list_on, list_out}
+use Rattle.changes.specs.Ways.{changed_on, changed_out}
 use Rattle.changes.proofs.tai_to_utc.Goals as goal
 
 pub returns-in_err-list : goal.returns-in_err-list
@@ -15,10 +15,10 @@ unfolding tai_to_utc
 returns-in_err-from_tai c =
     let h : accepted_or c.args.list.now ≡ Ok c.in_ok-list.list = search rules in
     let f : slip_utc c.from_residual-in_err-from_tai.result ≡ slip_utc (Err c.in_err-from_tai.field-0.0) = search rules in
-    f ∙ list_out S.Tai S.Utc c.args.t.0 _ _ h c.from_tai.ensures c.in_err-from_tai.was
+    f ∙ changed_out S.Tai S.Utc c.args.t.0 _ _ h c.from_tai.ensures c.in_err-from_tai.was
 
 pub returns : goal.returns
 unfolding tai_to_utc
 returns c =
     let h : accepted_or c.args.list.now ≡ Ok c.in_ok-list.list = search rules in
-    list_on S.Tai S.Utc c.args.t.0 _ _ h c.from_tai.ensures c.in_ok-from_tai.was c.to_utc.ensures
+    changed_on S.Tai S.Utc c.args.t.0 _ _ h c.from_tai.ensures c.in_ok-from_tai.was c.to_utc.ensures

@@ -3,7 +3,7 @@ use Rattle.scales.specs.Meaning.{slip_tai}
 use Rattle.scales.specs.declared.Scale.TheVariants as S
 use Rattle.leap.specs.Meaning.{accepted_or}
 use Rattle.changes.specs.Meaning.{utc_to_tai}
-use Rattle.changes.specs.Ways.{list_on, list_out}
+use Rattle.changes.specs.Ways.{changed_on, changed_out}
 use Rattle.changes.proofs.utc_to_tai.Goals as goal
 
 pub returns-in_err-list : goal.returns-in_err-list
@@ -15,10 +15,10 @@ unfolding utc_to_tai
 returns-in_err-from_utc c =
     let h : accepted_or c.args.list.now ≡ Ok c.in_ok-list.list = search rules in
     let f : slip_tai c.from_residual-in_err-from_utc.result ≡ slip_tai (Err c.in_err-from_utc.field-0.0) = search rules in
-    f ∙ list_out S.Utc S.Tai c.args.t.0 _ _ h c.from_utc.ensures c.in_err-from_utc.was
+    f ∙ changed_out S.Utc S.Tai c.args.t.0 _ _ h c.from_utc.ensures c.in_err-from_utc.was
 
 pub returns : goal.returns
 unfolding utc_to_tai
 returns c =
     let h : accepted_or c.args.list.now ≡ Ok c.in_ok-list.list = search rules in
-    list_on S.Utc S.Tai c.args.t.0 _ _ h c.from_utc.ensures c.in_ok-from_utc.was c.to_tai.ensures
+    changed_on S.Utc S.Tai c.args.t.0 _ _ h c.from_utc.ensures c.in_ok-from_utc.was c.to_tai.ensures

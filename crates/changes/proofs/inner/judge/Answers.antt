@@ -1,6 +1,6 @@
 use Rattle.std.proofs.Common.{rules, ◌≡◌, ◌∙◌, Err}
 use Rattle.scales.specs.Meaning.{slip, slip_timed, spanned}
-use Rattle.changes.specs.Asked.{in_utc, judge_outside, judge_plain, judge_place, judge_expired, judge_lacking, judge_stands}
+use Rattle.changes.specs.Asked.{in_utc, judge_outside, judge_taken, judge_place, judge_expired, judge_lacking, judge_stands}
 use Rattle.changes.proofs.inner.judge.Goals as goal
 
 pub returns-in_err-to_time : goal.returns-in_err-to_time
@@ -12,7 +12,7 @@ returns-in_err-to_time c =
     s ∙ judge_outside _ _ _ r c.requires f.refusal f.scale e
 
 pub returns-then-not-is_utc : goal.returns-then-not-is_utc
-returns-then-not-is_utc c = let k = judge_plain _ _ _ c.args.r c.requires c.in_ok-to_time.field-0 in search rules
+returns-then-not-is_utc c = let k = judge_taken _ _ _ c.args.r c.requires c.in_ok-to_time.field-0 in search rules
 
 pub has_micro-requires : goal.has_micro-requires
 has_micro-requires c =
