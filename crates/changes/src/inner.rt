@@ -20,7 +20,7 @@ fn to_scale(c: Tai, to: Scale, list: &List) -> Result<Record, Refused>
 {
     let time = match to {
         Scale::Tai => via_tai::inner::to_tai(c).map(Time::Tai),
-        Scale::Utc => via_tai::inner::to_utc(c, &list.known()).map(Time::Utc),
+        Scale::Utc => via_tai::inner::to_utc(c, &leap::inner::known(list)).map(Time::Utc),
         Scale::Gps => via_tai::inner::to_gps(c).map(Time::Gps),
     };
     Ok(time.map_err(|f| f.of(to))?.to_record())

@@ -11,15 +11,13 @@ use scales::{Scale, Tai, Utc};
 
 const SECOND: u64 = 1_000_000;
 
-impl<'a> List<'a> {
-    // A list that is known to be accepted: it is not tested.
-    pub fn known(&self) -> Accepted<'a>
-        requires { accepted self.now.days self.now.offsets self.now.last ≡ true }
-        ensures { result ≡ self.now }
-    {
-        Accepted {
-            list: List::new(self.days, self.offsets, self.last),
-        }
+// The list, which is known to be accepted: it is not tested.
+pub fn known<'a>(list: &List<'a>) -> Accepted<'a>
+    requires { accepted list.now.days list.now.offsets list.now.last ≡ true }
+    ensures { result ≡ list.now }
+{
+    Accepted {
+        list: List::new(list.days, list.offsets, list.last),
     }
 }
 

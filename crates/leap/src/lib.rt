@@ -139,7 +139,7 @@ impl<'a> List<'a> {
         if !self.is_accepted() {
             return Err(Refusal::ListNotAccepted);
         }
-        Ok(self.known())
+        Ok(inner::known(self))
     }
 }
 

@@ -76,7 +76,7 @@ pub fn from_time(t: Time, list: &List) -> Result<Tai, Refusal>
 {
     match t {
         Time::Tai(n) => from_tai(n),
-        Time::Utc(n) => from_utc(n, &list.known()),
+        Time::Utc(n) => from_utc(n, &leap::inner::known(list)),
         Time::Gps(n) => from_gps(n),
     }
 }
