@@ -37,14 +37,16 @@ held to the code by `./test`.
 
 A contract says VIEW result ≡ MEANING arguments. A view is one to one, by the theorem that `tools/views.txt`
 names, so a contract allows one result for each input. A slice "at exit" is what the lent memory holds as the
-function returns. What a static library exports to C has the contract of the function of its name, and stands in
-that one's row.
+function returns. Where the result is an argument or a field of one, that stands as the meaning, in no file; what
+is "known" besides is a fact of the arguments. What a static library exports to C has the contract of the function
+of its name, and stands in that one's row.
 """
 INNER = """
 ## Inner functions
 
 Shared between our own crates: they may require what their callers have judged, and nobody else calls them. What each
-requires stands here as in its source.
+requires stands here as in its source, and behind it each argument whose type knows a fact: an `Accepted` is a list that
+is accepted.
 """
 
 
@@ -62,6 +64,7 @@ class Cited:
 class Report:
     rows: list  # of (function, its Cited)
     failures: list
+    invariants: frozenset = frozenset()  # the types that know a fact of their values
 
 
 class Repository:
@@ -71,6 +74,8 @@ class Repository:
         sources = [Crate(root, name) for name in self.crates]
         self.functions = [function for source in sources for function in source.functions if function.public]
         self.holders = {name for source in sources for name in source.holders}
+        self.models = {name for source in sources for name in source.models}
+        self.invariants = {name for source in sources for name in source.invariants}
         self._defined, self._views, self._places = {}, {}, {}
         for number, line in enumerate(read(os.path.join(root, VIEWS)).splitlines(), 1):
             entry = line.split("#")[0].split()
@@ -158,6 +163,8 @@ def judge(repository, function):
     """What the contract of a function cites; Refused where it has another form."""
     if function.requires and not function.inner:
         raise Refused("it has a requires, and stands in no module inner")
+    if function.requires and function.owner:
+        raise Refused("it has a requires, and is a method: its caller names no module inner")
     if not all(map(plain, function.requires)):
         raise Refused("a requires is no plain fact")
     if not function.ensures:
@@ -170,6 +177,9 @@ def judge(repository, function):
     for clause in function.ensures:
         for fact in facts(clause, operators):
             cited.append(_cited(repository, function, fact))
+            # What is known of arguments alone says nothing of what they lead to.
+            if not (fact.relation or fact.result or fact.exits):
+                continue
             stated = stated or fact.result
             exits |= set(fact.exits)
             said |= set(map(named, words(fact.arguments)))
@@ -178,7 +188,8 @@ def judge(repository, function):
     if not stated:
         raise Refused("no clause states the result")
     for param in function.params:
-        if param.kind == "holds" or repository.holders.intersection(re.findall(r"\w+", param.type)):
+        bound = set(re.findall(r"(\w+)<'", param.type))
+        if param.kind == "holds" or bound - repository.models or repository.holders.intersection(re.findall(r"\w+", param.type)):
             raise Refused(f"a reference stands inside of the type of {param.name}, and no form is accepted for that")
         if param.kind == "mut" and param.name not in exits:
             raise Refused(f"no clause states {param.name}.new, the lent {param.name} at exit")
@@ -208,7 +219,7 @@ def check(root):
         if row not in rows and not any(_same(row, other) for other in rows if other[0].name == row[0].name):
             function = row[0]
             failures.append(f"{function.file}:{function.line}: {function.title}: it has not the contract of a function of its name")
-    return Report(rows, failures)
+    return Report(rows, failures, frozenset(repository.invariants))
 
 
 def _same(row, other):
@@ -222,9 +233,12 @@ def _same(row, other):
     return says(*row) == says(*other)
 
 
-def required(function):
-    """What a function requires, as its source has it, for a cell of a table: there a stroke would end the cell."""
+def required(function, invariants):
+    """What a function requires, as its source has it, and its arguments whose types know a fact, for a cell of a table: there a
+    stroke would end the cell."""
     found = [" ".join(clause.split()) for clause in function.requires]
+    typed = [(param.name, invariants.intersection(re.findall(r"\w+", param.type))) for param in function.params]
+    found += [f"{name}: {', '.join(sorted(types))}" for name, types in typed if types]
     return f"`{'; '.join(found)}`".replace("|", "\\|") if found else "nothing"
 
 
@@ -238,7 +252,7 @@ def page(report):
         for function, cited in report.rows:
             if function.inner == inner:
                 names = [name for one in cited for name in (one.meaning, *one.others)]
-                cells = [f"`{function.title}`", *([required(function)] if inner else [])]
+                cells = [f"`{function.title}`", *([required(function, report.invariants)] if inner else [])]
                 cells += ["; ".join(one.view for one in cited)]
                 cells += [cell(name for name, _ in names), cell(file for _, file in names)]
                 lines.append(f"| {' | '.join(cells)} |")

@@ -51,7 +51,9 @@ def _param(text):
     lent = re.match(r"&\s*(?:'\w+\s*)?(mut\b)?", found[2])
     rest = found[2][lent.end() :] if lent else found[2]
     kind = "value" if not lent else "mut" if lent[1] else "ref"
-    return Param(found[1], rest, "holds" if "&" in rest or "'" in rest else kind)
+    # Whether a type that names a lifetime is seen through a model is known when all types are read.
+    bare = re.sub(r"(?<=\w)<'\w+>", "", rest)
+    return Param(found[1], rest, "holds" if "&" in bare or "'" in bare else kind)
 
 
 def _behind(text, at):
@@ -116,7 +118,7 @@ class Crate:
     def __init__(self, root, name):
         self.root, self.name = root, name
         self.functions, self.holders = [], set()
-        self._models = set()
+        self.models, self.invariants = set(), set()  # the types with a model, and those of them that know a fact of their values
         self._hidden, self._passed_on = [], set()
         source = f"crates/{name}/src/"
         program = os.path.isfile(os.path.join(root, source + "main.rt"))
@@ -126,7 +128,7 @@ class Crate:
             names = {"*", "self", function.name, *function.modules}
             function.public = bool(names & self._passed_on)
         # A clause sees the model of such a struct, and no reference.
-        self.holders -= self._models
+        self.holders -= self.models
 
     def _file(self, path, modules, seen):
         full = os.path.join(self.root, path)
@@ -171,7 +173,8 @@ class Crate:
                     self._items(inside, path, first + text.count("\n", 0, at), *within, imports)
                     at += len(inside) + 2
                     if trait == "Model":
-                        self._models.add(name)
+                        self.models.add(name)
+                        self.invariants |= {name} if "ghost invariant" in inside else set()
                     for function in self.functions[known:] if trait else []:
                         _of_trait(function, trait, inside)
             elif kind in ("struct", "enum", "extern"):
