@@ -5,6 +5,7 @@ import errno
 import os
 import re
 import resource
+import select
 import signal
 import subprocess
 import sys
@@ -18,6 +19,7 @@ LOADER, PROGRAM = [os.path.join(ROOT, "tools/x86-64")], os.path.join(ROOT, "targ
 # What the program says where nobody reads on: SIGPIPE, which would end it, is ignored in it from its start.
 UNREAD = f"desk: write: {os.strerror(errno.EPIPE)}\n".encode()
 running = []
+starting, missed = False, []  # whether a program is being started, and the signals that came meanwhile
 
 
 def tell(text):
@@ -50,7 +52,9 @@ def end(number):
 def pass_on(number, _):
     for child in running:
         child.send_signal(number)
-    if not running:
+    if starting:
+        missed.append(number)
+    elif not running:
         end(number)
 
 
@@ -63,9 +67,22 @@ def take_input():
 
 
 def start(words, **pipes):
-    """A program that is sent the signals that this one is sent."""
-    running.append(subprocess.Popen(words, **pipes))
-    return running[-1]
+    """A program that is sent the signals that this one is sent, and those that come before it is known."""
+    global starting
+    starting = True
+    child = subprocess.Popen(words, **pipes)
+    running.append(child)
+    starting = False
+    while missed:
+        child.send_signal(missed.pop())
+    return child
+
+
+def ready(pipe):
+    """The pipe, when there is something to read. No wait is long, since a signal that comes just before one is heeded after it."""
+    while not select.select([pipe], [], [], 0.1)[0]:
+        pass
+    return pipe
 
 
 def explain(lines):
@@ -74,7 +91,7 @@ def explain(lines):
 
     words = {str(one.number).encode(): one.words.encode() for one in refusals(ROOT)}
     rest = b""
-    for part in iter(lambda: os.read(lines.fileno(), 1 << 16), b""):
+    for part in iter(lambda: os.read(ready(lines).fileno(), 1 << 16), b""):
         whole, newline, rest = (rest + part).rpartition(b"\n")
         put(re.sub(rb"(?m)^refused (\d+)$", lambda refused: refused[0] + b": " + words[refused[1]], whole + newline))
     put(rest)
@@ -89,7 +106,7 @@ def answer(loader, with_words):
     except OSError as wrong:
         child.kill()
         return failed(wrong)
-    said = child.stderr.read()
+    said = ready(child.stderr).read()
     status = child.wait()
     if said == UNREAD:
         end(signal.SIGPIPE)  # as is usual in a pipe
