@@ -58,12 +58,24 @@ handed_on : {l m : LeapList} (b : Bool) → cond b (Ok l) (Err R.ListNotAccepted
 handed_on true h = (cc, refl)
 handed_on false h = absurd (let z : ◌≡◌ {A = ℕ} 0 1 = cc in omega arith)
 
+-- and one that is refused is not accepted
+lacked : (l : LeapList) {f : Refusal} (b : Bool) → cond b (Ok l) (Err R.ListNotAccepted) ≡ Err f → (f ≡ R.ListNotAccepted) × (b ≡ false)
+lacked l true h = absurd (let z : ◌≡◌ {A = ℕ} 0 1 = cc in omega arith)
+lacked l false h = (cc, refl)
+
 module _ (s to : Scale) (n : ℕ) where
   abbrev way : LeapList → Judged Moment
   way l = and_then (of_count s n (from_scale s l.days l.offsets l.last)) (to_scale to l.days l.offsets l.last)
 
   abbrev Changes : LeapList → Slip → Type 0
   Changes l x = x ≡ dated to (outcome (with_list l.days l.offsets l.last (way l)))
+
+  -- a list that is not accepted
+  pub changed_lacks : (l : LeapList) {f : Refusal} → accepted_or l ≡ Err f → Changes l (dated to (refused (number_of f)))
+  changed_lacks l h =
+      let k = lacked l (accepted l.days l.offsets l.last) h in
+      let w : ByList s n l.days l.offsets l.last (Err R.ListNotAccepted) = list_lacks refl k.1 in
+      ap (λ (g : Refusal). dated to (refused (number_of g))) k.0 ∙ list_out refl w to refl
 
   module _ (l m : LeapList) (h : accepted_or l ≡ Ok m) {r : Result Tai Refusal} (w : Left (of_count s n (from_scale s m.days m.offsets m.last)) r) where
     known : (m ≡ l) × (accepted l.days l.offsets l.last ≡ true)
@@ -81,3 +93,6 @@ module _ (s to : Scale) (n : ℕ) where
 
     pub changed_out : {f : Refusal} → r ≡ Err f → Changes l (dated to (refused (number_of f)))
     changed_out g = lent (list_out refl there to g)
+
+    pub changed_held : {t : Tai} → r ≡ Ok t → OnTheWay t.0
+    changed_held g = list_held there g
