@@ -178,7 +178,7 @@ def judge(repository, function):
         for fact in facts(clause, operators):
             cited.append(_cited(repository, function, fact))
             # What is known of arguments alone says nothing of what they lead to.
-            if not (fact.relation or fact.result or fact.exits):
+            if not (fact.result or fact.exits):
                 continue
             stated = stated or fact.result
             exits |= set(fact.exits)
