@@ -9,7 +9,7 @@ use itoa::{Buffer, Integer};
 use std::env::Env;
 use std::fmt::{self, Write};
 
-// What is printed gathers here, and is written where no room is left.
+// What is printed gathers here, and is written where a line ends and little room is left; what has no room is lost.
 #[derive(Drop)]
 struct Page<'a, P> {
     to: &'a P,
